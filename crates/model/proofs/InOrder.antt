@@ -1,0 +1,131 @@
+-- The order promise of `schedule` holds of every run of this machine, and its counts are the record's.
+use mathlib.Core.Path.{_≡_, refl, sym, ap, _∙_, subst}
+use mathlib.Core.Bool.{Bool, true, false, cond}
+use mathlib.Core.List.{List, [], _∷_, _++_, map}
+use mathlib.Core.Option.{some}
+use mathlib.Core.Logic.{_⊎_, inl, inr}
+use Prim.Native.Nat.{ℕ, zero, suc, _*_}
+use lib.Dec.{leb, eqb}
+use lib.ListN.{length, length-map}
+use borrow.Author.Tests.{eqb-true}
+use Rattle.words.specs.Words.{words}
+use Rattle.schedule.specs.Schedule.{most-units, log-full, Outcome, Closed, Setup, numbered, plain, Activation, push-all, activate-open, raise-all, late-pass, main-pass, Turn, Tick, acts, outcome, tick, run}
+use Rattle.schedule.specs.Promise.{All, [·], _∷·_, Order, Ran-as-told}
+use Rattle.schedule.specs.Erasure.{bare-tick}
+use Rattle.schedule.proofs.Theorems.{order, erasure, ran-as-told}
+use Rattle.schedule.proofs.Every.{every}
+use Rattle.model.specs.Base.{if_then_else_}
+use Rattle.model.specs.Circuit.{Circuit, circuit}
+use Rattle.model.specs.Script.{Given, script}
+use Rattle.model.specs.State.{Act}
+use Rattle.model.specs.Chain.{no-calls}
+use Rattle.model.specs.Unit.{World, state≔, run-unit, finish-chain}
+use Rattle.model.specs.Record.{read-outputs, steps, head, units-begun, outputs-shown, log-record, write, close}
+use Rattle.model.specs.Run.{most-steps, opening, body, closing, machine, world-at-start, ticks-of, seen}
+use Rattle.model.specs.Questions.{Areas, refusal}
+use Rattle.model.specs.Answer.{Answer, played, play, answer-to, answer}
+use Rattle.model.specs.Order.{Numbered-tick, numbered-ticks, Recorded, Ended, In-order, Whole-run-in-order}
+use Rattle.model.proofs.Chains.{unit-ended, finish-stop}
+
+all-map : {A : Type 0} {P R : A → Type 0} {l : List A} → ((a : A) → P a → R a) → All P l → All R l
+all-map f All.[·] = All.[·]
+all-map f (All._∷·_ {a = a} p ps) = All._∷·_ (f a p) (all-map f ps)
+
+-- ---- writing a record
+
+write-fits : (w : World) (r : List ℕ) → leb (8 * length r) (w .room) ≡ true → (write w r .world .logged ≡ r) × (write w r .fits ≡ true)
+unfolding write if_then_else_
+write-fits w r h = (rw h, rw h)
+
+write-over : (w : World) (r : List ℕ) → leb (8 * length r) (w .room) ≡ false → (write w r .world .logged ≡ []) × (write w r .fits ≡ false)
+unfolding write if_then_else_
+write-over w r h = (rw h, rw h)
+
+module _ (c : Circuit) (limit : ℕ) where
+  abbrev S : Setup
+  S = numbered (machine c limit)
+
+  -- ---- a unit that has run
+  ended-of : (u : Turn S) → Ran-as-told S u → Ended c limit u
+  unfolding body
+  ended-of u h r =
+      unit-ended c (u .from) (u .unit .act)
+      (sym (finish-stop c (u .from) (run-unit c (u .from) (u .unit .act))) ∙ eqb-true _ 0 (sym h ∙ r))
+
+  pub all-ended : (given : List Given) (w : World) → All (λ t. All (Ended c limit) (t .late) × All (Ended c limit) (t .main)) (run S given w)
+  all-ended given w = all-map (λ t a. (all-map ended-of (a .0), all-map ended-of (a .1))) (ran-as-told S given w)
+
+  -- ---- the record's counts
+  acts-length : (us : List (Turn S)) → length (acts S us) ≡ length us
+  acts-length [] = refl
+  acts-length (u ∷ us) = ap suc (acts-length us)
+
+  -- the record begins with its head
+  record-is :
+      (w : World) (late main : List (Turn S)) (carried : List (Activation S)) (stop : ℕ) →
+      let o = outcome S late main carried stop in
+      log-record limit w o
+      ≡ w .state .tick ∷ steps limit w stop ∷ length late ∷ length main ∷ length carried ∷ stop ∷ (units-begun o ++ outputs-shown (w .state) stop)
+  unfolding log-record head
+  record-is w late main carried stop =
+      let o = outcome S late main carried stop in
+      λ j.
+      w .state .tick ∷ steps limit w stop ∷ acts-length late j ∷ acts-length main j ∷ length-map carried (λ (e : Activation S). e .act) j ∷ stop ∷ (units-begun o ++ outputs-shown (w .state) stop)
+
+  -- what closing a tick came to: its record, or none that fits
+  closed-as :
+      (w : World) (late main : List (Turn S)) (carried : List (Activation S)) (stop : ℕ) →
+      let z = closing c limit w (outcome S late main carried stop) in
+      ((tick : ℕ) × (steps : ℕ) × (rest : List ℕ) × (z .world .logged ≡ tick ∷ steps ∷ length late ∷ length main ∷ length carried ∷ cond (z .fits) stop log-full ∷ rest))
+      ⊎ ((cond (z .fits) stop log-full ≡ log-full) × (z .world .logged ≡ []))
+  unfolding closing close
+  closed-as w late main carried stop = go (leb (8 * length r) (v .room)) refl
+    where
+      o : Outcome Act
+      o = outcome S late main carried stop
+
+      v : World
+      v = state≔ w (w .left) (read-outputs c (w .state) (o .stop))
+
+      r : List ℕ
+      r = log-record limit v o
+
+      go :
+          (b : Bool) → leb (8 * length r) (v .room) ≡ b →
+          let z = write v r in
+          ((tick : ℕ) × (steps : ℕ) × (rest : List ℕ) × (z .world .logged ≡ tick ∷ steps ∷ length late ∷ length main ∷ length carried ∷ cond (z .fits) stop log-full ∷ rest))
+          ⊎ ((cond (z .fits) stop log-full ≡ log-full) × (z .world .logged ≡ []))
+      go true h = let e = write-fits v r h in inl (v .state .tick, steps limit v stop, units-begun o ++ outputs-shown (v .state) stop, rw (e .1) (e .0 ∙ record-is v late main carried stop))
+      go false h = let e = write-over v r h in inr (rw (e .1) refl, e .0)
+
+  tick-recorded : (w : World) (i : Given) (came : List (Activation S)) (t : ℕ) → Recorded c limit (tick S w i came t)
+  unfolding tick
+  tick-recorded w i came t =
+      let d = opening c limit w i in
+      let o = raise-all S (activate-open S) (d .raises) t (record { lateq = record { late = push-all S came []; delivered = [] }; pending = [] }) (d .world) (d .stop) in
+      let l = late-pass S most-units (o .next) (o .queue .lateq) (o .world) (o .stop) in
+      let m = main-pass S (l .left) (l .next) (record { pending = o .queue .pending; carried = [] }) (l .world) (l .stop) in
+      closed-as (m .world) (l .turns) (m .turns) (m .queue .carried) (m .stop)
+
+  pub all-recorded : (given : List Given) (w : World) → All (Recorded c limit) (run S given w)
+  all-recorded given w = every S (Recorded c limit) tick-recorded given w
+
+-- ---- the whole promise
+
+answer-is : (areas : Areas) (room : ℕ) (cb sb : List ℕ) → refusal (some areas) cb sb ≡ 0 → answer areas room cb sb ≡ played (play room (circuit (words cb)) (words sb))
+unfolding answer answer-to
+answer-is areas room cb sb h = rw h
+
+-- For every circuit and script that are not refused, the whole run is in order.
+pub in-order : (areas : Areas) (room : ℕ) (cb sb : List ℕ) → refusal (some areas) cb sb ≡ 0 → Whole-run-in-order areas room cb sb
+unfolding play ticks-of
+in-order areas room cb sb h =
+    let c = circuit (words cb) in
+    let given = script (c .constants) (words sb) in
+    let w = world-at-start c most-steps room in
+    record {
+      order = order (machine c most-steps) given w;
+      recorded = all-recorded c most-steps given w;
+      ended = all-ended c most-steps given w;
+      answered = answer-is areas room cb sb h ∙ ap (λ (ts : List (Tick (plain (machine c most-steps)))). played (seen c most-steps ts)) (erasure (numbered (machine c most-steps)) given w);
+    }

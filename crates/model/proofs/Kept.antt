@@ -1,0 +1,319 @@
+-- Every operation on the state keeps it sized; so are the states in which it raises.
+use mathlib.Core.Path.{_≡_, refl, sym, _∙_}
+use mathlib.Core.Bool.{Bool, true, false, not, _&&_, _||_}
+use mathlib.Core.List.{List, [], _∷_, _++_}
+use mathlib.Core.Option.{Option, none, some}
+use Prim.Native.Nat.{ℕ, zero, suc}
+use native.Mathlib.Omega.{arith}
+use lib.Dec.{leb, eqb}
+use lib.ListN.{length, set, length-set, length-map, length-replicate, List·getD-map}
+use borrow.Author.Tests.{eqb-true}
+use Rattle.schedule.specs.Schedule.{Raise, Place, to-late, to-delivered, list-full}
+use Rattle.schedule.specs.Promise.{All, [·], _∷·_}
+use Rattle.model.specs.declared.Value.{Value}
+use Rattle.model.specs.declared.Value.the-variants.{Nothing}
+use Rattle.model.specs.Base.{from}
+use Rattle.model.specs.Kinds.{pure}
+use Rattle.model.specs.Circuit.{Circuit, kind-of-gate, input, output, gate-at-input, gates, gates-of}
+use Rattle.model.specs.Script.{Given}
+use Rattle.model.specs.State.{Wires, State, Countdown, Delay, Act, Send, to-check≔, times≔, wires≔, last≔, pulses≔, delays≔, written≔, unions-passed≔, outbox≔}
+use Rattle.model.specs.Wires.{is-dirty, ready, mark-readers, invalidate}
+use Rattle.model.specs.Delays.{Moved}
+use Rattle.model.specs.Exec.{Stepped, fires-next, ends, delay≔, set-output, readied, record-write, exec-Buffer, exec-Stopwatch, exec-Queue, exec-VarGet, exec-VarSet, exec-Branch, exec-Union, exec-Toggle, exec-Cycle, exec-SendEvent, exec-kind, exec-gate}
+use Rattle.model.specs.Chain.{Calls, Popped, pop, fit, Chained, chained, push-calls, run-chain, runaway}
+use Rattle.model.specs.Settle.{Settled, calm, raise, publish-writes, pulse, compared, check, check-on, settle}
+use Rattle.model.specs.Opening.{wires-at-start, start, Opened, raised-to, fire, begin-tick, lower, advanced, advance-buffer, advance-clock, advance-timer, open-tick}
+use Rattle.model.specs.Unit.{World, enter, run-unit}
+use Rattle.model.specs.Record.{read-outputs}
+use Rattle.model.proofs.Lists.{if-both, each-keeps, each-keeps-all, all-keep, from-length, all-append, map-all, all-of}
+use Rattle.model.proofs.Checks.{detect-keeps}
+use Rattle.model.proofs.Sized.{Sized-wires, Sized, show-sized, soil-sized, refresh-all-sized, ready-sized, mark-readers-sized, set-out-sized, set-outs-sized, taken-sized}
+
+module _ (c : Circuit) where
+  -- ---- one field changed
+
+  pub wires-sized : {s : State} {w : Wires} → Sized c s → Sized-wires c w → Sized c (wires≔ s w)
+  unfolding wires≔
+  wires-sized z y = record { wires = y; last = z .last; pulses = z .pulses; delays = z .delays }
+
+  last-sized : {s : State} (i : ℕ) (v : Option Value) → Sized c s → Sized c (last≔ s (set (s .last) i v))
+  unfolding last≔
+  last-sized {s} i v z = record { wires = z .wires; last = length-set (s .last) i v ∙ z .last; pulses = z .pulses; delays = z .delays }
+
+  pulses-sized : {s : State} (o t : ℕ) → Sized c s → Sized c (pulses≔ s (set (s .pulses) o t))
+  unfolding pulses≔
+  pulses-sized {s} o t z = record { wires = z .wires; last = z .last; pulses = length-set (s .pulses) o t ∙ z .pulses; delays = z .delays }
+
+  delay-sized : {s : State} (g : ℕ) (d : Delay) → Sized c s → Sized c (delay≔ c s g d)
+  unfolding delay≔ delays≔
+  delay-sized {s} g d z = record { wires = z .wires; last = z .last; pulses = z .pulses; delays = length-set (s .delays) g d ∙ z .delays }
+
+  written-sized : {s : State} (x : List ℕ) → Sized c s → Sized c (written≔ s x)
+  unfolding written≔
+  written-sized x z = record { wires = z .wires; last = z .last; pulses = z .pulses; delays = z .delays }
+
+  passed-sized : {s : State} (x : List ℕ) → Sized c s → Sized c (unions-passed≔ s x)
+  unfolding unions-passed≔
+  passed-sized x z = record { wires = z .wires; last = z .last; pulses = z .pulses; delays = z .delays }
+
+  outbox-sized : {s : State} (x : List Send) → Sized c s → Sized c (outbox≔ s x)
+  unfolding outbox≔
+  outbox-sized x z = record { wires = z .wires; last = z .last; pulses = z .pulses; delays = z .delays }
+
+  set-output-sized : {s : State} (o : ℕ) (v : Value) → Sized c s → Sized c (set-output c s o v)
+  unfolding set-output
+  set-output-sized o v z = wires-sized z (set-out-sized c _ _ _ (z .wires))
+
+  readied-sized : {s : State} (g p n : ℕ) → Sized c s → Sized c (readied c s g p n)
+  unfolding readied
+  readied-sized g p n z = wires-sized z (each-keeps (Sized-wires c) (ready c) (ready-sized c) _ _ (z .wires))
+
+  -- ---- a step of a chain, by kind
+
+  abbrev Stepped-sized : Stepped → Type 0
+  Stepped-sized d = Sized c (d .state)
+
+  Buffer-sized : (s : State) (g : ℕ) → Sized c s → Stepped-sized (exec-Buffer c s g)
+  unfolding exec-Buffer ends
+  Buffer-sized s g z = if-both Stepped-sized _ (delay-sized _ _ z) z
+
+  Stopwatch-sized : (s : State) (g p : ℕ) → Sized c s → Stepped-sized (exec-Stopwatch c s g p)
+  unfolding exec-Stopwatch ends
+  Stopwatch-sized s g p z = if-both (Sized c) _ (set-output-sized _ _ (delay-sized _ _ z)) (delay-sized _ _ z)
+
+  Queue-sized : (s : State) (g : ℕ) (k : Value → Countdown) → Sized c s → Stepped-sized (exec-Queue c s g k)
+  unfolding exec-Queue ends
+  Queue-sized s g k z = delay-sized _ _ (readied-sized _ _ _ z)
+
+  VarSet-sized : (s : State) (g : ℕ) → Sized c s → Stepped-sized (exec-VarSet c s g)
+  unfolding exec-VarSet fires-next record-write
+  VarSet-sized s g z =
+      let y = readied-sized _ _ _ z in
+      let x = wires-sized y (show-sized c _ _ _ (y .wires)) in
+      if-both (Sized c) _ x (written-sized _ x)
+
+  Union-sized : (s : State) (g : ℕ) → Sized c s → Stepped-sized (exec-Union c s g)
+  unfolding exec-Union fires-next ends
+  Union-sized s g z = if-both Stepped-sized _ z (passed-sized _ z)
+
+  SendEvent-sized : (s : State) (g : ℕ) → Sized c s → Stepped-sized (exec-SendEvent c s g)
+  unfolding exec-SendEvent fires-next
+  SendEvent-sized s g z = if-both (Sized c) _ (readied-sized _ _ _ z) (outbox-sized _ (readied-sized _ _ _ z))
+
+  exec-kind-sized : (k : ℕ) (s : State) (g p : ℕ) → Sized c s → Stepped-sized (exec-kind c k s g p)
+  unfolding exec-kind fires-next ends exec-VarGet exec-Branch exec-Toggle exec-Cycle
+  exec-kind-sized k s g p z =
+      if-both Stepped-sized _ z
+      (if-both Stepped-sized _ (Buffer-sized s g z)
+      (if-both Stepped-sized _ (Stopwatch-sized s g p z)
+      (if-both Stepped-sized _ (Queue-sized s g _ z)
+      (if-both Stepped-sized _ (Queue-sized s g _ z)
+      (if-both Stepped-sized _ (set-output-sized _ _ z)
+      (if-both Stepped-sized _ (VarSet-sized s g z)
+      (if-both Stepped-sized _ (readied-sized _ _ _ z)
+      (if-both Stepped-sized _ (Union-sized s g z)
+      (if-both Stepped-sized _ (set-output-sized _ _ z)
+      (if-both Stepped-sized _ (set-output-sized _ _ (readied-sized _ _ _ z))
+      (if-both Stepped-sized _ (SendEvent-sized s g z) z)))))))))))
+
+  pub exec-gate-sized : (s : State) (i : ℕ) → Sized c s → Stepped-sized (exec-gate c s i)
+  unfolding exec-gate
+  exec-gate-sized s i z = exec-kind-sized _ s _ _ z
+
+  -- ---- a chain
+
+  abbrev Chained-sized : Chained → Type 0
+  Chained-sized r = Sized c (r .state)
+
+  pub run-chain-sized : (left : ℕ) (q : Calls) (s : State) → Sized c s → Chained-sized (run-chain c left q s)
+  unfolding run-chain chained
+  run-chain-sized zero q s z = go (pop (q .stack) (q .forks))
+    where
+      go : (x : Option Popped) → Chained-sized (elim x as (λ _. Chained) [ none ↦ chained s 0 0 q | some t ↦ chained s 0 runaway q ])
+      go none = z
+      go (some t) = z
+  run-chain-sized (suc left) q s z = go (pop (q .stack) (q .forks)) (λ r t y. run-chain-sized left r t y)
+    where
+      go :
+          (x : Option Popped) → ((r : Calls) (t : State) → Sized c t → Chained-sized (run-chain c left r t)) →
+          Chained-sized (elim x as (λ _. Chained) [
+            | none ↦ chained s (suc left) 0 q
+            | some t ↦
+                let d = exec-gate c s (t .input) in
+                let r = push-calls c (d .next) (t .rest) in
+                elim (fit r && not (d .full)) [ true ↦ run-chain c left r (d .state) | false ↦ chained (d .state) left list-full r ]
+          ])
+      go none rec = z
+      go (some t) rec =
+          let d = exec-gate c s (t .input) in
+          let r = push-calls c (d .next) (t .rest) in
+          fits (fit r && not (d .full)) d r (exec-gate-sized s (t .input) z)
+        where
+          fits :
+              (b : Bool) (d : Stepped) (r : Calls) → Sized c (d .state) →
+              Chained-sized (elim b as (λ _. Chained) [ true ↦ run-chain c left r (d .state) | false ↦ chained (d .state) left list-full r ])
+          fits true d r y = rec r (d .state) y
+          fits false d r y = y
+
+  -- ---- settling
+
+  pub publish-writes-sized : (s : State) → Sized c s → Sized c (publish-writes c s)
+  unfolding publish-writes
+  publish-writes-sized s z =
+      written-sized _ (wires-sized z (each-keeps (Sized-wires c) (mark-readers c) (mark-readers-sized c) (s .wires) (s .written) (z .wires)))
+
+  -- each state in which something is raised
+  abbrev pub Raises-sized : {P : Type 0} → List (Raise State Act P) → Type 0
+  Raises-sized rs = All (λ r. Sized c (r .at)) rs
+
+  pub record Settled-sized (z : Settled) : Type 0 where
+    pub state : Sized c (z .state)
+    pub raises : Raises-sized (z .raises)
+
+  calm-sized : {s : State} → Sized c s → Settled-sized (calm s)
+  unfolding calm
+  calm-sized z = record { state = z; raises = [·] }
+
+  raise-sized : {s : State} (g form : ℕ) → Sized c s → Settled-sized (raise s g form)
+  unfolding raise
+  raise-sized g form z = record { state = z; raises = _∷·_ z [·] }
+
+  pulse-sized : {s : State} (o : ℕ) → Sized c s → Sized c (pulse c s o)
+  unfolding pulse
+  pulse-sized o z = pulses-sized o _ (set-output-sized o _ z)
+
+  check-sized : (s : State) (i : ℕ) → Sized c s → Settled-sized (check c s i)
+  unfolding check compared
+  check-sized s i z =
+      let y = last-sized i _ (wires-sized z (ready-sized c (s .wires) i (z .wires))) in
+      if-both Settled-sized _ (calm-sized y)
+      (detect-keeps c Settled-sized _ (gate-at-input c i) (calm-sized y) (λ form. raise-sized _ form y)
+      (λ o k e u l. calm-sized (pulse-sized _ y)) (λ d. calm-sized (delay-sized _ d y)) _ _ _)
+
+  check-on-sized : (n : ℕ) (z : Settled) → Settled-sized z → Settled-sized (check-on c n z)
+  unfolding check-on
+  check-on-sized zero z y = y
+  check-on-sized (suc n) z y = go (z .state .wires .to-check) refl (λ r x. check-on-sized n r x)
+    where
+      go :
+          (q : List ℕ) → z .state .wires .to-check ≡ q → ((r : Settled) → Settled-sized r → Settled-sized (check-on c n r)) →
+          Settled-sized (elim q as (λ _. Settled) [
+            | [] ↦ z
+            | (i ∷ is) ↦
+                let r = check c (wires≔ (z .state) (to-check≔ (z .state .wires) is (set (z .state .wires .queued) i false))) i in
+                check-on c n (record { state = r .state; raises = z .raises ++ r .raises })
+          ])
+      go [] e rec = y
+      go (i ∷ is) e rec =
+          let x = check-sized _ i (wires-sized (y .state) (taken-sized c (z .state .wires) i is e (y .state .wires))) in
+          rec _ (record { state = x .state; raises = all-append (y .raises) (x .raises) })
+
+  pub settle-sized : (s : State) → Sized c s → Settled-sized (settle c s)
+  unfolding settle
+  settle-sized s z = check-on-sized _ _ (calm-sized (wires-sized z (refresh-all-sized c (s .wires) (z .wires))))
+
+  -- ---- the start
+
+  wires-at-start-sized : Sized-wires c (wires-at-start c)
+  unfolding wires-at-start is-dirty pure kind-of-gate
+  wires-at-start-sized =
+      refresh-all-sized c _ (record {
+        outs =
+            each-keeps (λ (vs : List Value). length vs ≡ length (c .outputs)) _ (λ vs g e. length-set vs _ _ ∙ e) _ (gates-of c (λ k. eqb k 5))
+            (length-replicate (length (c .outputs)) Nothing);
+        dirty = length-map (c .kinds) pure;
+        queued = length-replicate (length (c .pins)) false;
+        stale = λ g e. sym (List·getD-map pure (c .kinds) g 0) ∙ e;
+        waiting = omega arith;
+      })
+
+  pub start-sized : Sized c (start c)
+  unfolding start
+  start-sized =
+      record {
+        wires = wires-at-start-sized;
+        last = length-map (from 0 (length (c .pins))) _ ∙ from-length 0 (length (c .pins));
+        pulses = length-replicate (length (c .outputs)) 0;
+        delays = length-replicate (length (c .kinds)) _;
+      }
+
+  -- ---- the opening of a tick
+
+  pub record Opened-sized (z : Opened) : Type 0 where
+    pub state : Sized c (z .state)
+    pub raises : Raises-sized (z .raises)
+
+  raised-to-sized : (p : Place) (s : State) (acts : List Act) → Sized c s → Raises-sized (raised-to p s acts)
+  unfolding raised-to
+  raised-to-sized p s acts z = map-all (λ (r : Raise State Act Place). Sized c (r .at)) _ (all-of (λ a. z) acts)
+
+  times-sized : (w : Wires) (x y : ℕ) → Sized-wires c w → Sized-wires c (times≔ w x y)
+  unfolding times≔ is-dirty
+  times-sized w x y z = record { outs = z .outs; dirty = z .dirty; queued = z .queued; stale = z .stale; waiting = z .waiting }
+
+  begin-tick-sized : (s : State) (dt : ℕ) → Sized c s → Sized c (begin-tick s dt)
+  unfolding begin-tick
+  begin-tick-sized s dt z = record { wires = times-sized (s .wires) _ _ (z .wires); last = z .last; pulses = z .pulses; delays = z .delays }
+
+  lower-sized : (s : State) (o : ℕ) → Sized c s → Sized c (lower c s o)
+  unfolding lower
+  lower-sized s o z = if-both (Sized c) _ (set-output-sized o _ (pulses-sized o 0 z)) z
+
+  advanced-sized :
+      (z : Opened) (s : State) (place : Place) (g p : ℕ) (m : Moved) → Raises-sized (z .raises) → Sized c s → Opened-sized (advanced c z s place g p m)
+  unfolding advanced
+  advanced-sized z s place g p m r y =
+      let t = wires-sized (delay-sized g (m .state) y) (set-outs-sized c (s .wires) (output c g p) (m .row) (y .wires)) in
+      record { state = t; raises = all-append r (raised-to-sized place _ (fire (m .fires) g) t) }
+
+  advance-buffer-sized : (dt : ℕ) (z : Opened) (g : ℕ) → Opened-sized z → Opened-sized (advance-buffer c dt z g)
+  unfolding advance-buffer
+  advance-buffer-sized dt z g y =
+      if-both Opened-sized _ (advanced-sized z _ _ g _ _ (y .raises) (y .state))
+      (if-both Opened-sized _ (advanced-sized z _ _ g _ _ (y .raises) (y .state))
+      (if-both Opened-sized _ (advanced-sized z _ _ g _ _ (y .raises) (y .state)) y))
+
+  advance-clock-sized : (z : Opened) (g : ℕ) → Opened-sized z → Opened-sized (advance-clock c z g)
+  unfolding advance-clock
+  advance-clock-sized z g y = advanced-sized z _ _ g _ _ (y .raises) (readied-sized g 0 2 (y .state))
+
+  advance-timer-sized : (z : Opened) (g : ℕ) → Opened-sized z → Opened-sized (advance-timer c z g)
+  unfolding advance-timer
+  advance-timer-sized z g y = advanced-sized z _ _ g _ _ (y .raises) (readied-sized g 3 1 (y .state))
+
+  -- a time source is a pure gate
+  time-pure : (k : ℕ) → (eqb k 3 || eqb k 4) ≡ true → pure k ≡ true
+  unfolding pure
+  time-pure k h = go (eqb k 3) refl h
+    where
+      go : (b : Bool) → eqb k 3 ≡ b → (b || eqb k 4) ≡ true → (leb 1 k && leb k 4) ≡ true
+      go true e h = rw (eqb-true k 3 e)
+      go false e h = rw (eqb-true k 4 h)
+
+  invalidate-sized : (w : Wires) (g : ℕ) → (eqb (kind-of-gate c g) 3 || eqb (kind-of-gate c g) 4) ≡ true → Sized-wires c w → Sized-wires c (invalidate c w g)
+  unfolding invalidate
+  invalidate-sized w g e z = mark-readers-sized c _ _ (soil-sized c w g (time-pure (kind-of-gate c g) e) z)
+
+  pub open-tick-sized : (s : State) (given : Given) → Sized c s → Opened-sized (open-tick c s given)
+  unfolding open-tick gates-of
+  open-tick-sized s given z =
+      let z₁ = begin-tick-sized s (given .dt) z in
+      let came = all-append (raised-to-sized to-delivered _ _ z₁) (raised-to-sized to-late _ (given .stimuli) z₁) in
+      let z₂ = each-keeps (Sized c) (lower c) lower-sized _ (from 0 (length (c .outputs))) z₁ in
+      let b = each-keeps Opened-sized (advance-buffer c _) (advance-buffer-sized _) _ (gates c) (record { state = z₂; raises = came }) in
+      let k = each-keeps Opened-sized (advance-clock c) advance-clock-sized _ (gates-of c (λ k. eqb k 14)) b in
+      let t = each-keeps Opened-sized (advance-timer c) advance-timer-sized _ (gates-of c (λ k. eqb k 15)) k in
+      let times : ℕ → Bool = λ g. eqb (kind-of-gate c g) 3 || eqb (kind-of-gate c g) 4 in
+      let w = each-keeps-all (Sized-wires c) times (invalidate c) invalidate-sized _ _ (all-keep times (gates c)) (t .state .wires) in
+      let x = settle-sized _ (wires-sized (t .state) w) in
+      record { state = x .state; raises = all-append (t .raises) (map-all (λ (r : Raise State Act Place). Sized c (r .at)) _ (x .raises)) }
+
+  -- ---- a unit, and the record
+
+  pub run-unit-sized : (w : World) (a : Act) → Sized c (w .state) → Sized c (run-unit c w a .state)
+  unfolding run-unit enter
+  run-unit-sized w a z = run-chain-sized (w .left) _ _ (wires-sized z (set-outs-sized c (w .state .wires) _ (a .row) (z .wires)))
+
+  pub read-outputs-sized : (s : State) (stop : ℕ) → Sized c s → Sized c (read-outputs c s stop)
+  unfolding read-outputs
+  read-outputs-sized s stop z = if-both (Sized c) _ (wires-sized z (refresh-all-sized c (s .wires) (z .wires))) z

@@ -1,0 +1,28 @@
+-- the theorems, as statements
+pub mod Rounds
+-- choices, lists, counting
+pub mod Lists
+-- each gate's inputs and outputs stand in a row: `laid`, `filled`
+pub mod Laid
+-- a call that is not refused: `accepted`
+pub mod Asked
+-- question 6 and an order of the pure gates: `ordered`, `order-suffices`
+pub mod Placing
+-- the sizes of the wires, and what keeps them
+pub mod Sized
+-- what one check does, by kind
+pub mod Checks
+-- every operation on the state keeps its sizes
+pub mod Kept
+-- so does every world of a run: `run-sized`
+pub mod Worlds
+-- marking has rounds enough
+pub mod Marking
+-- refreshing has depth enough
+pub mod Refreshing
+-- settling has rounds enough, and ends: `settled`
+pub mod Settling
+-- a chain without a stop has made all its calls
+pub mod Chains
+-- the order promise at this machine: `in-order`
+pub mod InOrder

@@ -1,0 +1,181 @@
+-- Laws of choices and lists that the other proofs cite.
+use mathlib.Core.Path.{_≡_, refl, sym, ap, _∙_}
+use mathlib.Core.Bool.{Bool, true, false, not, _&&_, _||_, true≢false}
+use mathlib.Core.List.{List, [], _∷_, _++_, map}
+use Prim.Native.Nat.{ℕ, zero, suc, _+_, _≤_, _<_}
+use native.Mathlib.Nat.{add-zero, add-suc, suc-add}
+use native.Mathlib.Omega.{arith}
+use lib.Dec.{eqb}
+use lib.ListN.{length, getD, set, length-append}
+use borrow.Author.Tests.{eqb-true, eq-eqb}
+use Rattle.schedule.specs.Promise.{All, [·], _∷·_}
+use Rattle.model.specs.Base.{if_then_else_, keep, all, each, snoc, among, from}
+use Rattle.model.specs.Value.{bit}
+
+-- ---- choices
+
+pub if-both : {A : Type 0} (P : A → Type 0) (b : Bool) {x y : A} → P x → P y → P (if b then x else y)
+unfolding if_then_else_
+if-both P true p q = p
+if-both P false p q = q
+
+pub if-by : {A : Type 0} (P : A → Type 0) (b : Bool) {x y : A} → (b ≡ true → P x) → (b ≡ false → P y) → P (if b then x else y)
+unfolding if_then_else_
+if-by P true p q = p refl
+if-by P false p q = q refl
+
+pub both-true : (a b : Bool) → (a && b) ≡ true → (a ≡ true) × (b ≡ true)
+both-true true b e = (refl, e)
+both-true false b e = absurd (true≢false (sym e))
+
+or-right : (a b : Bool) → b ≡ true → (a || b) ≡ true
+or-right true b e = refl
+or-right false b e = e
+
+-- ---- one after the other
+
+pub each-keeps :
+    {A B : Type 0} (P : B → Type 0) (f : B → A → B) → ((b : B) (a : A) → P b → P (f b a)) → (b : B) (xs : List A) → P b → P (each f b xs)
+unfolding each
+each-keeps P f k b [] p = p
+each-keeps P f k b (x ∷ xs) p = each-keeps P f k (f b x) xs (k b x p)
+
+-- where each member passes a test
+pub each-keeps-all :
+    {A B : Type 0} (P : B → Type 0) (q : A → Bool) (f : B → A → B) → ((b : B) (a : A) → q a ≡ true → P b → P (f b a)) →
+    (b : B) (xs : List A) → all q xs ≡ true → P b → P (each f b xs)
+unfolding each all
+each-keeps-all P q f k b [] h p = p
+each-keeps-all P q f k b (x ∷ xs) h p =
+    let t = both-true (q x) (all q xs) h in
+    each-keeps-all P q f k (f b x) xs (t .1) (k b x (t .0) p)
+
+-- two steps that agree wherever P holds, and P is kept
+pub each-same :
+    {A B : Type 0} (P : B → Type 0) (f g : B → A → B) (q : A → Bool) → ((b : B) (a : A) → q a ≡ true → P b → f b a ≡ g b a) →
+    ((b : B) (a : A) → P b → P (g b a)) → (b : B) (xs : List A) → all q xs ≡ true → P b → each f b xs ≡ each g b xs
+unfolding each all
+each-same P f g q e k b [] h p = refl
+each-same P f g q e k b (x ∷ xs) h p =
+    let t = both-true (q x) (all q xs) h in
+    ap (λ b′. each f b′ xs) (e b x (t .0) p) ∙ each-same P f g q e k (g b x) xs (t .1) (k b x p)
+
+-- ---- tests of every member
+
+pub all-keep : {A : Type 0} (p : A → Bool) (xs : List A) → all p (keep p xs) ≡ true
+unfolding all keep if_then_else_
+all-keep p [] = refl
+all-keep p (x ∷ xs) = go (p x) refl (all-keep p xs)
+  where
+    go : (b : Bool) → p x ≡ b → all p (keep p xs) ≡ true → all p (if b then x ∷ keep p xs else keep p xs) ≡ true
+    go true e h = rw (e, h)
+    go false e h = h
+
+pub all-among : (p : ℕ → Bool) (xs : List ℕ) → all p xs ≡ true → (i : ℕ) → among i xs ≡ true → p i ≡ true
+unfolding all among
+all-among p [] h i m = absurd (true≢false (sym m))
+all-among p (x ∷ xs) h i m = go (eqb i x) refl m (all-among p xs (both-true (p x) (all p xs) h .1) i)
+  where
+    go : (b : Bool) → eqb i x ≡ b → (b || among i xs) ≡ true → (among i xs ≡ true → p i ≡ true) → p i ≡ true
+    go true e m rec = ap p (eqb-true i x e) ∙ both-true (p x) (all p xs) h .0
+    go false e m rec = rec m
+
+pub among-all : (p : ℕ → Bool) (xs : List ℕ) → ((i : ℕ) → among i xs ≡ true → p i ≡ true) → all p xs ≡ true
+unfolding all among
+among-all p [] k = refl
+among-all p (x ∷ xs) k = rw (k x (rw (eq-eqb x x refl)), among-all p xs (λ i m. k i (or-right (eqb i x) (among i xs) m)))
+
+-- all are true where each place is, those past the end too
+pub all-places : (bs : List Bool) → all (λ b. b) bs ≡ true → (i : ℕ) → getD bs i true ≡ true
+unfolding all
+all-places [] h i = refl
+all-places (b ∷ bs) h zero = both-true b (all (λ b. b) bs) h .0
+all-places (b ∷ bs) h (suc i) = all-places bs (both-true b (all (λ b. b) bs) h .1) i
+
+pub places-all : (bs : List Bool) → ((i : ℕ) → getD bs i true ≡ true) → all (λ b. b) bs ≡ true
+unfolding all
+places-all [] k = refl
+places-all (b ∷ bs) k = rw (k 0, places-all bs (λ i. k (suc i)))
+
+-- ---- counting
+
+-- the places, counted from n on, at which a list passes a test
+unfoldable pub count : {A : Type 0} → (ℕ → A → Bool) → ℕ → List A → ℕ
+count p n [] = 0
+count p n (x ∷ xs) = bit (p n x) + count p (suc n) xs
+
+pub bit-most : (b : Bool) → bit b ≤ 1
+unfolding bit
+bit-most true = omega arith
+bit-most false = omega arith
+
+pub count-most : {A : Type 0} (p : ℕ → A → Bool) (n : ℕ) (xs : List A) → count p n xs ≤ length xs
+unfolding count
+count-most p n [] = omega arith
+count-most p n (x ∷ xs) = omega (arith, bit-most (p n x), count-most p (suc n) xs)
+
+pub count-set :
+    {A : Type 0} (p : ℕ → A → Bool) (n : ℕ) (xs : List A) (i : ℕ) (v d : A) → i < length xs →
+    count p n (set xs i v) + bit (p (n + i) (getD xs i d)) ≡ count p n xs + bit (p (n + i) v)
+unfolding count
+count-set p n [] i v d h = absurd (omega arith)
+count-set p n (x ∷ xs) zero v d h = rw (add-zero n) (omega arith)
+count-set p n (x ∷ xs) (suc i) v d h =
+    let e : n + suc i ≡ suc n + i = omega arith in
+    rw e (omega (arith, count-set p (suc n) xs i v d (omega arith)))
+
+-- ---- places
+
+-- what is not the default stands in the list
+pub in-range : (b : Bool) (xs : List Bool) (i : ℕ) → getD xs i b ≡ not b → i < length xs
+in-range true [] i e = absurd (true≢false e)
+in-range false [] i e = absurd (true≢false (sym e))
+in-range b (x ∷ xs) zero e = omega arith
+in-range b (x ∷ xs) (suc i) e = omega (arith, in-range b xs i e)
+
+-- what holds of all marked places, after one more is set
+pub set-marked :
+    (P : ℕ → Type 0) (xs : List Bool) (i : ℕ) (b : Bool) → (b ≡ true → P i) → ((j : ℕ) → getD xs j false ≡ true → P j) →
+    (j : ℕ) → getD (set xs i b) j false ≡ true → P j
+set-marked P [] i b q k j e = k j e
+set-marked P (x ∷ xs) zero b q k zero e = q e
+set-marked P (x ∷ xs) zero b q k (suc j) e = k (suc j) e
+set-marked P (x ∷ xs) (suc i) b q k zero e = k zero e
+set-marked P (x ∷ xs) (suc i) b q k (suc j) e = set-marked (λ n. P (suc n)) xs i b q (λ n. k (suc n)) j e
+
+pub snoc-length : {A : Type 0} (xs : List A) (x : A) → length (snoc xs x) ≡ suc (length xs)
+unfolding snoc
+snoc-length xs x = omega (arith, length-append xs (x ∷ []))
+
+-- what a row of numbers is mapped to, place by place
+pub map-from : {A : Type 0} (f : ℕ → A) (n k i : ℕ) (d : A) → i < k → getD (map f (from n k)) i d ≡ f (n + i)
+unfolding from
+map-from f n zero i d h = absurd (omega arith)
+map-from f n (suc k) zero d h = ap f (sym (add-zero n))
+map-from f n (suc k) (suc i) d h = map-from f (suc n) k i d (omega arith) ∙ ap f (suc-add n i ∙ sym (add-suc n i))
+
+pub from-length : (n k : ℕ) → length (from n k) ≡ k
+unfolding from
+from-length n zero = refl
+from-length n (suc k) = ap suc (from-length (suc n) k)
+
+-- ---- what holds of each member
+
+pub all-append : {A : Type 0} {P : A → Type 0} {xs ys : List A} → All P xs → All P ys → All P (xs ++ ys)
+all-append [·] b = b
+all-append (_∷·_ p a) b = _∷·_ p (all-append a b)
+
+pub map-all : {A B : Type 0} (P : B → Type 0) (f : A → B) {xs : List A} → All (λ a. P (f a)) xs → All P (map f xs)
+map-all P f [·] = [·]
+map-all P f (_∷·_ p a) = _∷·_ p (map-all P f a)
+
+pub all-of : {A : Type 0} {P : A → Type 0} → ((a : A) → P a) → (xs : List A) → All P xs
+all-of k [] = [·]
+all-of k (x ∷ xs) = _∷·_ (k x) (all-of k xs)
+
+-- ---- bounds that suffice
+
+-- what one more does not change, no number more does
+pub steady : {A : Type 0} (f : ℕ → A) (n : ℕ) → ((m : ℕ) → n ≤ m → f (suc m) ≡ f m) → (k : ℕ) → f (n + k) ≡ f n
+steady f n h zero = ap f (add-zero n)
+steady f n h (suc k) = ap f (add-suc n k) ∙ h (n + k) (omega arith) ∙ steady f n h k

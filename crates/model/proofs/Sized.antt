@@ -1,0 +1,205 @@
+-- What holds of every state: its lists have the circuit's lengths, only pure gates are stale, and no more inputs wait than are marked. Here for the wires.
+use mathlib.Core.Path.{_≡_, refl, sym, ap, _∙_}
+use mathlib.Core.Bool.{Bool, true, false, true≢false}
+use mathlib.Core.List.{List, [], _∷_}
+use mathlib.Core.Option.{Option, none, some}
+use Prim.Native.Nat.{ℕ, zero, suc, _≤_}
+use native.Mathlib.Omega.{arith}
+use lib.Dec.{ltb}
+use lib.ListN.{length, getD, set, length-set}
+use lib.Seq.{set-out as set-past}
+use borrow.Author.Tests.{ltb-true, ltb-false}
+use Rattle.model.specs.declared.Value.{Value}
+use Rattle.model.specs.Base.{each}
+use Rattle.model.specs.Value.{bit}
+use Rattle.model.specs.Kinds.{pure}
+use Rattle.model.specs.Circuit.{Circuit, kind-of-gate, inputs-of, gate-at-input, source, gate-at-output, readers-of, gates}
+use Rattle.model.specs.State.{Wires, State, outs≔, dirty≔, to-check≔}
+use Rattle.model.specs.Wires.{show, is-dirty, soil, clean, watch, Marking, behind, recompute, refresh-to, refresh, refresh-all, ready, mark-reader, mark-on, mark-readers, set-out, set-outs}
+use Rattle.model.proofs.Lists.{if-both, if-by, each-keeps, bit-most, count, count-set, in-range, set-marked, snoc-length}
+
+-- the marks of a list
+unfoldable pub marks : List Bool → ℕ
+marks bs = count (λ _ b. b) 0 bs
+
+pub record Sized-wires (c : Circuit) (w : Wires) : Type 0 where
+  pub outs : length (w .outs) ≡ length (c .outputs)
+  pub dirty : length (w .dirty) ≡ length (c .kinds)
+  pub queued : length (w .queued) ≡ length (c .pins)
+  -- only pure gates are stale
+  pub stale : (g : ℕ) → is-dirty w g ≡ true → pure (kind-of-gate c g) ≡ true
+  -- each input that waits is marked
+  pub waiting : length (w .to-check) ≤ marks (w .queued)
+
+-- and so of the whole state
+pub record Sized (c : Circuit) (s : State) : Type 0 where
+  pub wires : Sized-wires c (s .wires)
+  pub last : length (s .last) ≡ length (c .pins)
+  pub pulses : length (s .pulses) ≡ length (c .outputs)
+  pub delays : length (s .delays) ≡ length (c .kinds)
+
+-- ---- the marks of what waits
+
+mark-more : (bs : List Bool) (i : ℕ) → getD bs i true ≡ false → marks (set bs i true) ≡ suc (marks bs)
+unfolding marks bit
+mark-more bs i e = omega (arith, rw e at (count-set (λ _ b. b) 0 bs i true true (in-range true bs i e)))
+
+marks-fewer : (bs : List Bool) (i : ℕ) → marks bs ≤ suc (marks (set bs i false))
+unfolding marks bit
+marks-fewer bs i = go (ltb i (length bs)) refl
+  where
+    go : (b : Bool) → ltb i (length bs) ≡ b → marks bs ≤ suc (marks (set bs i false))
+    go true l = omega (arith, count-set (λ _ b. b) 0 bs i false false (ltb-true i (length bs) l), bit-most (getD bs i false))
+    go false l = rw (set-past bs i false (ltb-false i _ l)) (omega arith)
+
+module _ (c : Circuit) where
+  -- ---- one change
+
+  pub show-sized : (w : Wires) (o : ℕ) (v : Value) → Sized-wires c w → Sized-wires c (show w o v)
+  unfolding show outs≔ is-dirty
+  show-sized w o v z = record { outs = length-set (w .outs) o v ∙ z .outs; dirty = z .dirty; queued = z .queued; stale = z .stale; waiting = z .waiting }
+
+  pub soil-sized : (w : Wires) (g : ℕ) → pure (kind-of-gate c g) ≡ true → Sized-wires c w → Sized-wires c (soil w g)
+  unfolding soil dirty≔ is-dirty
+  soil-sized w g p z =
+      record {
+        outs = z .outs;
+        dirty = length-set (w .dirty) g true ∙ z .dirty;
+        queued = z .queued;
+        stale = set-marked (λ h. pure (kind-of-gate c h) ≡ true) (w .dirty) g true (λ _. p) (z .stale);
+        waiting = z .waiting;
+      }
+
+  pub clean-sized : (w : Wires) (g : ℕ) → Sized-wires c w → Sized-wires c (clean w g)
+  unfolding clean dirty≔ is-dirty
+  clean-sized w g z =
+      record {
+        outs = z .outs;
+        dirty = length-set (w .dirty) g false ∙ z .dirty;
+        queued = z .queued;
+        stale = set-marked (λ h. pure (kind-of-gate c h) ≡ true) (w .dirty) g false (λ e. absurd (true≢false (sym e))) (z .stale);
+        waiting = z .waiting;
+      }
+
+  pub watch-sized : (w : Wires) (i : ℕ) → Sized-wires c w → Sized-wires c (watch w i)
+  unfolding watch to-check≔ is-dirty
+  watch-sized w i z =
+      if-by (Sized-wires c) (getD (w .queued) i true) (λ _. z) λ e.
+      record {
+        outs = z .outs;
+        dirty = z .dirty;
+        queued = length-set (w .queued) i true ∙ z .queued;
+        stale = z .stale;
+        waiting = omega (arith, z .waiting, snoc-length (w .to-check) i, mark-more (w .queued) i e);
+      }
+
+  -- the first that waits is taken
+  pub taken-sized : (w : Wires) (i : ℕ) (is : List ℕ) → w .to-check ≡ i ∷ is → Sized-wires c w → Sized-wires c (to-check≔ w is (set (w .queued) i false))
+  unfolding to-check≔ is-dirty
+  taken-sized w i is e z =
+      record {
+        outs = z .outs;
+        dirty = z .dirty;
+        queued = length-set (w .queued) i false ∙ z .queued;
+        stale = z .stale;
+        waiting = omega (arith, z .waiting, ap length e, marks-fewer (w .queued) i);
+      }
+
+  pub recompute-sized : (w : Wires) (g : ℕ) → Sized-wires c w → Sized-wires c (recompute c w g)
+  unfolding recompute
+  recompute-sized w g z = clean-sized _ g (show-sized w _ _ z)
+
+  -- ---- refreshing: what is kept by computing a pure gate again, where only pure gates are stale
+
+  pub behind-keeps : (P : Wires → Type 0) (f : Wires → ℕ → Wires) → ((w : Wires) (g : ℕ) → P w → P (f w g)) → (w : Wires) (i : ℕ) → P w → P (behind c f w i)
+  unfolding behind
+  behind-keeps P f k w i p = go (source c i)
+    where
+      go : (o : Option ℕ) → P (elim o as (λ _. Wires) [ none ↦ w | some o ↦ f w (gate-at-output c o) ])
+      go none = p
+      go (some o) = k w (gate-at-output c o) p
+
+  module _ (P : Wires → Type 0) (sized : (w : Wires) → P w → Sized-wires c w)
+      (again : (w : Wires) (g : ℕ) → pure (kind-of-gate c g) ≡ true → P w → P (recompute c w g)) where
+    pub refresh-to-keeps : (n : ℕ) (w : Wires) (g : ℕ) → P w → P (refresh-to c n w g)
+    unfolding refresh-to
+    refresh-to-keeps zero w g p = p
+    refresh-to-keeps (suc n) w g p =
+        go (is-dirty w g) refl
+        (each-keeps P (behind c (λ v h. refresh-to c n v h)) (behind-keeps P (λ v h. refresh-to c n v h) (λ v h q. refresh-to-keeps n v h q)) w (inputs-of c g) p)
+      where
+        go :
+            (b : Bool) → is-dirty w g ≡ b → P (each (behind c (λ v h. refresh-to c n v h)) w (inputs-of c g)) →
+            P (elim b as (λ _. Wires) [ true ↦ recompute c (each (behind c (λ v h. refresh-to c n v h)) w (inputs-of c g)) g | false ↦ w ])
+        go true e q = again _ g (sized w p .stale g e) q
+        go false e q = p
+
+    pub refresh-keeps : (w : Wires) (g : ℕ) → P w → P (refresh c w g)
+    unfolding refresh
+    refresh-keeps w g p = refresh-to-keeps _ w g p
+
+    pub refresh-all-keeps : (w : Wires) → P w → P (refresh-all c w)
+    unfolding refresh-all
+    refresh-all-keeps w p = each-keeps P (refresh c) refresh-keeps w (gates c) p
+
+    pub ready-keeps : (w : Wires) (i : ℕ) → P w → P (ready c w i)
+    unfolding ready
+    ready-keeps w i p = behind-keeps P (refresh c) refresh-keeps w i p
+
+  -- ---- marking: what is kept by marking a pure gate and by queueing an input
+
+  module _ (P : Wires → Type 0) (soiled : (w : Wires) (g : ℕ) → pure (kind-of-gate c g) ≡ true → P w → P (soil w g))
+      (watched : (w : Wires) (i : ℕ) → P w → P (watch w i)) where
+    mark-reader-keeps : (m : Marking) (i : ℕ) → P (m .wires) → P (mark-reader c m i .wires)
+    unfolding mark-reader
+    mark-reader-keeps m i p =
+        if-by (λ (r : Marking). P (r .wires)) (pure (kind-of-gate c (gate-at-input c i)))
+        (λ e. if-both (λ (r : Marking). P (r .wires)) _ (soiled (m .wires) (gate-at-input c i) e p) p)
+        (λ e. if-both (λ (r : Marking). P (r .wires)) _ (watched (m .wires) i p) p)
+
+    mark-on-keeps : (n : ℕ) (m : Marking) → P (m .wires) → P (mark-on c n m)
+    unfolding mark-on
+    mark-on-keeps zero m p = p
+    mark-on-keeps (suc n) m p = go (m .work) (λ r q. mark-on-keeps n r q)
+      where
+        go :
+            (work : List ℕ) → ((r : Marking) → P (r .wires) → P (mark-on c n r)) →
+            P (elim work as (λ _. Wires) [
+              | [] ↦ m .wires
+              | (o ∷ work) ↦ mark-on c n (each (mark-reader c) (record { wires = m .wires; work = work }) (readers-of c o))
+            ])
+        go [] rec = p
+        go (o ∷ work) rec = rec _ (each-keeps (λ (r : Marking). P (r .wires)) (mark-reader c) mark-reader-keeps _ (readers-of c o) p)
+
+    pub mark-readers-keeps : (w : Wires) (o : ℕ) → P w → P (mark-readers c w o)
+    unfolding mark-readers
+    mark-readers-keeps w o p = mark-on-keeps _ _ p
+
+  -- ---- so of each function of the wires
+
+  again-sized : (w : Wires) (g : ℕ) → pure (kind-of-gate c g) ≡ true → Sized-wires c w → Sized-wires c (recompute c w g)
+  again-sized w g e z = recompute-sized w g z
+
+  pub refresh-to-sized : (n : ℕ) (w : Wires) (g : ℕ) → Sized-wires c w → Sized-wires c (refresh-to c n w g)
+  refresh-to-sized = refresh-to-keeps (Sized-wires c) (λ w z. z) again-sized
+
+  pub refresh-sized : (w : Wires) (g : ℕ) → Sized-wires c w → Sized-wires c (refresh c w g)
+  refresh-sized = refresh-keeps (Sized-wires c) (λ w z. z) again-sized
+
+  pub refresh-all-sized : (w : Wires) → Sized-wires c w → Sized-wires c (refresh-all c w)
+  refresh-all-sized = refresh-all-keeps (Sized-wires c) (λ w z. z) again-sized
+
+  pub ready-sized : (w : Wires) (i : ℕ) → Sized-wires c w → Sized-wires c (ready c w i)
+  ready-sized = ready-keeps (Sized-wires c) (λ w z. z) again-sized
+
+  pub mark-readers-sized : (w : Wires) (o : ℕ) → Sized-wires c w → Sized-wires c (mark-readers c w o)
+  mark-readers-sized = mark-readers-keeps (Sized-wires c) soil-sized watch-sized
+
+  pub set-out-sized : (w : Wires) (o : ℕ) (v : Value) → Sized-wires c w → Sized-wires c (set-out c w o v)
+  unfolding set-out
+  set-out-sized w o v z = if-both (Sized-wires c) _ z (mark-readers-sized _ o (show-sized w o v z))
+
+  pub set-outs-sized : (w : Wires) (o : ℕ) (vs : List Value) → Sized-wires c w → Sized-wires c (set-outs c w o vs)
+  unfolding set-outs
+  set-outs-sized w o [] z = z
+  set-outs-sized w o (v ∷ vs) z = set-outs-sized (set-out c w o v) (suc o) vs (set-out-sized w o v z)

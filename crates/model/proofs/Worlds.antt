@@ -1,0 +1,52 @@
+-- Every world of a run is sized: wherever a unit begins, and after each tick.
+use mathlib.Core.List.{List}
+use Prim.Native.Nat.{ℕ}
+use Rattle.schedule.specs.Schedule.{Raise, Outcome, Closed, plain}
+use Rattle.schedule.specs.Promise.{All, [·]}
+use Rattle.schedule.specs.Keeping.{Did-keep, Tick-keeps}
+use Rattle.schedule.proofs.Theorems.{run-keeps}
+use Rattle.model.specs.Circuit.{Circuit}
+use Rattle.model.specs.Script.{Given}
+use Rattle.model.specs.State.{State, Act}
+use Rattle.model.specs.Chain.{Chained}
+use Rattle.model.specs.Unit.{World, state≔, raises-in, finish-chain}
+use Rattle.model.specs.Record.{write, close}
+use Rattle.model.specs.Run.{opening, body, closing, machine, world-at-start, ticks-of}
+use Rattle.model.proofs.Lists.{if-both, map-all}
+use Rattle.model.proofs.Sized.{Sized}
+use Rattle.model.proofs.Kept.{Raises-sized, settle-sized, publish-writes-sized, start-sized, open-tick-sized, run-unit-sized, read-outputs-sized}
+
+module _ (c : Circuit) where
+  abbrev pub World-sized : World → Type 0
+  World-sized w = Sized c (w .state)
+
+  raises-in-sized :
+      {P : Type 0} (w : World) (left : ℕ) (rs : List (Raise State Act P)) → Raises-sized c rs → All (λ r. World-sized (r .at)) (raises-in w left rs)
+  unfolding raises-in state≔
+  raises-in-sized w left rs a = map-all _ _ a
+
+  pub finish-chain-sized : (w : World) (r : Chained) → Sized c (r .state) → Did-keep World-sized (finish-chain c w r)
+  unfolding finish-chain state≔
+  finish-chain-sized w r z =
+      let y = settle-sized c _ (publish-writes-sized c (r .state) z) in
+      if-both (Did-keep World-sized) _ (record { world = y .state; raises = raises-in-sized w (r .left) _ (y .raises) }) (record { world = z; raises = [·] })
+
+  module _ (limit : ℕ) where
+    opening-sized : (w : World) (given : Given) → World-sized w → Did-keep World-sized (opening c limit w given)
+    unfolding opening state≔
+    opening-sized w given z = let y = open-tick-sized c (w .state) given z in record { world = y .state; raises = raises-in-sized w limit _ (y .raises) }
+
+    body-sized : (w : World) (a : Act) → World-sized w → Did-keep World-sized (body c limit w a)
+    unfolding body
+    body-sized w a z = finish-chain-sized w _ (run-unit-sized c w a z)
+
+    closing-sized : (w : World) (o : Outcome Act) → World-sized w → World-sized (closing c limit w o .world)
+    unfolding closing close write state≔
+    closing-sized w o z =
+        let y = read-outputs-sized c (w .state) (o .stop) z in
+        if-both (λ (k : Closed World). World-sized (k .world)) _ y y
+
+    -- in every world of a run, of any script and with a log of any size
+    pub run-sized : (room : ℕ) (given : List Given) → All (Tick-keeps (plain (machine c limit)) World-sized) (ticks-of c limit room given)
+    unfolding ticks-of world-at-start
+    run-sized room given = run-keeps (plain (machine c limit)) World-sized opening-sized body-sized closing-sized given _ (start-sized c)

@@ -1,0 +1,60 @@
+-- What a call answers, from bytes, and what it leaves in the log and the areas.
+use Prim.Native.Nat.{ℕ, zero, suc, _*_}
+use mathlib.Core.List.{List, [], _∷_, _++_}
+use mathlib.Core.Option.{Option, none, some}
+use lib.ListN.{length, drop, replicate}
+use Rattle.words.specs.Words.{words, bytes}
+use Rattle.schedule.specs.Schedule.{schedule-opened}
+use Rattle.model.specs.Base.{base-opened}
+use Rattle.model.specs.Value.{value-opened}
+use Rattle.model.specs.Kinds.{kinds-opened}
+use Rattle.model.specs.Circuit.{Circuit, circuit, circuit-opened}
+use Rattle.model.specs.Script.{script, script-opened}
+use Rattle.model.specs.State.{state-opened}
+use Rattle.model.specs.Wires.{wires-opened}
+use Rattle.model.specs.Delays.{delays-opened}
+use Rattle.model.specs.Exec.{exec-opened}
+use Rattle.model.specs.Chain.{chain-opened}
+use Rattle.model.specs.Settle.{settle-opened}
+use Rattle.model.specs.Opening.{opening-opened}
+use Rattle.model.specs.Unit.{unit-opened}
+use Rattle.model.specs.Record.{record-opened}
+use Rattle.model.specs.Run.{Played, most-steps, ticks-of, seen, run-opened}
+use Rattle.model.specs.Questions.{Areas, refusal, questions-opened}
+
+-- refused with the number of a question, or played
+pub data Answer : Type 0 where
+  refused : ℕ → Answer
+  played : Played → Answer
+
+-- the run of a script over a circuit, with a log of so many bytes
+unfoldable pub play : ℕ → Circuit → List ℕ → Played
+play room c script-words = seen c most-steps (ticks-of c most-steps room (script (c .constants) script-words))
+
+unfoldable pub answer-to : ℕ → ℕ → List ℕ → List ℕ → Answer
+answer-to zero room circuit-bytes script-bytes = played (play room (circuit (words circuit-bytes)) (words script-bytes))
+answer-to (suc n) room circuit-bytes script-bytes = refused (suc n)
+
+-- with areas of these lengths and a log of so many bytes
+unfoldable pub answer : Areas → ℕ → List ℕ → List ℕ → Answer
+answer areas room circuit-bytes script-bytes = answer-to (refusal (some areas) circuit-bytes script-bytes) room circuit-bytes script-bytes
+
+-- the number that is answered: the question's, or the stop, 0 for a run to the script's end
+unfoldable pub number : Answer → ℕ
+number (refused n) = n
+number (played p) = p .stop
+
+-- the log afterwards, where it held these bytes before: untouched by a refusal; else the records, and its rest untouched
+unfoldable pub log-after : Answer → List ℕ → List ℕ
+log-after (refused n) log = log
+log-after (played p) log = bytes (p .log) ++ drop (8 * length (p .log)) log
+
+-- an area afterwards: untouched by a refusal; else zero, all of it
+unfoldable pub area-after : Answer → List ℕ → List ℕ
+area-after (refused n) area = area
+area-after (played p) area = replicate (length area) 0
+
+-- opens the whole definition, for proofs by computation
+unfoldable pub model-opened : ℕ
+unfolding words bytes schedule-opened base-opened value-opened kinds-opened circuit-opened script-opened state-opened wires-opened delays-opened exec-opened chain-opened settle-opened opening-opened unit-opened record-opened run-opened questions-opened play answer-to answer number log-after area-after
+model-opened = 0

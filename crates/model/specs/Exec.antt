@@ -1,0 +1,156 @@
+-- One step of a chain: an exec gate, entered through one of its inputs, by kind.
+use Prim.Native.Nat.{ℕ, zero, suc, _-_, _%_}
+use mathlib.Core.Bool.{Bool, true, false, not, _||_}
+use mathlib.Core.List.{List, [], _∷_, map}
+use mathlib.Core.Option.{Option, none, some}
+use lib.Dec.{leb, ltb, eqb}
+use lib.IntN.{ℤ, pos, negsuc, sucℤ, predℤ}
+use lib.ListN.{length, getD, set}
+use Rattle.model.specs.declared.Value.{Value}
+use Rattle.model.specs.declared.Value.the-variants.{Nothing, Int, Float, Bool as Truth}
+use Rattle.model.specs.Base.{if_then_else_, each, snoc, among, from}
+use Rattle.model.specs.Value.{truthy, as-int, as-float}
+use Rattle.model.specs.Circuit.{Circuit, kind-of-gate, input, output, gate-at-input, setting}
+use Rattle.model.specs.State.{Countdown, Delay, idle, fires≔, Send, State, wires≔, delays≔, written≔, unions-passed≔, outbox≔}
+use Rattle.model.specs.Wires.{shown, show, look, ready, set-out}
+use Rattle.model.specs.Delays.{nat, in-ticks, in-seconds, countdown-ticks, countdown-seconds, queue-record, pressed}
+
+-- What a step comes to: the output to fire next, and whether a list was full.
+pub record Stepped : Type 0 where
+  pub state : State
+  pub next : Option ℕ
+  pub full : Bool
+
+unfoldable pub fires-next : State → ℕ → Stepped
+fires-next s o = record { state = s; next = some o; full = false }
+
+-- the chain ends there
+unfoldable pub ends : State → Stepped
+ends s = record { state = s; next = none; full = false }
+
+-- the fires under way of one buffer
+abbrev pub most-fires : ℕ
+most-fires = 32
+
+-- the remainder that is never negative, of a number by n above 0
+unfoldable pub remainder : ℤ → ℕ → ℕ
+remainder (pos a) n = a % n
+remainder (negsuc a) n = n - suc (a % n)
+
+-- Cycle's next number, up or down, by Count: 0 for a Count of 0 or less.
+unfoldable pub cycle-next : Bool → ℤ → ℤ → ℕ
+cycle-next down (negsuc n) now = 0
+cycle-next down (pos zero) now = 0
+cycle-next down (pos (suc n)) now = remainder (if down then predℤ now else sucℤ now) (suc n)
+
+module _ (c : Circuit) where
+  -- ---- small readings and changes
+
+  unfoldable pub delay : State → ℕ → Delay
+  delay s g = getD (s .delays) g idle
+
+  unfoldable pub delay≔ : State → ℕ → Delay → State
+  delay≔ s g d = delays≔ s (set (s .delays) g d)
+
+  unfoldable pub set-output : State → ℕ → Value → State
+  set-output s o v = wires≔ s (set-out c (s .wires) o v)
+
+  -- n inputs of gate g from p on are made ready to be read, in their order; and what they then read
+  unfoldable pub readied : State → ℕ → ℕ → ℕ → State
+  readied s g p n = wires≔ s (each (ready c) (s .wires) (from (input c g p) n))
+
+  unfoldable pub read : State → ℕ → ℕ → Value
+  read s g p = look c (s .wires) (input c g p)
+
+  unfoldable pub read-row : State → ℕ → ℕ → ℕ → List Value
+  read-row s g p n = map (look c (s .wires)) (from (input c g p) n)
+
+  -- the countdown that a buffer starts
+  unfoldable pub countdown : ℕ → Bool → Countdown
+  countdown g rising =
+      if leb 12 (kind-of-gate c g) then countdown-seconds rising (setting c g 1) (setting c g 2) else countdown-ticks rising (setting c g 1) (setting c g 2)
+
+  -- the Value of the Var that setting 1 of gate g names
+  unfoldable pub var : ℕ → ℕ
+  var g = output c (nat (as-int (pos 0) (setting c g 1))) 0
+
+  -- ---- by kind; p is the pin entered through
+
+  -- 11 and 13
+  unfoldable pub exec-Buffer : State → ℕ → Stepped
+  exec-Buffer s g =
+      if ltb (length (delay s g .fires)) most-fires then ends (delay≔ s g (fires≔ (delay s g) (snoc (delay s g .fires) (countdown g true))))
+      else record { state = s; next = none; full = true }
+
+  -- Restart shows 0.0 at once
+  unfoldable pub exec-Stopwatch : State → ℕ → ℕ → Stepped
+  exec-Stopwatch s g p =
+      let t = delay≔ s g (pressed p (delay s g)) in
+      ends (if eqb p 0 then set-output t (output c g 0) (Float 0) else t)
+
+  -- all nine inputs are read, also for a record that is dropped
+  unfoldable pub exec-Queue : State → ℕ → (Value → Countdown) → Stepped
+  exec-Queue s₀ g countdown-of =
+      let s = readied s₀ g 1 9 in
+      ends (delay≔ s g (queue-record (delay s g) (read-row s g 1 8) (countdown-of (read s g 9))))
+
+  unfoldable pub exec-VarGet : State → ℕ → Stepped
+  exec-VarGet s g = fires-next (set-output s (output c g 1) (shown (s .wires) (var g))) (output c g 0)
+
+  -- direct readers see it at once; what else it reaches is marked when it is published
+  unfoldable pub record-write : State → ℕ → State
+  record-write s o = if among o (s .written) then s else written≔ s (snoc (s .written) o)
+
+  unfoldable pub exec-VarSet : State → ℕ → Stepped
+  exec-VarSet s₀ g =
+      let s = readied s₀ g 2 1 in
+      fires-next (record-write (wires≔ s (show (s .wires) (var g) (read s g 2))) (var g)) (output c g 0)
+
+  unfoldable pub exec-Branch : State → ℕ → Stepped
+  exec-Branch s₀ g = let s = readied s₀ g 1 1 in fires-next s (output c g (if truthy (read s g 1) then 0 else 1))
+
+  -- once a tick
+  unfoldable pub exec-Union : State → ℕ → Stepped
+  exec-Union s g = if among g (s .unions-passed) then ends s else fires-next (unions-passed≔ s (g ∷ s .unions-passed)) (output c g 0)
+
+  unfoldable pub exec-Toggle : State → ℕ → Stepped
+  exec-Toggle s g = fires-next (set-output s (output c g 1) (Truth (not (truthy (shown (s .wires) (output c g 1)))))) (output c g 0)
+
+  -- pin 0 up, pin 1 down, each to its own output
+  unfoldable pub exec-Cycle : State → ℕ → ℕ → Stepped
+  exec-Cycle s₀ g p =
+      let s = readied s₀ g 2 1 in
+      let now = as-int (pos 0) (shown (s .wires) (output c g 2)) in
+      fires-next (set-output s (output c g 2) (Int (cycle-next (eqb p 1) (as-int (pos 0) (read s g 2)) now))) (output c g p)
+
+  -- the eight values are read, also for a second send of the gate in this tick, which is ignored
+  unfoldable pub exec-SendEvent : State → ℕ → Stepped
+  exec-SendEvent s₀ g =
+      let s = readied s₀ g 2 8 in
+      fires-next
+      (if among g (map (λ m. m .gate) (s .outbox)) then s else outbox≔ s (snoc (s .outbox) (record { gate = g; row = read-row s g 2 8 })))
+      (output c g 0)
+
+  unfoldable pub exec-kind : ℕ → State → ℕ → ℕ → Stepped
+  exec-kind k s g p =
+      if eqb k 2 then fires-next s (output c g 0)
+      else if eqb k 11 || eqb k 13 then exec-Buffer s g
+      else if eqb k 15 then exec-Stopwatch s g p
+      else if eqb k 16 then exec-Queue s g (λ v. in-ticks (as-int (pos 0) v))
+      else if eqb k 17 then exec-Queue s g (λ v. in-seconds (as-float 0 v))
+      else if eqb k 18 then exec-VarGet s g
+      else if eqb k 19 then exec-VarSet s g
+      else if eqb k 20 then exec-Branch s g
+      else if eqb k 21 then exec-Union s g
+      else if eqb k 22 then exec-Toggle s g
+      else if eqb k 23 then exec-Cycle s g p
+      else if eqb k 24 || eqb k 25 then exec-SendEvent s g
+      else ends s
+
+  -- the gate that has input i
+  unfoldable pub exec-gate : State → ℕ → Stepped
+  exec-gate s i = exec-kind (kind-of-gate c (gate-at-input c i)) s (gate-at-input c i) (i - input c (gate-at-input c i) 0)
+
+  unfoldable pub exec-opened : ℕ
+  unfolding fires-next ends remainder cycle-next delay delay≔ set-output readied read read-row countdown var exec-Buffer exec-Stopwatch exec-Queue exec-VarGet record-write exec-VarSet exec-Branch exec-Union exec-Toggle exec-Cycle exec-SendEvent exec-kind exec-gate
+  exec-opened = 0

@@ -1,0 +1,101 @@
+-- The 28 kinds of gates: what each input and each output is.
+use Prim.Native.Nat.{ℕ, zero, suc, _-_}
+use mathlib.Core.Bool.{Bool, true, false, _&&_}
+use mathlib.Core.List.{List, [], _∷_}
+use lib.Dec.{leb}
+use lib.ListN.{getD, replicate}
+
+-- what the constant of a setting has to be
+pub data Setting : Type 0 where
+  anything ticks seconds variable channel : Setting
+
+-- whether a change of what an input reads is acted on: never, if it has a source, or always
+pub data Watch : Type 0 where
+  never if-driven always : Watch
+
+-- An input: whether calls may come to it, whether it may have a source, and a constant, whether it is watched, and as a setting what it has to be.
+pub record In : Type 0 where
+  pub called : Bool
+  pub source : Bool
+  pub constant : Bool
+  pub watch : Watch
+  pub setting : Setting
+
+-- E, an exec pin: watched where a value drives it
+unfoldable pub exec : In
+exec = record { called = true; source = true; constant = false; watch = if-driven; setting = anything }
+
+-- the Input of a buffer in exec mode
+unfoldable pub exec-only : In
+exec-only = record { called = true; source = false; constant = false; watch = never; setting = anything }
+
+unfoldable pub value : In
+value = record { called = false; source = true; constant = true; watch = never; setting = anything }
+
+-- the Input of a detector or a value buffer
+unfoldable pub watched : In
+watched = record { called = false; source = true; constant = true; watch = always; setting = anything }
+
+-- RER_Input, which takes a value and calls
+unfoldable pub route : In
+route = record { called = true; source = true; constant = true; watch = never; setting = anything }
+
+-- S, a setting
+unfoldable pub set-to : Setting → In
+set-to s = record { called = false; source = false; constant = true; watch = never; setting = s }
+
+-- An output: `fires` is exec, `shows` has a value, `passes` is RER_Output, which shows and makes calls.
+pub data Out : Type 0 where
+  fires shows passes : Out
+
+pub record Kind : Type 0 where
+  pub ins : List In
+  pub outs : List Out
+
+unfoldable pub kind : List In → List Out → Kind
+kind i o = record { ins = i; outs = o }
+
+unfoldable pub table : List Kind
+table =
+    kind (value ∷ value ∷ value ∷ []) (shows ∷ [])  -- 1 Select: bSelectB InputA InputB
+    ∷ kind (route ∷ []) (passes ∷ [])  -- 2 Reroute: RER_Input / RER_Output
+    ∷ kind [] (shows ∷ [])  -- 3 DeltaTime
+    ∷ kind [] (shows ∷ [])  -- 4 ServerUptime
+    ∷ kind (set-to anything ∷ []) (shows ∷ [])  -- 5 Var: initial / Value
+    ∷ kind (watched ∷ []) (fires ∷ [])  -- 6 ChangeDetector: Input / OnChanged
+    ∷ kind (watched ∷ []) (shows ∷ shows ∷ [])  -- 7 Edge: Input / bPulseOnRisingEdge bPulseOnFallingEdge
+    ∷ kind (watched ∷ []) (shows ∷ [])  -- 8 Change: Input / bPulseOnChange
+    ∷ kind (watched ∷ []) (fires ∷ fires ∷ [])  -- 9 EdgeExec: Input / OnRisingEdge OnFallingEdge
+    ∷ kind (watched ∷ set-to ticks ∷ set-to ticks ∷ []) (shows ∷ [])  -- 10 BufferTicks: Input, wait, zero wait / Output
+    ∷ kind (exec-only ∷ set-to ticks ∷ set-to ticks ∷ []) (fires ∷ [])  -- 11 in exec mode
+    ∷ kind (watched ∷ set-to seconds ∷ set-to seconds ∷ []) (shows ∷ [])  -- 12 BufferSeconds
+    ∷ kind (exec-only ∷ set-to seconds ∷ set-to seconds ∷ []) (fires ∷ [])  -- 13 in exec mode
+    ∷ kind (value ∷ value ∷ set-to seconds ∷ []) (fires ∷ [])  -- 14 Clock: bEnabled IntervalSeconds, interval / Pulse
+    ∷ kind (exec ∷ exec ∷ exec ∷ value ∷ []) (shows ∷ fires ∷ [])  -- 15 Stopwatch: Restart Pause Resume Limit / Time Expired
+    ∷ kind (exec ∷ replicate 9 value) (fires ∷ replicate 8 shows)  -- 16 Queue in ticks: E, DataIn1 to 8, wait / ExecOut DataOut1 to 8
+    ∷ kind (exec ∷ replicate 9 value) (fires ∷ replicate 8 shows)  -- 17 in seconds
+    ∷ kind (exec ∷ set-to variable ∷ []) (fires ∷ shows ∷ [])  -- 18 VarGet: E, variable / ExecOut Value
+    ∷ kind (exec ∷ set-to variable ∷ value ∷ []) (fires ∷ [])  -- 19 VarSet: E, variable, Value / ExecOut
+    ∷ kind (exec ∷ value ∷ []) (fires ∷ fires ∷ [])  -- 20 Branch: E, bCond / ExecOutA ExecOutB
+    ∷ kind (exec ∷ []) (fires ∷ [])  -- 21 Union: E / ExecOut
+    ∷ kind (exec ∷ []) (fires ∷ shows ∷ [])  -- 22 Toggle: E / ExecOut Output
+    ∷ kind (exec ∷ exec ∷ value ∷ []) (fires ∷ fires ∷ shows ∷ [])  -- 23 Cycle: Exec ExecDown Count / ExecOut ExecOutDown Output
+    ∷ kind (exec ∷ set-to channel ∷ replicate 8 value) (fires ∷ [])  -- 24 SendEvent: E, channel, DataIn1 to 8 / ExecOut
+    ∷ kind (exec ∷ set-to channel ∷ replicate 8 value) (fires ∷ [])  -- 25 global
+    ∷ kind (set-to channel ∷ []) (fires ∷ replicate 8 shows)  -- 26 EventCustom: channel / ExecOut DataOut1 to 8
+    ∷ kind (set-to channel ∷ []) (fires ∷ replicate 8 shows)  -- 27 global
+    ∷ kind [] (fires ∷ shows ∷ [])  -- 28 WorldEvent: / ExecOut Value
+    ∷ []
+
+-- kinds count from 1; no other number is a kind's
+unfoldable pub kind-at : ℕ → Kind
+kind-at zero = record { ins = []; outs = [] }
+kind-at (suc k) = getD table k (record { ins = []; outs = [] })
+
+-- Select, Reroute, DeltaTime and ServerUptime are the pure gates
+unfoldable pub pure : ℕ → Bool
+pure k = leb 1 k && leb k 4
+
+unfoldable pub kinds-opened : ℕ
+unfolding exec exec-only value watched route set-to kind table kind-at pure
+kinds-opened = 0

@@ -1,0 +1,145 @@
+-- The start of a run, and the opening of a tick: all that comes before its passes.
+use Prim.Native.Nat.{ℕ, zero, suc, _+_}
+use mathlib.Core.Bool.{Bool, true, false, _&&_, _||_}
+use mathlib.Core.List.{List, [], _∷_, _++_, map}
+use mathlib.Core.Option.{Option, none, some}
+use lib.Dec.{leb, ltb, eqb}
+use lib.ListN.{length, getD, set, replicate}
+use Rattle.schedule.specs.Schedule.{Raise, Place, to-late, to-delivered, to-pending}
+use Rattle.model.specs.declared.Value.{Value}
+use Rattle.model.specs.declared.Value.the-variants.{Nothing, Int, Float, Bool as Truth}
+use Rattle.model.specs.Base.{if_then_else_, each, keep, joined, from}
+use Rattle.model.specs.Value.{truthy, as-float, same, narrow, plus64, one-point-zero}
+use Rattle.model.specs.Kinds.{pure}
+use Rattle.model.specs.Circuit.{Circuit, kind-of-gate, input, output, setting, watching, gates, gates-of}
+use Rattle.model.specs.Script.{Given}
+use Rattle.model.specs.State.{Wires, idle, Act, Send, State, times≔, wires≔, pulses≔}
+use Rattle.model.specs.Wires.{look, invalidate, refresh-all, set-outs}
+use Rattle.model.specs.Delays.{Moved, advance-flight, advance-fires, advance-records, advance-elapsed, advance-time}
+use Rattle.model.specs.Exec.{delay, delay≔, set-output, readied, read, countdown}
+use Rattle.model.specs.Settle.{Settled, settle}
+
+-- ---- the start
+
+-- tick length and uptime 0.0, each Var its initial, other outputs nothing, then pure gates fresh
+unfoldable pub wires-at-start : Circuit → Wires
+wires-at-start c =
+    refresh-all c (record {
+      outs = each (λ vs g. set vs (output c g 0) (setting c g 0)) (replicate (length (c .outputs)) Nothing) (gates-of c (λ k. eqb k 5));
+      dirty = map pure (c .kinds);
+      to-check = [];
+      queued = replicate (length (c .pins)) false;
+      dt = 0;
+      uptime = 0;
+    })
+
+-- Clocks and Stopwatches at 0.0, Stopwatches stopped, nothing waiting, `last` the value that each watched input reads
+unfoldable pub start : Circuit → State
+start c =
+    let w = wires-at-start c in
+    record {
+      tick = 0;
+      wires = w;
+      last = map (λ i. if watching c i then some (look c w i) else none) (from 0 (length (c .pins)));
+      pulses = replicate (length (c .outputs)) 0;
+      delays = replicate (length (c .kinds)) idle;
+      written = [];
+      unions-passed = [];
+      outbox = [];
+    }
+
+-- ---- the opening of a tick
+
+-- the opening under way: a state, and what was raised so far, each with the state at that moment
+pub record Opened : Type 0 where
+  pub state : State
+  pub raises : List (Raise State Act Place)
+
+unfoldable pub raised-to : Place → State → List Act → List (Raise State Act Place)
+raised-to p s acts = map (λ a. record { at = s; act = a; place = p }) acts
+
+-- n Fires of gate g
+unfoldable pub fire : ℕ → ℕ → List Act
+fire n g = replicate n (record { gate = g; form = 0; row = [] })
+
+unfoldable pub begin-tick : State → ℕ → State
+begin-tick s dt =
+    record {
+      tick = suc (s .tick);
+      wires = times≔ (s .wires) dt (plus64 (s .wires .uptime) dt);
+      last = s.last;
+      pulses = s.pulses;
+      delays = s.delays;
+      written = s.written;
+      unions-passed = [];
+      outbox = [];
+    }
+
+-- `bEnabled` of nothing means enabled
+unfoldable pub enabled : Value → Bool
+enabled Nothing = true
+enabled (Int b) = truthy (Int b)
+enabled (Float b) = truthy (Float b)
+enabled (Truth t) = t
+
+module _ (c : Circuit) where
+  -- an event goes to the receivers of its channel, local (24 to 26) or global (25 to 27), ascending
+  unfoldable pub receives : ℕ → ℕ → Bool
+  receives g r = eqb (kind-of-gate c r) (kind-of-gate c g + 2) && same (setting c g 1) (setting c r 0)
+
+  unfoldable pub delivered : Send → List Act
+  delivered m = map (λ r. record { gate = r; form = 1; row = m .row }) (keep (receives (m .gate)) (gates c))
+
+  -- a pulse falls when raised-at + 2 ≤ tick
+  unfoldable pub lower : State → ℕ → State
+  lower s o =
+      let at = getD (s .pulses) o 0 in
+      if ltb 0 at && leb (at + 2) (s .tick) then set-output c (pulses≔ s (set (s .pulses) o 0)) o (Truth false) else s
+
+  -- gate g has moved on: its row goes to its outputs from p on, then its Fires are raised
+  unfoldable pub advanced : Opened → State → Place → ℕ → ℕ → Moved → Opened
+  advanced z s place g p m =
+      let t = wires≔ (delay≔ c s g (m .state)) (set-outs c (s .wires) (output c g p) (m .row)) in
+      record { state = t; raises = z .raises ++ raised-to place t (fire (m .fires) g) }
+
+  -- 10 to 13, 16 and 17; dt is the tick's length in f32
+  unfoldable pub advance-buffer : ℕ → Opened → ℕ → Opened
+  advance-buffer dt z g =
+      let s = z .state in
+      let k = kind-of-gate c g in
+      let d = delay c s g in
+      if eqb k 10 || eqb k 12 then advanced z s to-late g 0 (advance-flight (λ v. countdown c g (truthy v)) dt d)
+      else if eqb k 11 || eqb k 13 then advanced z s to-late g 0 (advance-fires dt d)
+      else if eqb k 16 || eqb k 17 then advanced z s to-late g 1 (advance-records dt d)
+      else z
+
+  -- the input's interval, unless it reads nothing, then the setting, then 1.0; both inputs are read, also where it is not enabled
+  unfoldable pub advance-clock : Opened → ℕ → Opened
+  advance-clock z g =
+      let s = readied c (z .state) g 0 2 in
+      let interval = as-float (as-float one-point-zero (setting c g 2)) (read c s g 1) in
+      advanced z s to-pending g 0 (advance-elapsed (s .wires .dt) interval (enabled (read c s g 0)) (delay c s g))
+
+  -- Limit is read, also where it stands still
+  unfoldable pub advance-timer : Opened → ℕ → Opened
+  advance-timer z g =
+      let s = readied c (z .state) g 3 1 in
+      advanced z s to-late g 0 (advance-time (s .wires .dt) (as-float 0 (read c s g 3)) (delay c s g))
+
+  -- The source's order: events, stimuli, ended pulses, buffers and Queues, Clocks, Stopwatches, time sources, settling. What is raised before the passes goes
+  -- to late, events to delivered, and what Clocks and settling raise to pending.
+  unfoldable pub open-tick : State → Given → Opened
+  open-tick s given =
+      let s₁ = begin-tick s (given .dt) in
+      let came = raised-to to-delivered s₁ (joined (map delivered (s .outbox))) ++ raised-to to-late s₁ (given .stimuli) in
+      let s₂ = each lower s₁ (from 0 (length (c .outputs))) in
+      let b = each (advance-buffer (narrow (given .dt))) (record { state = s₂; raises = came }) (gates c) in
+      let k = each advance-clock b (gates-of c (λ k. eqb k 14)) in
+      let t = each advance-timer k (gates-of c (λ k. eqb k 15)) in
+      let w = each (invalidate c) (t .state .wires) (gates-of c (λ k. eqb k 3 || eqb k 4)) in
+      let z = settle c (wires≔ (t .state) w) in
+      record { state = z .state; raises = t .raises ++ map (λ r. record { at = r .at; act = r .act; place = to-pending }) (z .raises) }
+
+  unfoldable pub opening-opened : ℕ
+  unfolding wires-at-start start raised-to fire begin-tick enabled receives delivered lower advanced advance-buffer advance-clock advance-timer open-tick
+  opening-opened = 0

@@ -1,0 +1,171 @@
+-- The ten questions, in order. A word is held as its 64 bits: a negative one is 2^63 or more, so it lies above every bound here.
+use Prim.Native.Nat.{ℕ, zero, suc, _+_, _*_, _/_, _%_, max}
+use mathlib.Core.Bool.{Bool, true, false, not, _&&_, _||_}
+use mathlib.Core.List.{List, [], _∷_, map}
+use mathlib.Core.Option.{Option, none, some}
+use lib.Dec.{leb, ltb, eqb}
+use lib.ListN.{length, getD}
+use lib.Ieee.{Float as Number, nan, inf, fin, binary64, ofBits}
+use Rattle.words.specs.Words.{words}
+use Rattle.model.specs.declared.Value.{Value}
+use Rattle.model.specs.declared.Value.the-variants.{Nothing, Int, Float, Bool as Truth}
+use Rattle.model.specs.Base.{if_then_else_, all, both, from, sum}
+use Rattle.model.specs.Value.{le64}
+use Rattle.model.specs.Kinds.{In, value, Setting, anything, ticks, seconds, variable, channel, Out, fires, shows, passes, kind-at, pure}
+use Rattle.model.specs.Circuit.{Circuit, circuit, part, word-at, minus-one, kind-of-gate, inputs-of, source, stored-in, gate-at-output, gates, gates-of}
+
+unfoldable pub within : ℕ → ℕ → ℕ → Bool
+within low high w = leb low w && leb w high
+
+unfoldable pub finite : ℕ → Bool
+finite b = elim (ofBits binary64 b) [ nan ↦ false | inf s ↦ false | fin s m e ↦ true ]
+
+unfoldable pub yes-all : List Bool → Bool
+yes-all bs = all (λ b. b) bs
+
+-- 1. Are the bytes whole words, at least four, G 1 to 64, K 0 to 64, I 0 to 640, C 0 to 256, and the length as these give?
+unfoldable pub question-1 : List ℕ → List ℕ → Bool
+question-1 bytes ws =
+    eqb (length bytes % 8) 0 && leb 4 (length ws)
+    && within 1 64 (word-at ws 0) && within 0 64 (word-at ws 1) && within 0 640 (word-at ws 2) && within 0 256 (word-at ws 3)
+    && eqb (length ws) (4 + 2 * (word-at ws 0 + word-at ws 1 + word-at ws 2 + word-at ws 3))
+
+-- 2. Is each constant of kind 1 to 3, a Float finite, a Bool 0 or 1?
+unfoldable pub good-constant : ℕ → ℕ → Bool
+good-constant k b = if eqb k 1 then true else if eqb k 2 then finite b else if eqb k 3 then within 0 1 b else false
+
+unfoldable pub question-2 : List ℕ → Bool
+question-2 ws = yes-all (both good-constant (part ws 4 (word-at ws 1)) (part ws (4 + word-at ws 1) (word-at ws 1)))
+
+-- 3. Are kinds 1 to 28, ranks 0 to 65,535, and is I their sum of inputs?
+unfoldable pub question-3 : List ℕ → Circuit → Bool
+question-3 ws c =
+    all (within 1 28) (c .kinds) && all (within 0 65535) (c .ranks) && eqb (sum (map (λ k. length (kind-at k .ins)) (c .kinds))) (word-at ws 2)
+
+-- 4. Is each source -1 or a value output, each stored 0 to K, at most one of the two given, no constant on an E, no source on an S or a kind 11 or 13 Input,
+-- each setting as it has to be?
+unfoldable pub value-output : Circuit → ℕ → Bool
+value-output c o = ltb o (length (c .outputs)) && (elim (getD (c .outputs) o fires) [ fires ↦ false | shows ↦ true | passes ↦ true ])
+
+unfoldable pub int-such-that : (ℕ → Bool) → Value → Bool
+int-such-that p Nothing = false
+int-such-that p (Int b) = p b
+int-such-that p (Float b) = false
+int-such-that p (Truth t) = false
+
+unfoldable pub int-or-nothing : Value → Bool
+int-or-nothing Nothing = true
+int-or-nothing (Int b) = true
+int-or-nothing (Float b) = false
+int-or-nothing (Truth t) = false
+
+unfoldable pub float-or-nothing : Value → Bool
+float-or-nothing Nothing = true
+float-or-nothing (Int b) = false
+float-or-nothing (Float b) = true
+float-or-nothing (Truth t) = false
+
+unfoldable pub good-setting : Circuit → Setting → Value → Bool
+good-setting c anything v = true
+good-setting c ticks v = int-or-nothing v
+good-setting c seconds v = float-or-nothing v
+good-setting c variable v = int-such-that (λ g. eqb (kind-of-gate c g) 5) v
+good-setting c channel v = int-such-that (within 0 255) v
+
+-- of input i, its source and stored words
+unfoldable pub good-input : Circuit → ℕ → In → ℕ → ℕ → Value → Bool
+good-input c K pin src k v =
+    (if eqb src minus-one then true else value-output c src && pin .source && eqb k 0)
+    && within 0 K k && (eqb k 0 || pin .constant) && good-setting c (pin .setting) v
+
+unfoldable pub question-4 : List ℕ → Circuit → Bool
+question-4 ws c =
+    let I = word-at ws 2 in
+    let inputs = 4 + 2 * (word-at ws 1 + word-at ws 0) in
+    all (λ i. good-input c (word-at ws 1) (getD (c .pins) i value) (word-at ws (inputs + i)) (word-at ws (inputs + I + i)) (stored-in c i)) (from 0 I)
+
+-- 5. Does each call go from an exec output or RER_Output to an E or RER_Input?
+unfoldable pub may-call : Circuit → ℕ → Bool
+may-call c o = ltb o (length (c .outputs)) && (elim (getD (c .outputs) o shows) [ fires ↦ true | shows ↦ false | passes ↦ true ])
+
+unfoldable pub may-be-called : Circuit → ℕ → Bool
+may-be-called c t = ltb (t / 2) (length (c .pins)) && getD (c .pins) (t / 2) value .called
+
+unfoldable pub question-5 : List ℕ → Circuit → Bool
+question-5 ws c =
+    let C = word-at ws 3 in
+    let calls = 4 + 2 * (word-at ws 1 + word-at ws 0 + word-at ws 2) in
+    all (may-call c) (part ws calls C) && all (may-be-called c) (part ws (calls + C) C)
+
+-- 6. Is there an order in which each pure gate comes after its pure sources? In each round a gate is placed if it is not pure, or if all its sources were placed
+-- before; as many rounds as there are gates place all that an order can.
+unfoldable pub source-placed : Circuit → List Bool → ℕ → Bool
+source-placed c placed i = elim (source c i) [ none ↦ true | some o ↦ getD placed (gate-at-output c o) true ]
+
+unfoldable pub place : Circuit → List Bool → List Bool
+place c placed = map (λ g. not (pure (kind-of-gate c g)) || all (source-placed c placed) (inputs-of c g)) (gates c)
+
+unfoldable pub place-on : Circuit → ℕ → List Bool → List Bool
+place-on c zero placed = placed
+place-on c (suc n) placed = place-on c n (place c placed)
+
+unfoldable pub question-6 : Circuit → Bool
+question-6 c = yes-all (place-on c (length (c .kinds)) (map (λ k. not (pure k)) (c .kinds)))
+
+-- 7. Are there at most 8 Queues, and are the areas at least 65,536 bytes, delays times the number of Queues if above 1?
+pub record Areas : Type 0 where
+  pub values : ℕ
+  pub units : ℕ
+  pub delays : ℕ
+
+unfoldable pub queues : Circuit → ℕ
+queues c = length (gates-of c (within 16 17))
+
+-- a call that is lent no areas asks only the first half
+unfoldable pub question-7 : Option Areas → Circuit → Bool
+question-7 none c = leb (queues c) 8
+question-7 (some a) c = leb (queues c) 8 && leb 65536 (a .values) && leb 65536 (a .units) && leb (65536 * max 1 (queues c)) (a .delays)
+
+-- 8. Is the script of whole words, at least two, T 0 to 100,000, S 0 to 65,535, length as these give?
+unfoldable pub question-8 : List ℕ → List ℕ → Bool
+question-8 bytes ws =
+    eqb (length bytes % 8) 0 && leb 2 (length ws) && within 0 100000 (word-at ws 0) && within 0 65535 (word-at ws 1)
+    && eqb (length ws) (2 + 2 * (word-at ws 0 + word-at ws 1))
+
+-- 9. Is each tick length finite and 0 (-0.0 too) to 3,600, each count 0 to 64, their sum S?
+unfoldable pub good-length : ℕ → Bool
+good-length b = finite b && le64 0 b && le64 b 0x40AC200000000000
+
+unfoldable pub question-9 : List ℕ → Bool
+question-9 ws =
+    let T = word-at ws 0 in
+    all good-length (part ws 2 T) && all (within 0 64) (part ws (2 + T) T) && eqb (sum (part ws (2 + T) T)) (word-at ws 1)
+
+-- 10. Is each stimulus gate of kind 28, its constant 0 to K?
+unfoldable pub question-10 : ℕ → List ℕ → Circuit → Bool
+question-10 K ws c =
+    let S = word-at ws 1 in
+    let stimuli = 2 + 2 * word-at ws 0 in
+    all (λ g. eqb (kind-of-gate c g) 28) (part ws stimuli S) && all (within 0 K) (part ws (stimuli + S) S)
+
+-- The number of the first question whose answer is no, and 0 where all are yes; `areas` is none for a call that is lent none.
+unfoldable pub refusal : Option Areas → List ℕ → List ℕ → ℕ
+refusal areas circuit-bytes script-bytes =
+    let cw = words circuit-bytes in
+    let sw = words script-bytes in
+    let c = circuit cw in
+    if not (question-1 circuit-bytes cw) then 1
+    else if not (question-2 cw) then 2
+    else if not (question-3 cw c) then 3
+    else if not (question-4 cw c) then 4
+    else if not (question-5 cw c) then 5
+    else if not (question-6 c) then 6
+    else if not (question-7 areas c) then 7
+    else if not (question-8 script-bytes sw) then 8
+    else if not (question-9 sw) then 9
+    else if not (question-10 (word-at cw 1) sw c) then 10
+    else 0
+
+unfoldable pub questions-opened : ℕ
+unfolding within finite yes-all question-1 good-constant question-2 question-3 value-output int-such-that int-or-nothing float-or-nothing good-setting good-input question-4 may-call may-be-called question-5 source-placed place place-on question-6 queues question-7 question-8 good-length question-9 question-10 refusal
+questions-opened = 0

@@ -1,0 +1,64 @@
+-- A run: the machine, as `schedule` schedules it, and what is seen of the list of its ticks.
+use Prim.Native.Nat.{ℕ, zero, suc}
+use mathlib.Core.Bool.{Bool, true, false}
+use mathlib.Core.List.{List, [], _∷_, map}
+use lib.Dec.{eqb}
+use lib.ListN.{length}
+use Rattle.schedule.specs.Schedule.{Did, Outcome, Closed, Place, Machine, Setup, plain, Tick, run}
+use Rattle.model.specs.Base.{if_then_else_, keep, joined}
+use Rattle.model.specs.Circuit.{Circuit, rank-of-gate}
+use Rattle.model.specs.Script.{Given}
+use Rattle.model.specs.State.{Act}
+use Rattle.model.specs.Opening.{Opened, open-tick, start}
+use Rattle.model.specs.Unit.{World, state≔, raises-in, run-unit, finish-chain}
+use Rattle.model.specs.Record.{read-outputs, close}
+
+-- the steps of a tick
+abbrev pub most-steps : ℕ
+most-steps = 50000000
+
+-- What is seen of a run: the words of its log, the stop that ended it, or 0, and the ticks done, which are the records written with stop 0.
+pub record Played : Type 0 where
+  pub log : List ℕ
+  pub stop : ℕ
+  pub ticks : ℕ
+
+module _ (c : Circuit) (limit : ℕ) where
+  unfoldable pub opening : World → Given → Did World Act Place
+  opening w given =
+      let z = open-tick c (w .state) given in
+      record { world = state≔ w limit (z .state); raises = raises-in w limit (z .raises); stop = 0 }
+
+  unfoldable pub body : World → Act → Did World Act (Unit {0})
+  body w a = finish-chain c w (run-unit c w a)
+
+  unfoldable pub closing : World → Outcome Act → Closed World
+  closing w o = close limit (state≔ w (w .left) (read-outputs c (w .state) (o .stop))) o
+
+  -- The machine of a circuit, whose ticks may make `limit` steps each. A unit's rank is its gate's.
+  abbrev pub machine : Machine
+  machine = record { W = World; In = Given; Act = Act; rank = λ a. rank-of-gate c (a .gate); opening = opening; body = body; closing = closing }
+
+  -- before tick 1, with a log of so many bytes
+  unfoldable pub world-at-start : ℕ → World
+  world-at-start room = record { state = start c; left = limit; room = room; logged = [] }
+
+  -- the ticks of a script
+  unfoldable pub ticks-of : ℕ → List Given → List (Tick (plain machine))
+  ticks-of room given = run (plain machine) given (world-at-start room)
+
+  unfoldable pub last-stop : List (Tick (plain machine)) → ℕ
+  last-stop [] = 0
+  last-stop (t ∷ ts) = if eqb (t .stop) 0 then last-stop ts else t .stop
+
+  unfoldable pub seen : List (Tick (plain machine)) → Played
+  seen ts =
+      record {
+        log = joined (map (λ (t : Tick (plain machine)). t .world .logged) ts);
+        stop = last-stop ts;
+        ticks = length (keep (λ (t : Tick (plain machine)). eqb (t .stop) 0) ts);
+      }
+
+  unfoldable pub run-opened : ℕ
+  unfolding opening body closing world-at-start ticks-of last-stop seen
+  run-opened = 0

@@ -1,0 +1,93 @@
+-- Publishing the Vars that a unit wrote, and settling: each watched input that a change reached is read again and acted on. Only this raises activations
+-- inside a pass.
+use Prim.Native.Nat.{ℕ, zero, suc, _+_, _-_, _*_}
+use mathlib.Core.Bool.{Bool, true, false, _||_}
+use mathlib.Core.List.{List, [], _∷_, _++_}
+use mathlib.Core.Option.{Option, none, some}
+use lib.Dec.{eqb}
+use lib.ListN.{length, getD, set}
+use Rattle.schedule.specs.Schedule.{Raise}
+use Rattle.model.specs.declared.Value.{Value}
+use Rattle.model.specs.declared.Value.the-variants.{Nothing, Bool as Truth}
+use Rattle.model.specs.Base.{if_then_else_, each}
+use Rattle.model.specs.Value.{truthy, as-float, same, lt64}
+use Rattle.model.specs.Circuit.{Circuit, kind-of-gate, input, output, gate-at-input}
+use Rattle.model.specs.State.{Act, State, to-check≔, wires≔, last≔, pulses≔, written≔}
+use Rattle.model.specs.Wires.{look, ready, refresh-all, mark-readers}
+use Rattle.model.specs.Delays.{buffer-input}
+use Rattle.model.specs.Exec.{delay, delay≔, set-output, countdown}
+
+-- a state, and what was raised on the way to it, in order, each with the state at that moment
+pub record Settled : Type 0 where
+  pub state : State
+  pub raises : List (Raise State Act (Unit {0}))
+
+unfoldable pub calm : State → Settled
+calm s = record { state = s; raises = [] }
+
+unfoldable pub raise : State → ℕ → ℕ → Settled
+raise s g form = record { state = s; raises = record { at = s; act = record { gate = g; form = form; row = [] }; place = tt } ∷ [] }
+
+-- what the last check read, nothing where there was none; and whether it is what is read now
+unfoldable pub last-value : Option Value → Value
+last-value none = Nothing
+last-value (some u) = u
+
+unfoldable pub unchanged : Option Value → Value → Bool
+unchanged none v = false
+unchanged (some u) v = same u v
+
+module _ (c : Circuit) where
+  -- the Vars written reach what reads them, in the order of their first write, also where the value did not change
+  unfoldable pub publish-writes : State → State
+  publish-writes s = written≔ (wires≔ s (each (mark-readers c) (s .wires) (s .written))) []
+
+  -- a detector's output goes up, or stays up, from this tick on
+  unfoldable pub pulse : State → ℕ → State
+  pulse s o = let t = set-output c s o (Truth true) in pulses≔ t (set (t .pulses) o (t .tick))
+
+  -- kinds 7 and 9 compare as Floats, nothing as 0.0: rising is output 0, falling output 1
+  unfoldable pub edge : State → Value → Value → (State → ℕ → Settled) → Settled
+  edge s was now hit =
+      if lt64 (as-float 0 was) (as-float 0 now) then hit s 0 else if lt64 (as-float 0 now) (as-float 0 was) then hit s 1 else calm s
+
+  -- watched input p of gate g changed: a detector, a value buffer, or an exec pin, which raises where the value is true
+  unfoldable pub detect : ℕ → State → ℕ → ℕ → Value → Value → Settled
+  detect k s g p was now =
+      if eqb k 6 then raise s g 0
+      else if eqb k 7 then edge s was now (λ t o. calm (pulse t (output c g o)))
+      else if eqb k 8 then calm (pulse s (output c g 0))
+      else if eqb k 9 then edge s was now (λ t o. raise t g (32 + o))
+      else if eqb k 10 || eqb k 12 then calm (delay≔ c s g (buffer-input (delay c s g) now (countdown c g (truthy now))))
+      else if truthy now then raise s g (16 + p)
+      else calm s
+
+  -- `last` is replaced at every check, and acted on is only a change
+  unfoldable pub compared : State → ℕ → Option Value → Value → Settled
+  compared s i was now =
+      let t = last≔ s (set (s .last) i (some now)) in
+      if unchanged was now then calm t else detect (kind-of-gate c (gate-at-input c i)) t (gate-at-input c i) (i - input c (gate-at-input c i) 0) (last-value was) now
+
+  unfoldable pub check : State → ℕ → Settled
+  check s i = let t = wires≔ s (ready c (s .wires) i) in compared t i (getD (s .last) i none) (look c (t .wires) i)
+
+  -- first in, first out; an input taken may be queued again
+  unfoldable pub check-on : ℕ → Settled → Settled
+  check-on zero z = z
+  check-on (suc n) z =
+      let w = z .state .wires in
+      elim (w .to-check) [
+        | [] ↦ z
+        | (i ∷ is) ↦
+            let r = check (wires≔ (z .state) (to-check≔ w is (set (w .queued) i false))) i in
+            check-on n (record { state = r .state; raises = z .raises ++ r .raises })
+      ]
+
+  -- What is stale at its start is refreshed first; what becomes stale on the way stays so. Inputs are queued again only when a pulse goes up, and none goes
+  -- down here, so these rounds suffice.
+  unfoldable pub settle : State → Settled
+  settle s = check-on (suc (length (c .pins)) * suc (length (c .outputs))) (calm (wires≔ s (refresh-all c (s .wires))))
+
+  unfoldable pub settle-opened : ℕ
+  unfolding calm raise last-value unchanged publish-writes pulse edge detect compared check check-on settle
+  settle-opened = 0

@@ -1,0 +1,120 @@
+-- What the machine holds. Names are the source's.
+use Prim.Native.Nat.{ℕ}
+use mathlib.Core.Bool.{Bool, true, false}
+use mathlib.Core.List.{List, []}
+use mathlib.Core.Option.{Option, none}
+use Rattle.model.specs.declared.Value.{Value}
+
+-- What wires show. `outs` has a value for each output; a Var's storage is its Value. `dirty` has a mark for each gate: a pure gate that is stale. `to-check` has
+-- the watched inputs that wait to be checked, the oldest first, and `queued` a mark for each input that does. `dt` and `uptime` are f64 bits.
+pub record Wires : Type 0 where
+  pub outs : List Value
+  pub dirty : List Bool
+  pub to-check : List ℕ
+  pub queued : List Bool
+  pub dt : ℕ
+  pub uptime : ℕ
+
+-- ticks left, 0 when it is due; or seconds to wait and seconds so far, as f32 bits
+pub data Countdown : Type 0 where
+  ticks-left : ℕ → Countdown
+  seconds : ℕ → ℕ → Countdown
+
+-- a value that lands when its countdown is due
+pub record Flight : Type 0 where
+  pub what : Value
+  pub left : Countdown
+
+-- a record of a Queue: the eight values travel together with their countdown
+pub record Queued : Type 0 where
+  pub row : List Value
+  pub left : Countdown
+
+-- One small state for each gate, of which each kind uses its own part: a value buffer the value in flight and the last later input, a buffer in exec mode the
+-- fires under way, a Clock and a Stopwatch the seconds so far, as f64 bits, a Stopwatch whether it runs, a Queue its records; the oldest first.
+pub record Delay : Type 0 where
+  pub flight : Option Flight
+  pub later : Option Value
+  pub fires : List Countdown
+  pub elapsed : ℕ
+  pub running : Bool
+  pub records : List Queued
+
+-- What an activation runs: a gate, a form as in the log, and the values that it brings (Event: eight, World: one or none).
+-- Forms: 0 Fire, 1 Event, 2 World, 16 + pin, 32 + output.
+pub record Act : Type 0 where
+  pub gate : ℕ
+  pub form : ℕ
+  pub row : List Value
+
+-- a custom event sent, with its data as read
+pub record Send : Type 0 where
+  pub gate : ℕ
+  pub row : List Value
+
+-- `last` has for each watched input what its last check read, or none; `pulses` for each output the tick in which its pulse was last raised, 0 for none;
+-- `written` the Vars written by this unit, each once, in the order of its first write; `unions-passed` the Unions that have passed in this tick.
+pub record State : Type 0 where
+  pub tick : ℕ
+  pub wires : Wires
+  pub last : List (Option Value)
+  pub pulses : List ℕ
+  pub delays : List Delay
+  pub written : List ℕ
+  pub unions-passed : List ℕ
+  pub outbox : List Send
+
+-- nothing under way
+unfoldable pub idle : Delay
+idle = record { flight = none; later = none; fires = []; elapsed = 0; running = false; records = [] }
+
+-- ---- one field changed, or two
+
+unfoldable pub flight≔ : Delay → Option Flight → Option Value → Delay
+flight≔ d f l = record { flight = f; later = l; fires = d.fires; elapsed = d.elapsed; running = d.running; records = d.records }
+
+unfoldable pub fires≔ : Delay → List Countdown → Delay
+fires≔ d ks = record { flight = d.flight; later = d.later; fires = ks; elapsed = d.elapsed; running = d.running; records = d.records }
+
+unfoldable pub elapsed≔ : Delay → ℕ → Bool → Delay
+elapsed≔ d t r = record { flight = d.flight; later = d.later; fires = d.fires; elapsed = t; running = r; records = d.records }
+
+unfoldable pub records≔ : Delay → List Queued → Delay
+records≔ d qs = record { flight = d.flight; later = d.later; fires = d.fires; elapsed = d.elapsed; running = d.running; records = qs }
+
+unfoldable pub outs≔ : Wires → List Value → Wires
+outs≔ w x = record { outs = x; dirty = w.dirty; to-check = w.to-check; queued = w.queued; dt = w.dt; uptime = w.uptime }
+
+unfoldable pub dirty≔ : Wires → List Bool → Wires
+dirty≔ w x = record { outs = w.outs; dirty = x; to-check = w.to-check; queued = w.queued; dt = w.dt; uptime = w.uptime }
+
+unfoldable pub to-check≔ : Wires → List ℕ → List Bool → Wires
+to-check≔ w x y = record { outs = w.outs; dirty = w.dirty; to-check = x; queued = y; dt = w.dt; uptime = w.uptime }
+
+unfoldable pub times≔ : Wires → ℕ → ℕ → Wires
+times≔ w x y = record { outs = w.outs; dirty = w.dirty; to-check = w.to-check; queued = w.queued; dt = x; uptime = y }
+
+unfoldable pub wires≔ : State → Wires → State
+wires≔ s x = record { tick = s.tick; wires = x; last = s.last; pulses = s.pulses; delays = s.delays; written = s.written; unions-passed = s.unions-passed; outbox = s.outbox }
+
+unfoldable pub last≔ : State → List (Option Value) → State
+last≔ s x = record { tick = s.tick; wires = s.wires; last = x; pulses = s.pulses; delays = s.delays; written = s.written; unions-passed = s.unions-passed; outbox = s.outbox }
+
+unfoldable pub pulses≔ : State → List ℕ → State
+pulses≔ s x = record { tick = s.tick; wires = s.wires; last = s.last; pulses = x; delays = s.delays; written = s.written; unions-passed = s.unions-passed; outbox = s.outbox }
+
+unfoldable pub delays≔ : State → List Delay → State
+delays≔ s x = record { tick = s.tick; wires = s.wires; last = s.last; pulses = s.pulses; delays = x; written = s.written; unions-passed = s.unions-passed; outbox = s.outbox }
+
+unfoldable pub written≔ : State → List ℕ → State
+written≔ s x = record { tick = s.tick; wires = s.wires; last = s.last; pulses = s.pulses; delays = s.delays; written = x; unions-passed = s.unions-passed; outbox = s.outbox }
+
+unfoldable pub unions-passed≔ : State → List ℕ → State
+unions-passed≔ s x = record { tick = s.tick; wires = s.wires; last = s.last; pulses = s.pulses; delays = s.delays; written = s.written; unions-passed = x; outbox = s.outbox }
+
+unfoldable pub outbox≔ : State → List Send → State
+outbox≔ s x = record { tick = s.tick; wires = s.wires; last = s.last; pulses = s.pulses; delays = s.delays; written = s.written; unions-passed = s.unions-passed; outbox = x }
+
+unfoldable pub state-opened : ℕ
+unfolding idle flight≔ fires≔ elapsed≔ records≔ outs≔ dirty≔ to-check≔ times≔ wires≔ last≔ pulses≔ delays≔ written≔ unions-passed≔ outbox≔
+state-opened = 0

@@ -1,0 +1,202 @@
+-- Document 01's played examples, those marked * among them, and what looks right but is wrong, as one table with one theorem: the prover computes each row
+-- from bytes. The answers were taken from the Rust, and read against document 01.
+use Prim.Native.Nat.{ℕ, _^_, _-_}
+use mathlib.Core.Path.{_≡_, refl}
+use mathlib.Core.List.{List, [], _∷_, map}
+use Rattle.words.specs.Words.{bytes}
+use Rattle.model.specs.Base.{joined}
+use Rattle.model.specs.Value.{narrow}
+use Rattle.model.specs.Questions.{Areas}
+use Rattle.model.specs.Answer.{Answer, refused, played, answer, model-opened}
+
+-- the arrays of a circuit and of a script, one behind the other, and what the call answers that is lent a log and three areas of 65,536 bytes each
+pub record Row : Type 0 where
+  pub circuit : List (List ℕ)
+  pub script : List (List ℕ)
+  pub wanted : Answer
+
+unfoldable pub row : List (List ℕ) → List (List ℕ) → Answer → Row
+row c s a = record { circuit = c; script = s; wanted = a }
+
+-- records, the stop, and the ticks done
+unfoldable pub plays : List (List ℕ) → ℕ → ℕ → Answer
+plays records stop ticks = played (record { log = joined records; stop = stop; ticks = ticks })
+
+unfoldable pub answered : Row → Answer
+answered r = answer (record { values = 65536; units = 65536; delays = 65536 }) 65536 (bytes (joined (r .circuit))) (bytes (joined (r .script)))
+
+-- the word -1
+abbrev -1 : ℕ
+-1 = 2 ^ 64 - 1
+
+unfoldable pub rows : List Row
+rows =
+    -- * A WorldEvent calls a Toggle.
+    row
+    ((2 ∷ 1 ∷ 1 ∷ 1 ∷ []) ∷ (1 ∷ []) ∷ (7 ∷ []) ∷ (28 ∷ 22 ∷ []) ∷ (0 ∷ 1 ∷ []) ∷ (-1 ∷ []) ∷ (0 ∷ []) ∷ (0 ∷ []) ∷ (0 ∷ []) ∷ [])
+    ((1 ∷ 1 ∷ []) ∷ (4598175219545276416 ∷ []) ∷ (1 ∷ []) ∷ (0 ∷ []) ∷ (1 ∷ []) ∷ [])
+    (plays
+    ((1 ∷ 1 ∷ 1 ∷ 0 ∷ 0 ∷ 0 ∷ 0 ∷ 2 ∷ 0 ∷ 1 ∷ 0 ∷ 3 ∷ 0 ∷ 7 ∷ 0 ∷ 1 ∷ [])
+    ∷ []) 0 1)
+    -- * T = 0: an empty log.
+    ∷ row
+    ((2 ∷ 1 ∷ 1 ∷ 1 ∷ []) ∷ (1 ∷ []) ∷ (7 ∷ []) ∷ (28 ∷ 22 ∷ []) ∷ (0 ∷ 1 ∷ []) ∷ (-1 ∷ []) ∷ (0 ∷ []) ∷ (0 ∷ []) ∷ (0 ∷ []) ∷ [])
+    ((0 ∷ 0 ∷ []) ∷ [] ∷ [] ∷ [] ∷ [] ∷ [])
+    (plays [] 0 0)
+    -- * In a main pass a Clock of rank 4 raises two EdgeExecs: the one of rank 4 is carried, and begins first in tick 2's late pass; the one of rank 5 begins in this tick.
+    ∷ row
+    ((4 ∷ 1 ∷ 6 ∷ 1 ∷ []) ∷ (2 ∷ []) ∷ (4598175219545276416 ∷ []) ∷ (14 ∷ 22 ∷ 9 ∷ 9 ∷ []) ∷ (4 ∷ 0 ∷ 4 ∷ 5 ∷ []) ∷ (-1 ∷ -1 ∷ -1 ∷ -1 ∷ 2 ∷ 2 ∷ []) ∷ (0 ∷ 0 ∷ 1 ∷ 0 ∷ 0 ∷ 0 ∷ []) ∷ (0 ∷ []) ∷ (6 ∷ []) ∷ [])
+    ((2 ∷ 0 ∷ []) ∷ (4598175219545276416 ∷ 0 ∷ []) ∷ (0 ∷ 0 ∷ []) ∷ [] ∷ [] ∷ [])
+    (plays
+    ((1 ∷ 1 ∷ 0 ∷ 2 ∷ 1 ∷ 0 ∷ 0 ∷ 3 ∷ 0 ∷ 32 ∷ 0 ∷ 0 ∷ 3 ∷ 0 ∷ 0 ∷ 0 ∷ 0 ∷ 0 ∷ 0 ∷ 1 ∷ 0 ∷ 0 ∷ 0 ∷ 0 ∷ [])
+    ∷ (2 ∷ 0 ∷ 1 ∷ 0 ∷ 0 ∷ 0 ∷ 2 ∷ 32 ∷ 0 ∷ 0 ∷ 3 ∷ 0 ∷ 0 ∷ 0 ∷ 0 ∷ 0 ∷ 0 ∷ 1 ∷ 0 ∷ 0 ∷ 0 ∷ 0 ∷ [])
+    ∷ []) 0 2)
+    -- * A pulse raised in tick 5 is true in records 5 and 6, and false in 7.
+    ∷ row
+    ((2 ∷ 1 ∷ 1 ∷ 0 ∷ []) ∷ (1 ∷ []) ∷ (1 ∷ []) ∷ (28 ∷ 7 ∷ []) ∷ (0 ∷ 0 ∷ []) ∷ (1 ∷ []) ∷ (0 ∷ []) ∷ [] ∷ [] ∷ [])
+    ((7 ∷ 1 ∷ []) ∷ (0 ∷ 0 ∷ 0 ∷ 0 ∷ 0 ∷ 0 ∷ 0 ∷ []) ∷ (0 ∷ 0 ∷ 0 ∷ 0 ∷ 1 ∷ 0 ∷ 0 ∷ []) ∷ (0 ∷ []) ∷ (1 ∷ []) ∷ [])
+    (plays
+    ((1 ∷ 0 ∷ 0 ∷ 0 ∷ 0 ∷ 0 ∷ 0 ∷ 0 ∷ 0 ∷ 0 ∷ 0 ∷ 0 ∷ 0 ∷ 0 ∷ [])
+    ∷ (2 ∷ 0 ∷ 0 ∷ 0 ∷ 0 ∷ 0 ∷ 0 ∷ 0 ∷ 0 ∷ 0 ∷ 0 ∷ 0 ∷ 0 ∷ 0 ∷ [])
+    ∷ (3 ∷ 0 ∷ 0 ∷ 0 ∷ 0 ∷ 0 ∷ 0 ∷ 0 ∷ 0 ∷ 0 ∷ 0 ∷ 0 ∷ 0 ∷ 0 ∷ [])
+    ∷ (4 ∷ 0 ∷ 0 ∷ 0 ∷ 0 ∷ 0 ∷ 0 ∷ 0 ∷ 0 ∷ 0 ∷ 0 ∷ 0 ∷ 0 ∷ 0 ∷ [])
+    ∷ (5 ∷ 0 ∷ 1 ∷ 0 ∷ 0 ∷ 0 ∷ 0 ∷ 2 ∷ 0 ∷ 1 ∷ 3 ∷ 0 ∷ 0 ∷ 1 ∷ 1 ∷ 0 ∷ [])
+    ∷ (6 ∷ 0 ∷ 0 ∷ 0 ∷ 0 ∷ 0 ∷ 0 ∷ 1 ∷ 3 ∷ 0 ∷ 0 ∷ 1 ∷ 1 ∷ 0 ∷ [])
+    ∷ (7 ∷ 0 ∷ 0 ∷ 0 ∷ 0 ∷ 0 ∷ 0 ∷ 1 ∷ 3 ∷ 0 ∷ 0 ∷ 1 ∷ 0 ∷ 0 ∷ [])
+    ∷ []) 0 7)
+    -- * Interval 1.0, ticks of 0.25: a Clock fires in ticks 4 and 8.
+    ∷ row
+    ((1 ∷ 1 ∷ 3 ∷ 0 ∷ []) ∷ (2 ∷ []) ∷ (4607182418800017408 ∷ []) ∷ (14 ∷ []) ∷ (0 ∷ []) ∷ (-1 ∷ -1 ∷ -1 ∷ []) ∷ (0 ∷ 0 ∷ 1 ∷ []) ∷ [] ∷ [] ∷ [])
+    ((8 ∷ 0 ∷ []) ∷ (4598175219545276416 ∷ 4598175219545276416 ∷ 4598175219545276416 ∷ 4598175219545276416 ∷ 4598175219545276416 ∷ 4598175219545276416 ∷ 4598175219545276416 ∷ 4598175219545276416 ∷ []) ∷ (0 ∷ 0 ∷ 0 ∷ 0 ∷ 0 ∷ 0 ∷ 0 ∷ 0 ∷ []) ∷ [] ∷ [] ∷ [])
+    (plays
+    ((1 ∷ 0 ∷ 0 ∷ 0 ∷ 0 ∷ 0 ∷ 0 ∷ 0 ∷ [])
+    ∷ (2 ∷ 0 ∷ 0 ∷ 0 ∷ 0 ∷ 0 ∷ 0 ∷ 0 ∷ [])
+    ∷ (3 ∷ 0 ∷ 0 ∷ 0 ∷ 0 ∷ 0 ∷ 0 ∷ 0 ∷ [])
+    ∷ (4 ∷ 0 ∷ 0 ∷ 1 ∷ 0 ∷ 0 ∷ 0 ∷ 0 ∷ 0 ∷ 0 ∷ [])
+    ∷ (5 ∷ 0 ∷ 0 ∷ 0 ∷ 0 ∷ 0 ∷ 0 ∷ 0 ∷ [])
+    ∷ (6 ∷ 0 ∷ 0 ∷ 0 ∷ 0 ∷ 0 ∷ 0 ∷ 0 ∷ [])
+    ∷ (7 ∷ 0 ∷ 0 ∷ 0 ∷ 0 ∷ 0 ∷ 0 ∷ 0 ∷ [])
+    ∷ (8 ∷ 0 ∷ 0 ∷ 1 ∷ 0 ∷ 0 ∷ 0 ∷ 0 ∷ 0 ∷ 0 ∷ [])
+    ∷ []) 0 8)
+    -- A Clock loses the excess: interval 1.0, ticks of 0.75, so it fires in ticks 2 and 4, and not in 3.
+    ∷ row
+    ((1 ∷ 1 ∷ 3 ∷ 0 ∷ []) ∷ (2 ∷ []) ∷ (4607182418800017408 ∷ []) ∷ (14 ∷ []) ∷ (0 ∷ []) ∷ (-1 ∷ -1 ∷ -1 ∷ []) ∷ (0 ∷ 0 ∷ 1 ∷ []) ∷ [] ∷ [] ∷ [])
+    ((4 ∷ 0 ∷ []) ∷ (4604930618986332160 ∷ 4604930618986332160 ∷ 4604930618986332160 ∷ 4604930618986332160 ∷ []) ∷ (0 ∷ 0 ∷ 0 ∷ 0 ∷ []) ∷ [] ∷ [] ∷ [])
+    (plays
+    ((1 ∷ 0 ∷ 0 ∷ 0 ∷ 0 ∷ 0 ∷ 0 ∷ 0 ∷ [])
+    ∷ (2 ∷ 0 ∷ 0 ∷ 1 ∷ 0 ∷ 0 ∷ 0 ∷ 0 ∷ 0 ∷ 0 ∷ [])
+    ∷ (3 ∷ 0 ∷ 0 ∷ 0 ∷ 0 ∷ 0 ∷ 0 ∷ 0 ∷ [])
+    ∷ (4 ∷ 0 ∷ 0 ∷ 1 ∷ 0 ∷ 0 ∷ 0 ∷ 0 ∷ 0 ∷ 0 ∷ [])
+    ∷ []) 0 4)
+    -- * Two Cycles, Count 3, each from nothing: up gives 1, down gives 2.
+    ∷ row
+    ((3 ∷ 1 ∷ 6 ∷ 2 ∷ []) ∷ (1 ∷ []) ∷ (3 ∷ []) ∷ (28 ∷ 23 ∷ 23 ∷ []) ∷ (0 ∷ 0 ∷ 0 ∷ []) ∷ (-1 ∷ -1 ∷ -1 ∷ -1 ∷ -1 ∷ -1 ∷ []) ∷ (0 ∷ 0 ∷ 1 ∷ 0 ∷ 0 ∷ 1 ∷ []) ∷ (0 ∷ 0 ∷ []) ∷ (0 ∷ 8 ∷ []) ∷ [])
+    ((1 ∷ 1 ∷ []) ∷ (0 ∷ []) ∷ (1 ∷ []) ∷ (0 ∷ []) ∷ (0 ∷ []) ∷ [])
+    (plays
+    ((1 ∷ 2 ∷ 1 ∷ 0 ∷ 0 ∷ 0 ∷ 0 ∷ 2 ∷ 0 ∷ 0 ∷ 0 ∷ 0 ∷ 1 ∷ 0 ∷ 0 ∷ 1 ∷ 0 ∷ 0 ∷ 0 ∷ 0 ∷ 1 ∷ 0 ∷ 0 ∷ 2 ∷ [])
+    ∷ []) 0 1)
+    -- A delivered event of rank 0 begins after the ranked late unit, a WorldEvent of rank 5.
+    ∷ row
+    ((3 ∷ 1 ∷ 11 ∷ 1 ∷ []) ∷ (1 ∷ []) ∷ (0 ∷ []) ∷ (28 ∷ 24 ∷ 26 ∷ []) ∷ (5 ∷ 0 ∷ 0 ∷ []) ∷ (-1 ∷ -1 ∷ -1 ∷ -1 ∷ -1 ∷ -1 ∷ -1 ∷ -1 ∷ -1 ∷ -1 ∷ -1 ∷ []) ∷ (0 ∷ 1 ∷ 0 ∷ 0 ∷ 0 ∷ 0 ∷ 0 ∷ 0 ∷ 0 ∷ 0 ∷ 1 ∷ []) ∷ (0 ∷ []) ∷ (0 ∷ []) ∷ [])
+    ((2 ∷ 2 ∷ []) ∷ (0 ∷ 0 ∷ []) ∷ (1 ∷ 1 ∷ []) ∷ (0 ∷ 0 ∷ []) ∷ (0 ∷ 0 ∷ []) ∷ [])
+    (plays
+    ((1 ∷ 1 ∷ 1 ∷ 0 ∷ 0 ∷ 0 ∷ 0 ∷ 2 ∷ 0 ∷ 0 ∷ 0 ∷ 0 ∷ 0 ∷ 0 ∷ 0 ∷ 0 ∷ 0 ∷ 0 ∷ 0 ∷ 0 ∷ 0 ∷ 0 ∷ 0 ∷ 0 ∷ 0 ∷ 0 ∷ 0 ∷ 0 ∷ 0 ∷ 0 ∷ 0 ∷ 0 ∷ [])
+    ∷ (2 ∷ 1 ∷ 2 ∷ 0 ∷ 0 ∷ 0 ∷ 0 ∷ 2 ∷ 2 ∷ 1 ∷ 0 ∷ 0 ∷ 0 ∷ 0 ∷ 0 ∷ 0 ∷ 0 ∷ 0 ∷ 0 ∷ 0 ∷ 0 ∷ 0 ∷ 0 ∷ 0 ∷ 0 ∷ 0 ∷ 0 ∷ 0 ∷ 0 ∷ 0 ∷ 0 ∷ 0 ∷ 0 ∷ 0 ∷ [])
+    ∷ []) 0 2)
+    -- Two records of a Queue are due in tick 2: one is handed out in tick 2, the other in tick 3.
+    ∷ row
+    ((2 ∷ 3 ∷ 10 ∷ 1 ∷ []) ∷ (1 ∷ 1 ∷ 1 ∷ []) ∷ (1 ∷ 7 ∷ 8 ∷ []) ∷ (28 ∷ 16 ∷ []) ∷ (0 ∷ 0 ∷ []) ∷ (-1 ∷ 1 ∷ -1 ∷ -1 ∷ -1 ∷ -1 ∷ -1 ∷ -1 ∷ -1 ∷ -1 ∷ []) ∷ (0 ∷ 0 ∷ 0 ∷ 0 ∷ 0 ∷ 0 ∷ 0 ∷ 0 ∷ 0 ∷ 1 ∷ []) ∷ (0 ∷ []) ∷ (0 ∷ []) ∷ [])
+    ((3 ∷ 2 ∷ []) ∷ (0 ∷ 0 ∷ 0 ∷ []) ∷ (2 ∷ 0 ∷ 0 ∷ []) ∷ (0 ∷ 0 ∷ []) ∷ (2 ∷ 3 ∷ []) ∷ [])
+    (plays
+    ((1 ∷ 2 ∷ 2 ∷ 0 ∷ 0 ∷ 0 ∷ 0 ∷ 0 ∷ 2 ∷ 2 ∷ 0 ∷ 1 ∷ 0 ∷ 0 ∷ 0 ∷ 0 ∷ 0 ∷ 0 ∷ 0 ∷ 0 ∷ 0 ∷ 0 ∷ 8 ∷ 0 ∷ 0 ∷ 0 ∷ 0 ∷ 0 ∷ 0 ∷ 0 ∷ 0 ∷ 0 ∷ [])
+    ∷ (2 ∷ 0 ∷ 1 ∷ 0 ∷ 0 ∷ 0 ∷ 1 ∷ 0 ∷ 0 ∷ 1 ∷ 0 ∷ 1 ∷ 0 ∷ 0 ∷ 0 ∷ 0 ∷ 0 ∷ 0 ∷ 0 ∷ 0 ∷ 8 ∷ 0 ∷ 7 ∷ 0 ∷ 0 ∷ 0 ∷ 0 ∷ 0 ∷ 0 ∷ 0 ∷ [])
+    ∷ (3 ∷ 0 ∷ 1 ∷ 0 ∷ 0 ∷ 0 ∷ 1 ∷ 0 ∷ 0 ∷ 1 ∷ 0 ∷ 1 ∷ 0 ∷ 0 ∷ 0 ∷ 0 ∷ 0 ∷ 0 ∷ 0 ∷ 0 ∷ 8 ∷ 0 ∷ 8 ∷ 0 ∷ 0 ∷ 0 ∷ 0 ∷ 0 ∷ 0 ∷ 0 ∷ [])
+    ∷ []) 0 3)
+    -- Marking takes the last one found first: an output's own watched reader (3), then the one behind its last pure reader (5), then the one behind the first (4).
+    ∷ row
+    ((6 ∷ 1 ∷ 5 ∷ 0 ∷ []) ∷ (1 ∷ []) ∷ (1 ∷ []) ∷ (28 ∷ 2 ∷ 2 ∷ 9 ∷ 9 ∷ 9 ∷ []) ∷ (0 ∷ 0 ∷ 0 ∷ 1 ∷ 1 ∷ 1 ∷ []) ∷ (1 ∷ 1 ∷ 1 ∷ 2 ∷ 3 ∷ []) ∷ (0 ∷ 0 ∷ 0 ∷ 0 ∷ 0 ∷ []) ∷ [] ∷ [] ∷ [])
+    ((1 ∷ 1 ∷ []) ∷ (0 ∷ []) ∷ (1 ∷ []) ∷ (0 ∷ []) ∷ (1 ∷ []) ∷ [])
+    (plays
+    ((1 ∷ 0 ∷ 4 ∷ 0 ∷ 0 ∷ 0 ∷ 0 ∷ 3 ∷ 5 ∷ 4 ∷ 2 ∷ 32 ∷ 32 ∷ 32 ∷ 0 ∷ 1 ∷ 1 ∷ 1 ∷ 0 ∷ 0 ∷ 0 ∷ 0 ∷ 0 ∷ 0 ∷ 0 ∷ 1 ∷ 1 ∷ 1 ∷ 0 ∷ 0 ∷ 0 ∷ 0 ∷ 0 ∷ 0 ∷ [])
+    ∷ []) 0 1)
+    -- Within one rank the late list has first what was carried (gate 6), then stimuli (3), then buffers and Queues by gate (1, 2), then Stopwatches (0).
+    ∷ row
+    ((7 ∷ 2 ∷ 22 ∷ 4 ∷ []) ∷ (2 ∷ 1 ∷ []) ∷ (4598175219545276416 ∷ 1 ∷ []) ∷ (15 ∷ 16 ∷ 11 ∷ 28 ∷ 14 ∷ 22 ∷ 9 ∷ []) ∷ (0 ∷ 0 ∷ 0 ∷ 0 ∷ 0 ∷ 0 ∷ 0 ∷ []) ∷ (-1 ∷ -1 ∷ -1 ∷ -1 ∷ -1 ∷ -1 ∷ -1 ∷ -1 ∷ -1 ∷ -1 ∷ -1 ∷ -1 ∷ -1 ∷ -1 ∷ -1 ∷ -1 ∷ -1 ∷ -1 ∷ -1 ∷ -1 ∷ -1 ∷ 16 ∷ []) ∷ (0 ∷ 0 ∷ 0 ∷ 1 ∷ 0 ∷ 0 ∷ 0 ∷ 0 ∷ 0 ∷ 0 ∷ 0 ∷ 0 ∷ 0 ∷ 2 ∷ 0 ∷ 2 ∷ 0 ∷ 0 ∷ 0 ∷ 1 ∷ 0 ∷ 0 ∷ []) ∷ (12 ∷ 12 ∷ 12 ∷ 14 ∷ []) ∷ (0 ∷ 8 ∷ 28 ∷ 40 ∷ []) ∷ [])
+    ((2 ∷ 2 ∷ []) ∷ (4598175219545276416 ∷ 4598175219545276416 ∷ []) ∷ (1 ∷ 1 ∷ []) ∷ (3 ∷ 3 ∷ []) ∷ (0 ∷ 0 ∷ []) ∷ [])
+    (plays
+    ((1 ∷ 4 ∷ 1 ∷ 1 ∷ 1 ∷ 0 ∷ 3 ∷ 4 ∷ 2 ∷ 0 ∷ 2 ∷ 0 ∷ 0 ∷ 0 ∷ 0 ∷ 0 ∷ 0 ∷ 0 ∷ 0 ∷ 0 ∷ 0 ∷ 0 ∷ 0 ∷ 0 ∷ 0 ∷ 0 ∷ 3 ∷ 0 ∷ 0 ∷ 0 ∷ 0 ∷ 0 ∷ 0 ∷ 0 ∷ 0 ∷ 0 ∷ 0 ∷ 0 ∷ 0 ∷ 0 ∷ 0 ∷ 0 ∷ 0 ∷ 0 ∷ 0 ∷ 1 ∷ 0 ∷ 0 ∷ [])
+    ∷ (2 ∷ 4 ∷ 5 ∷ 1 ∷ 1 ∷ 0 ∷ 6 ∷ 3 ∷ 1 ∷ 2 ∷ 0 ∷ 4 ∷ 32 ∷ 2 ∷ 0 ∷ 0 ∷ 0 ∷ 0 ∷ 2 ∷ 0 ∷ 0 ∷ 0 ∷ 0 ∷ 0 ∷ 0 ∷ 0 ∷ 0 ∷ 0 ∷ 0 ∷ 0 ∷ 0 ∷ 0 ∷ 0 ∷ 0 ∷ 3 ∷ 0 ∷ 0 ∷ 0 ∷ 0 ∷ 0 ∷ 0 ∷ 0 ∷ 0 ∷ 0 ∷ 0 ∷ 0 ∷ 0 ∷ 0 ∷ 0 ∷ 0 ∷ 0 ∷ 0 ∷ 0 ∷ 0 ∷ 0 ∷ 0 ∷ [])
+    ∷ []) 0 2)
+    -- Question 1: a word is missing.
+    ∷ row
+    ((2 ∷ 1 ∷ 1 ∷ 1 ∷ []) ∷ (1 ∷ []) ∷ (7 ∷ []) ∷ (28 ∷ 22 ∷ []) ∷ (0 ∷ 1 ∷ []) ∷ (-1 ∷ []) ∷ (0 ∷ []) ∷ (0 ∷ []) ∷ [] ∷ [])
+    ((1 ∷ 1 ∷ []) ∷ (4598175219545276416 ∷ []) ∷ (1 ∷ []) ∷ (0 ∷ []) ∷ (1 ∷ []) ∷ [])
+    (refused 1)
+    -- Question 2: a constant of kind 4.
+    ∷ row
+    ((2 ∷ 1 ∷ 1 ∷ 1 ∷ []) ∷ (4 ∷ []) ∷ (7 ∷ []) ∷ (28 ∷ 22 ∷ []) ∷ (0 ∷ 1 ∷ []) ∷ (-1 ∷ []) ∷ (0 ∷ []) ∷ (0 ∷ []) ∷ (0 ∷ []) ∷ [])
+    ((1 ∷ 1 ∷ []) ∷ (4598175219545276416 ∷ []) ∷ (1 ∷ []) ∷ (0 ∷ []) ∷ (1 ∷ []) ∷ [])
+    (refused 2)
+    -- Question 3: a gate of kind 29.
+    ∷ row
+    ((2 ∷ 1 ∷ 1 ∷ 1 ∷ []) ∷ (1 ∷ []) ∷ (7 ∷ []) ∷ (29 ∷ 22 ∷ []) ∷ (0 ∷ 1 ∷ []) ∷ (-1 ∷ []) ∷ (0 ∷ []) ∷ (0 ∷ []) ∷ (0 ∷ []) ∷ [])
+    ((1 ∷ 1 ∷ []) ∷ (4598175219545276416 ∷ []) ∷ (1 ∷ []) ∷ (0 ∷ []) ∷ (1 ∷ []) ∷ [])
+    (refused 3)
+    -- Question 4: a source that is an exec output.
+    ∷ row
+    ((2 ∷ 1 ∷ 1 ∷ 1 ∷ []) ∷ (1 ∷ []) ∷ (7 ∷ []) ∷ (28 ∷ 22 ∷ []) ∷ (0 ∷ 1 ∷ []) ∷ (0 ∷ []) ∷ (0 ∷ []) ∷ (0 ∷ []) ∷ (0 ∷ []) ∷ [])
+    ((1 ∷ 1 ∷ []) ∷ (4598175219545276416 ∷ []) ∷ (1 ∷ []) ∷ (0 ∷ []) ∷ (1 ∷ []) ∷ [])
+    (refused 4)
+    -- Question 5: a call from a value output.
+    ∷ row
+    ((2 ∷ 1 ∷ 1 ∷ 1 ∷ []) ∷ (1 ∷ []) ∷ (7 ∷ []) ∷ (28 ∷ 22 ∷ []) ∷ (0 ∷ 1 ∷ []) ∷ (-1 ∷ []) ∷ (0 ∷ []) ∷ (1 ∷ []) ∷ (0 ∷ []) ∷ [])
+    ((1 ∷ 1 ∷ []) ∷ (4598175219545276416 ∷ []) ∷ (1 ∷ []) ∷ (0 ∷ []) ∷ (1 ∷ []) ∷ [])
+    (refused 5)
+    -- Question 6: two Reroutes read each other.
+    ∷ row
+    ((2 ∷ 0 ∷ 2 ∷ 0 ∷ []) ∷ [] ∷ [] ∷ (2 ∷ 2 ∷ []) ∷ (0 ∷ 0 ∷ []) ∷ (1 ∷ 0 ∷ []) ∷ (0 ∷ 0 ∷ []) ∷ [] ∷ [] ∷ [])
+    ((0 ∷ 0 ∷ []) ∷ [] ∷ [] ∷ [] ∷ [] ∷ [])
+    (refused 6)
+    -- Question 7: two Queues, and areas of 65,536 bytes.
+    ∷ row
+    ((2 ∷ 0 ∷ 20 ∷ 0 ∷ []) ∷ [] ∷ [] ∷ (16 ∷ 17 ∷ []) ∷ (0 ∷ 0 ∷ []) ∷ (-1 ∷ -1 ∷ -1 ∷ -1 ∷ -1 ∷ -1 ∷ -1 ∷ -1 ∷ -1 ∷ -1 ∷ -1 ∷ -1 ∷ -1 ∷ -1 ∷ -1 ∷ -1 ∷ -1 ∷ -1 ∷ -1 ∷ -1 ∷ []) ∷ (0 ∷ 0 ∷ 0 ∷ 0 ∷ 0 ∷ 0 ∷ 0 ∷ 0 ∷ 0 ∷ 0 ∷ 0 ∷ 0 ∷ 0 ∷ 0 ∷ 0 ∷ 0 ∷ 0 ∷ 0 ∷ 0 ∷ 0 ∷ []) ∷ [] ∷ [] ∷ [])
+    ((0 ∷ 0 ∷ []) ∷ [] ∷ [] ∷ [] ∷ [] ∷ [])
+    (refused 7)
+    -- Question 8: a word of the script is missing.
+    ∷ row
+    ((2 ∷ 1 ∷ 1 ∷ 1 ∷ []) ∷ (1 ∷ []) ∷ (7 ∷ []) ∷ (28 ∷ 22 ∷ []) ∷ (0 ∷ 1 ∷ []) ∷ (-1 ∷ []) ∷ (0 ∷ []) ∷ (0 ∷ []) ∷ (0 ∷ []) ∷ [])
+    ((1 ∷ 1 ∷ []) ∷ (4598175219545276416 ∷ []) ∷ (1 ∷ []) ∷ (0 ∷ []) ∷ [] ∷ [])
+    (refused 8)
+    -- Question 9: a tick longer than 3,600 seconds.
+    ∷ row
+    ((2 ∷ 1 ∷ 1 ∷ 1 ∷ []) ∷ (1 ∷ []) ∷ (7 ∷ []) ∷ (28 ∷ 22 ∷ []) ∷ (0 ∷ 1 ∷ []) ∷ (-1 ∷ []) ∷ (0 ∷ []) ∷ (0 ∷ []) ∷ (0 ∷ []) ∷ [])
+    ((1 ∷ 1 ∷ []) ∷ (4660134898793709569 ∷ []) ∷ (1 ∷ []) ∷ (0 ∷ []) ∷ (1 ∷ []) ∷ [])
+    (refused 9)
+    -- Question 10: a stimulus of a Toggle.
+    ∷ row
+    ((2 ∷ 1 ∷ 1 ∷ 1 ∷ []) ∷ (1 ∷ []) ∷ (7 ∷ []) ∷ (28 ∷ 22 ∷ []) ∷ (0 ∷ 1 ∷ []) ∷ (-1 ∷ []) ∷ (0 ∷ []) ∷ (0 ∷ []) ∷ (0 ∷ []) ∷ [])
+    ((1 ∷ 1 ∷ []) ∷ (4598175219545276416 ∷ []) ∷ (1 ∷ []) ∷ (1 ∷ []) ∷ (1 ∷ []) ∷ [])
+    (refused 10)
+    ∷ []
+
+-- f64 bits, and the f32 bits that they are narrowed to
+pub record Narrowed : Type 0 where
+  pub wide : ℕ
+  pub narrow : ℕ
+
+unfoldable pub to : ℕ → ℕ → Narrowed
+to w n = record { wide = w; narrow = n }
+
+-- * 0.1; 1 + 2^-24, a tie; 1 + 3 × 2^-24, a tie; 2^-150, a tie; 2^128 - 2^103, a tie with infinity
+unfoldable pub narrowings : List Narrowed
+narrowings =
+    to 0x3FB999999999999A 0x3DCCCCCD
+    ∷ to 0x3FF0000010000000 0x3F800000
+    ∷ to 0x3FF0000030000000 0x3F800002
+    ∷ to 0x3690000000000000 0x00000000
+    ∷ to 0x47EFFFFFF0000000 0x7F800000
+    ∷ []
+
+pub played-examples : (map answered rows ≡ map (λ r. r .wanted) rows) × (map (λ n. narrow (n .wide)) narrowings ≡ map (λ n. n .narrow) narrowings)
+unfolding model-opened row plays answered rows to narrowings
+played-examples = (refl, refl)

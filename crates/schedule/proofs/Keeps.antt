@@ -1,0 +1,95 @@
+-- What opening, body and closing keep holds wherever a unit begins, and after each tick, of a whole run.
+use mathlib.Core.List.{List, [], _∷_}
+use Prim.Native.Nat.{ℕ, zero, suc}
+use lib.Dec.{eqb}
+use Rattle.schedule.specs.Schedule.{Raise, Outcome, Machine, Setup, Took, empty, took, Filed, full, filed, Activation, raise-on, raise-all, Turn, Passed, turning, no-turn, pass-on, pass, push-all, activate-open, next-late, activate-late, next-main, activate-main, most-units, MainQ, OpenQ, late-pass, main-pass, outcome, Tick, tick, go-on, run-on, run, list-full}
+use Rattle.schedule.specs.Promise.{All, [·], _∷·_}
+use Rattle.schedule.specs.Keeping.{Did-keep, Tick-keeps}
+
+module _ (S : Setup) where
+  open Setup S using (Tag, after)
+  open Machine (S .machine) using (W, In, Act, opening as opens, body as runs, closing as closes)
+
+  -- the same of a pass, with the world after it
+  record Pass-keeps {Q : Type 0} (P : W → Type 0) (k : Passed S Q) : Type 0 where
+    turns : All (λ (u : Turn S). P (u .from)) (k .turns)
+    world : P (k .world)
+
+  -- what opening, body and closing keep
+  module _ (P : W → Type 0) (opened : (w : W) (i : In) → P w → Did-keep P (opens w i)) (ran : (w : W) (a : Act) → P w → Did-keep P (runs w a))
+      (closed : (w : W) (o : Outcome Act) → P w → P (closes w o .world)) where
+    raise-all-keeps :
+        {Pl Q : Type 0} (activate : Pl → Activation S → Q → Filed Q) (rs : List (Raise W Act Pl)) (t : Tag) (q : Q) (w : W) (s : ℕ) →
+        P w → All (λ r. P (r .at)) rs → P (raise-all S activate rs t q w s .world)
+    unfolding raise-all
+    raise-all-keeps activate [] t q w s p a = p
+    raise-all-keeps activate (r ∷ rs) t q w s p (_∷·_ h a) =
+        go (activate (r .place) (record { act = r .act; tag = t }) q) (λ q₁. raise-all-keeps activate rs (after t) q₁ w s p a)
+      where
+        go :
+            (x : Filed _) → ((q₁ : _) → P (raise-all S activate rs (after t) q₁ w s .world)) →
+            P (raise-on S x (record { act = r .act; tag = t })
+            (record { raised = []; queue = q; next = t; world = r .at; stop = list-full })
+            (λ q₁. raise-all S activate rs (after t) q₁ w s) .world)
+        go full rec = h
+        go (filed q₁) rec = rec q₁
+
+    module _ {Q : Type 0} (next : Q → Took (Activation S) Q) (activate : Activation S → Activation S → Q → Filed Q) where
+      -- one unit, and the pass after it
+      turn : ℕ → Tag → W → Activation S → Q → Passed S Q
+      turn n t w u q =
+          let d = runs w (u .act) in
+          let k = raise-all S (λ (p : Unit {0}). activate u) (d .raises) t q (d .world) (d .stop) in
+          turning S u w (k .raised) (eqb (d .stop) 0) (pass S next activate n (k .next) (k .queue) (k .world) (k .stop))
+
+      pass-keeps : (n : ℕ) (t : Tag) (q : Q) (w : W) (s : ℕ) → P w → Pass-keeps P (pass S next activate n t q w s)
+      unfolding pass turn
+      pass-keeps zero t q w zero p = go (next q)
+        where
+          go : (x : Took (Activation S) Q) → Pass-keeps P (pass-on S x (no-turn S zero t q w 0) (λ u q′. no-turn S zero t q w list-full))
+          go empty = record { turns = [·]; world = p }
+          go (took u q′) = record { turns = [·]; world = p }
+      pass-keeps zero t q w (suc s) p = record { turns = [·]; world = p }
+      pass-keeps (suc n) t q w zero p = go (next q) (λ t₁ q₁ w₁ s₁ p₁. pass-keeps n t₁ q₁ w₁ s₁ p₁)
+        where
+          go :
+              (x : Took (Activation S) Q) →
+              ((t₁ : Tag) (q₁ : Q) (w₁ : W) (s₁ : ℕ) → P w₁ → Pass-keeps P (pass S next activate n t₁ q₁ w₁ s₁)) →
+              Pass-keeps P (pass-on S x (no-turn S (suc n) t q w 0) (turn n t w))
+          go empty rec = record { turns = [·]; world = p }
+          go (took u q′) rec =
+              let d = ran w (u .act) p in
+              let r = rec _ _ _ _ (raise-all-keeps (λ (p : Unit {0}). activate u) _ t q′ _ _ (d .world) (d .raises)) in
+              record { turns = _∷·_ p (r .turns); world = r .world }
+      pass-keeps (suc n) t q w (suc s) p = record { turns = [·]; world = p }
+
+    pub tick-keeps : (w : W) (i : In) (came : List (Activation S)) (t : Tag) → P w → Tick-keeps S P (tick S w i came t)
+    unfolding tick late-pass main-pass
+    tick-keeps w i came t p =
+        let d = opens w i in
+        let h = opened w i p in
+        let q₀ : OpenQ (Activation S) = record { lateq = record { late = push-all S came []; delivered = [] }; pending = [] } in
+        let o = raise-all S (activate-open S) (d .raises) t q₀ (d .world) (d .stop) in
+        let a = raise-all-keeps (activate-open S) (d .raises) t q₀ (d .world) (d .stop) (h .world) (h .raises) in
+        let l = pass S (next-late S) (activate-late S) most-units (o .next) (o .queue .lateq) (o .world) (o .stop) in
+        let b = pass-keeps (next-late S) (activate-late S) most-units (o .next) (o .queue .lateq) (o .world) (o .stop) a in
+        let q : MainQ (Activation S) = record { pending = o .queue .pending; carried = [] } in
+        let m = pass S (next-main S) (activate-main S) (l .left) (l .next) q (l .world) (l .stop) in
+        let e = pass-keeps (next-main S) (activate-main S) (l .left) (l .next) q (l .world) (l .stop) (b .world) in
+        record { late = b .turns; main = e .turns; world = closed (m .world) (outcome S (l .turns) (m .turns) (m .queue .carried) (m .stop)) (e .world) }
+
+    run-on-keeps : (is : List In) (w : W) (came : List (Activation S)) (t : Tag) → P w → All (Tick-keeps S P) (run-on S is w came t)
+    unfolding run-on
+    run-on-keeps [] w came t p = [·]
+    run-on-keeps (i ∷ is) w came t p =
+        let k = tick S w i came t in
+        let h = tick-keeps w i came t p in
+        _∷·_ h (go (k .stop) (run-on-keeps is (k .world) (k .carried) (k .next) (h .world)))
+      where
+        go : (s : ℕ) {ts : List (Tick S)} → All (Tick-keeps S P) ts → All (Tick-keeps S P) (go-on S s ts)
+        go zero a = a
+        go (suc s) a = [·]
+
+    pub run-keeps : (is : List In) (w : W) → P w → All (Tick-keeps S P) (run S is w)
+    unfolding run
+    run-keeps is w p = run-on-keeps is w [] _ p

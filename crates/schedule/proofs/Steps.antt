@@ -1,0 +1,157 @@
+-- What the scheduler's steps did, as data to go through: `Raises` for raising, `Passes` for a pass, and what was taken off a queue and put on it. Each case analysis is made here, once.
+use mathlib.Core.Path.{_≡_, refl, sym, ap}
+use mathlib.Core.List.{List, [], _∷_, _++_}
+use mathlib.Core.Bool.{Bool, true, false, cond}
+use mathlib.Core.Logic.{_⊎_, inl, inr}
+use Prim.Native.Nat.{ℕ, zero, suc, _+_, _<_}
+use native.Mathlib.Omega.{arith}
+use lib.ListN.{length}
+use lib.Dec.{leb, ltb, eqb}
+use borrow.Author.Tests.{ltb-true, eq-eqb}
+use Rattle.schedule.specs.Schedule.{Setup, Machine, Raise, Took, empty, took, Filed, full, filed, room, most-waiting, list-full, MainQ, OpenQ, Place, to-late, to-delivered, to-pending, Activation, rank-of, push, carries, activate-main, activate-open, next-main, next-main′, Raising, raise-on, raise-all, Turn, Passed, turning, no-turn, pass-on, pass}
+
+-- a queue that was filed is the one that there was room for
+pub room-is : {E Q : Type 0} (l : List E) (most : ℕ) {q q₁ : Q} → room l most q ≡ filed q₁ → (q₁ ≡ q) × (length l < most)
+room-is l most {q} {q₁} h = go (ltb (length l) most) refl h
+  where
+    go : (b : Bool) → ltb (length l) most ≡ b → cond b (filed q) full ≡ filed q₁ → (q₁ ≡ q) × (length l < most)
+    go true k h = (cc, ltb-true _ _ k)
+    go false k h = let z : _≡_ {A = ℕ} 0 1 = cc in let y : ⊥ = omega arith in absurd y
+
+module _ (S : Setup) where
+  open Setup S using (Tag, after)
+  open Machine (S .machine) using (W, Act, rank, body)
+
+  -- ---- taking and putting
+
+  -- the reason for carrying, in the promise's words
+  pub carries-is : (cursor : ℕ) (e : Activation S) → carries S cursor e ≡ leb (rank (e .act)) cursor
+  unfolding carries
+  carries-is cursor e = refl
+
+  -- what the main pass begins was the first pending one
+  pub next-main-is : (q : MainQ (Activation S)) (u : Activation S) (q₁ : MainQ (Activation S)) → next-main S q ≡ took u q₁ → (q .pending ≡ u ∷ q₁ .pending) × (q .carried ≡ q₁ .carried)
+  unfolding next-main
+  next-main-is q u q₁ h = go (q .pending) (q .carried) h
+    where
+      go : (l c : List (Activation S)) → next-main′ S l c ≡ took u q₁ → (l ≡ u ∷ q₁ .pending) × (c ≡ q₁ .carried)
+      go [] c h = (cc, cc)
+      go (e ∷ l) c h =
+          let hu : e ≡ u = cc in
+          let hq : record { pending = l; carried = c } ≡ q₁ = cc in
+          let hl : l ≡ q₁ .pending = ap (λ (q : MainQ (Activation S)). q .pending) hq in
+          (cc, ap (λ (q : MainQ (Activation S)). q .carried) hq)
+
+  -- where the main pass puts what the unit u raised
+  pub data To-main (u e : Activation S) (q q₁ : MainQ (Activation S)) : Type 0 where
+    at-carried :
+        leb (rank (e .act)) (rank (u .act)) ≡ true → length (q .carried) < most-waiting → q₁ .pending ≡ q .pending → q₁ .carried ≡ q .carried ++ (e ∷ []) →
+        To-main u e q q₁
+    at-pending :
+        leb (rank (e .act)) (rank (u .act)) ≡ false → length (q .pending) < most-waiting → q₁ .pending ≡ push S e (q .pending) → q₁ .carried ≡ q .carried →
+        To-main u e q q₁
+
+  pub activate-main-is : (u e : Activation S) (q q₁ : MainQ (Activation S)) → activate-main S u e q ≡ filed q₁ → To-main u e q q₁
+  unfolding activate-main
+  activate-main-is u e q q₁ h = go (carries S (rank-of S u) e) (sym (carries-is (rank-of S u) e)) h
+    where
+      go :
+          (b : Bool) → leb (rank (e .act)) (rank (u .act)) ≡ b →
+          cond b
+          (room (q .carried) most-waiting (record { pending = q .pending; carried = q .carried ++ (e ∷ []) }))
+          (room (q .pending) most-waiting (record { pending = push S e (q .pending); carried = q .carried }))
+          ≡ filed q₁ →
+          To-main u e q q₁
+      go true k h =
+          let r = room-is (q .carried) most-waiting h in
+          at-carried k (r .1) (ap (λ (q : MainQ (Activation S)). q .pending) (r .0)) (ap (λ (q : MainQ (Activation S)). q .carried) (r .0))
+      go false k h =
+          let r = room-is (q .pending) most-waiting h in
+          at-pending k (r .1) (ap (λ (q : MainQ (Activation S)). q .pending) (r .0)) (ap (λ (q : MainQ (Activation S)). q .carried) (r .0))
+
+  -- the opening adds what it raises to the pending list, or leaves that list as it is
+  pub activate-open-is :
+      (p : Place) (e : Activation S) (q q₁ : OpenQ (Activation S)) → activate-open S p e q ≡ filed q₁ →
+      (q₁ .pending ≡ q .pending) ⊎ ((q₁ .pending ≡ push S e (q .pending)) × (length (q .pending) < most-waiting))
+  unfolding activate-open
+  activate-open-is to-late e q q₁ h = inl (ap (λ (q : OpenQ (Activation S)). q .pending) (room-is (q .lateq .late) _ h .0))
+  activate-open-is to-delivered e q q₁ h = inl (ap (λ (q : OpenQ (Activation S)). q .pending) (room-is (q .lateq .delivered) _ h .0))
+  activate-open-is to-pending e q q₁ h = let r = room-is (q .pending) _ h in inr (ap (λ (q : OpenQ (Activation S)). q .pending) (r .0), r .1)
+
+  -- ---- raising
+  module _ {P Q : Type 0} (activate : P → Activation S → Q → Filed Q) where
+    -- from the identity t and the queue q, raising the list led to the identity and the queue at the end
+    pub data Raises : Tag → Q → List (Activation S) → Tag → Q → Type 0 where
+      none : {t : Tag} {q : Q} → Raises t q [] t q
+      one :
+          {q q₁ q₂ : Q} {t₂ : Tag} {e : Activation S} {es : List (Activation S)} (p : P) →
+          activate p e q ≡ filed q₁ →
+          Raises (after (e .tag)) q₁ es t₂ q₂ →
+          Raises (e .tag) q (e ∷ es) t₂ q₂
+
+    -- what raising came to, where what raised had the stop s: without a stop in the end there was none before
+    pub record Did-raise (t : Tag) (q : Q) (s : ℕ) (k : Raising S Q) : Type 0 where
+      pub steps : Raises t q (k .raised) (k .next) (k .queue)
+      pub stopped : k .stop ≡ 0 → s ≡ 0
+
+    pub raise-steps : (rs : List (Raise W Act P)) (t : Tag) (q : Q) (w : W) (s : ℕ) → Did-raise t q s (raise-all S activate rs t q w s)
+    unfolding raise-all
+    raise-steps [] t q w s = record { steps = none; stopped = λ h. h }
+    raise-steps (r ∷ rs) t q w s = go (λ q₁. raise-steps rs (after t) q₁ w s) (activate (r .place) (record { act = r .act; tag = t }) q) refl
+      where
+        go :
+            ((q₁ : Q) → Did-raise (after t) q₁ s (raise-all S activate rs (after t) q₁ w s)) →
+            (x : Filed Q) →
+            activate (r .place) (record { act = r .act; tag = t }) q ≡ x →
+            Did-raise t q s (raise-on S x (record { act = r .act; tag = t })
+            (record { raised = []; queue = q; next = t; world = r .at; stop = list-full })
+            (λ q′. raise-all S activate rs (after t) q′ w s))
+        go rec full h = record { steps = none; stopped = λ k. omega arith }
+        go rec (filed q₁) h = record { steps = one (r .place) h (rec q₁ .steps); stopped = rec q₁ .stopped }
+
+  -- ---- a pass
+  module _ {Q : Type 0} (next : Q → Took (Activation S) Q) (activate : Activation S → Activation S → Q → Filed Q) where
+    -- from the stop s to the stop at the end; a unit after which there is no stop has run
+    pub data Passes : Tag → Q → ℕ → List (Turn S) → Tag → Q → ℕ → Type 0 where
+      broke : {t : Tag} {q : Q} {s s₁ : ℕ} → Passes t q s [] t q (suc s₁)
+      done : {t : Tag} {q : Q} → next q ≡ empty → Passes t q 0 [] t q 0
+      turn :
+          {t t₁ t₂ : Tag} {q q₁ q₂ q₃ : Q} {s s₁ : ℕ} {u : Activation S} {w : W} {es : List (Activation S)} {b : Bool} {us : List (Turn S)} →
+          next q ≡ took u q₁ →
+          Raises (λ (p : Unit {0}). activate u) t q₁ es t₁ q₂ →
+          (s ≡ 0 → b ≡ true) →
+          b ≡ eqb (body w (u .act) .stop) 0 →
+          Passes t₁ q₂ s us t₂ q₃ s₁ →
+          Passes t q 0 (record { unit = u; from = w; raised = es; ran = b } ∷ us) t₂ q₃ s₁
+
+    -- what a pass came to that might begin n units
+    pub record Did-pass (n : ℕ) (t : Tag) (q : Q) (s : ℕ) (k : Passed S Q) : Type 0 where
+      pub steps : Passes t q s (k .turns) (k .next) (k .queue) (k .stop)
+      pub units : length (k .turns) + k .left ≡ n
+
+    pub pass-steps : (n : ℕ) (t : Tag) (q : Q) (w : W) (s : ℕ) → Did-pass n t q s (pass S next activate n t q w s)
+    unfolding pass
+    pass-steps zero t q w zero = go (next q) refl
+      where
+        go : (x : Took (Activation S) Q) → next q ≡ x → Did-pass 0 t q 0 (pass-on S x (no-turn S zero t q w 0) (λ u q′. no-turn S zero t q w list-full))
+        go empty h = record { steps = done h; units = refl }
+        go (took u q₁) h = record { steps = broke; units = refl }
+    pass-steps zero t q w (suc s) = record { steps = broke; units = refl }
+    pass-steps (suc n) t q w zero = go (λ t₁ q₁ w₁ s₁. pass-steps n t₁ q₁ w₁ s₁) (next q) refl
+      where
+        go :
+            ((t₁ : Tag) (q₁ : Q) (w₁ : W) (s₁ : ℕ) → Did-pass n t₁ q₁ s₁ (pass S next activate n t₁ q₁ w₁ s₁)) →
+            (x : Took (Activation S) Q) →
+            next q ≡ x →
+            Did-pass (suc n) t q 0 (pass-on S x (no-turn S (suc n) t q w 0) (λ u q′.
+            let d = body w (u .act) in
+            let k = raise-all S (λ p. activate u) (d .raises) t q′ (d .world) (d .stop) in
+            turning S u w (k .raised) (eqb (d .stop) 0) (pass S next activate n (k .next) (k .queue) (k .world) (k .stop))))
+        go rec empty h = record { steps = done h; units = omega arith }
+        go rec (took u q₁) h =
+            let d = body w (u .act) in
+            let k = raise-all S (λ (p : Unit {0}). activate u) (d .raises) t q₁ (d .world) (d .stop) in
+            let r = raise-steps (λ (p : Unit {0}). activate u) (d .raises) t q₁ (d .world) (d .stop) in
+            let rest = rec (k .next) (k .queue) (k .world) (k .stop) in
+            record { steps = turn h (r .steps) (λ z. eq-eqb _ _ (r .stopped z)) refl (rest .steps); units = omega (arith, rest .units) }
+    pass-steps (suc n) t q w (suc s) = record { steps = broke; units = omega arith }

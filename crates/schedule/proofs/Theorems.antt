@@ -1,0 +1,40 @@
+-- The theorems of the scheduler. What they say is defined in specs/: the runs in Schedule, `Order` in Promise, `bare-tick` in Erasure, `Limited` in Limits,
+-- `Tick-keeps` in Keeping.
+use mathlib.Core.Path.{_≡_}
+use mathlib.Core.List.{List, map}
+use Rattle.schedule.specs.Schedule.{Machine, Outcome, Setup, numbered, plain, Tick, run}
+use Rattle.schedule.specs.Promise.{All, Order, Ran-as-told}
+use Rattle.schedule.specs.Erasure.{bare-tick}
+use Rattle.schedule.specs.Limits.{Limited}
+use Rattle.schedule.specs.Keeping.{Did-keep, Tick-keeps}
+use Rattle.schedule.proofs.Whole.{order as run-order}
+use Rattle.schedule.proofs.Erase.{erasure as run-erasure}
+use Rattle.schedule.proofs.Every.{ran-as-told as run-told}
+use Rattle.schedule.proofs.Keeps.{run-keeps as kept-in-run}
+use Rattle.schedule.proofs.Limits.{limited as run-limited}
+
+-- The order promise holds of every run of every machine.
+pub order : (M : Machine) (is : List (M .In)) (w : M .W) → Order M (run (numbered M) is w)
+order = run-order
+
+-- The plain run, which the code is held to, is any run with identities, the identities left out.
+pub erasure : (S : Setup) (is : List (S .machine .In)) (w : S .machine .W) → run (plain (S .machine)) is w ≡ map (bare-tick S) (run S is w)
+erasure = run-erasure
+
+-- Every tick of a run keeps to the limits.
+pub limited : (S : Setup) (is : List (S .machine .In)) (w : S .machine .W) → All (Limited S) (run S is w)
+limited = run-limited
+
+-- A unit that is said to have run is one whose body came to no stop of its own.
+pub ran-as-told :
+    (S : Setup) (is : List (S .machine .In)) (w : S .machine .W) → All (λ (t : Tick S). All (Ran-as-told S) (t .late) × All (Ran-as-told S) (t .main)) (run S is w)
+ran-as-told = run-told
+
+-- What holds at the start and is kept by opening, body and closing holds wherever a unit begins and after each tick.
+pub run-keeps :
+    (S : Setup) (P : S .machine .W → Type 0) →
+    ((w : S .machine .W) (i : S .machine .In) → P w → Did-keep P (S .machine .opening w i)) →
+    ((w : S .machine .W) (a : S .machine .Act) → P w → Did-keep P (S .machine .body w a)) →
+    ((w : S .machine .W) (o : Outcome (S .machine .Act)) → P w → P (S .machine .closing w o .world)) →
+    (is : List (S .machine .In)) (w : S .machine .W) → P w → All (Tick-keeps S P) (run S is w)
+run-keeps = kept-in-run

@@ -1,0 +1,6 @@
+pub mod Schedule
+pub mod Promise
+pub mod Erasure
+pub mod Limits
+pub mod Example
+pub mod Keeping

@@ -1,0 +1,1 @@
+// The scheduler is a definition and its theorems: see specs/ and proofs/.
