@@ -1,30 +1,28 @@
 -- The order promise of `schedule` holds of every run of this machine, and its counts are the record's.
-use mathlib.Core.Path.{_≡_, refl, sym, ap, _∙_, subst}
+use mathlib.Core.Path.{_≡_, refl, sym, ap, _∙_}
 use mathlib.Core.Bool.{Bool, true, false, cond}
-use mathlib.Core.List.{List, [], _∷_, _++_, map}
+use mathlib.Core.List.{List, [], _∷_, _++_}
 use mathlib.Core.Option.{some}
 use mathlib.Core.Logic.{_⊎_, inl, inr}
-use Prim.Native.Nat.{ℕ, zero, suc, _*_}
-use lib.Dec.{leb, eqb}
+use Prim.Native.Nat.{ℕ, suc, _*_}
+use lib.Dec.{leb}
 use lib.ListN.{length, length-map}
 use borrow.Author.Tests.{eqb-true}
 use Rattle.words.specs.Words.{words}
-use Rattle.schedule.specs.Schedule.{most-units, log-full, Outcome, Closed, Setup, numbered, plain, Activation, push-all, activate-open, raise-all, late-pass, main-pass, Turn, Tick, acts, outcome, tick, run}
-use Rattle.schedule.specs.Promise.{All, [·], _∷·_, Order, Ran-as-told}
-use Rattle.schedule.specs.Erasure.{bare-tick}
+use Rattle.schedule.specs.Schedule.{most-units, log-full, Outcome, Setup, numbered, plain, Activation, push-all, activate-open, raise-all, late-pass, main-pass, Turn, Tick, acts, outcome, tick, run}
+use Rattle.schedule.specs.Promise.{All, [·], _∷·_, Ran-as-told}
 use Rattle.schedule.proofs.Theorems.{order, erasure, ran-as-told}
 use Rattle.schedule.proofs.Every.{every}
 use Rattle.model.specs.Base.{if_then_else_}
 use Rattle.model.specs.Circuit.{Circuit, circuit}
 use Rattle.model.specs.Script.{Given, script}
 use Rattle.model.specs.State.{Act}
-use Rattle.model.specs.Chain.{no-calls}
-use Rattle.model.specs.Unit.{World, state≔, run-unit, finish-chain}
+use Rattle.model.specs.Unit.{World, state≔, run-unit}
 use Rattle.model.specs.Record.{read-outputs, steps, head, units-begun, outputs-shown, log-record, write, close}
 use Rattle.model.specs.Run.{most-steps, opening, body, closing, machine, world-at-start, ticks-of, seen}
 use Rattle.model.specs.Questions.{Areas, refusal}
-use Rattle.model.specs.Answer.{Answer, played, play, answer-to, answer}
-use Rattle.model.specs.Order.{Numbered-tick, numbered-ticks, Recorded, Ended, In-order, Whole-run-in-order}
+use Rattle.model.specs.Answer.{played, play, answer-to, answer}
+use Rattle.model.specs.Order.{Recorded, Ended, Whole-run-in-order}
 use Rattle.model.proofs.Chains.{unit-ended, finish-stop}
 
 all-map : {A : Type 0} {P R : A → Type 0} {l : List A} → ((a : A) → P a → R a) → All P l → All R l

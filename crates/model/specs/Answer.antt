@@ -1,7 +1,7 @@
 -- What a call answers, from bytes, and what it leaves in the log and the areas.
 use Prim.Native.Nat.{ℕ, zero, suc, _*_}
-use mathlib.Core.List.{List, [], _∷_, _++_}
-use mathlib.Core.Option.{Option, none, some}
+use mathlib.Core.List.{List, _++_}
+use mathlib.Core.Option.{none, some}
 use lib.ListN.{length, drop, replicate}
 use Rattle.words.specs.Words.{words, bytes}
 use Rattle.schedule.specs.Schedule.{schedule-opened}
@@ -39,6 +39,10 @@ answer-to (suc n) room circuit-bytes script-bytes = refused (suc n)
 unfoldable pub answer : Areas → ℕ → List ℕ → List ℕ → Answer
 answer areas room circuit-bytes script-bytes = answer-to (refusal (some areas) circuit-bytes script-bytes) room circuit-bytes script-bytes
 
+-- what a call answers that only checks, and is lent no areas
+unfoldable pub checked : List ℕ → List ℕ → ℕ
+checked circuit-bytes script-bytes = refusal none circuit-bytes script-bytes
+
 -- the number that is answered: the question's, or the stop, 0 for a run to the script's end
 unfoldable pub number : Answer → ℕ
 number (refused n) = n
@@ -56,5 +60,5 @@ area-after (played p) area = replicate (length area) 0
 
 -- opens the whole definition, for proofs by computation
 unfoldable pub model-opened : ℕ
-unfolding words bytes schedule-opened base-opened value-opened kinds-opened circuit-opened script-opened state-opened wires-opened delays-opened exec-opened chain-opened settle-opened opening-opened unit-opened record-opened run-opened questions-opened play answer-to answer number log-after area-after
+unfolding words bytes schedule-opened base-opened value-opened kinds-opened circuit-opened script-opened state-opened wires-opened delays-opened exec-opened chain-opened settle-opened opening-opened unit-opened record-opened run-opened questions-opened play answer-to answer checked number log-after area-after
 model-opened = 0

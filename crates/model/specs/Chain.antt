@@ -7,9 +7,9 @@ use lib.Dec.{leb}
 use lib.ListN.{length}
 use Rattle.schedule.specs.Schedule.{list-full}
 use Rattle.model.specs.Base.{keep}
-use Rattle.model.specs.Circuit.{Circuit, Call, calls-of}
+use Rattle.model.specs.Circuit.{Circuit, calls-of}
 use Rattle.model.specs.State.{State}
-use Rattle.model.specs.Exec.{Stepped, exec-gate}
+use Rattle.model.specs.Exec.{exec-gate}
 
 -- the chain stack and the forks, each
 abbrev pub most-calls : ℕ

@@ -1,6 +1,6 @@
 -- A circuit, as it is read from its words, with what is worked out of it once. A word is held as its 64 bits, so a negative one is 2^63 or more.
-use Prim.Native.Nat.{ℕ, zero, suc, _+_, _*_, _/_, _%_, _^_, _-_}
-use mathlib.Core.Bool.{Bool, true, false, _&&_}
+use Prim.Native.Nat.{ℕ, _+_, _*_, _/_, _%_, _^_, _-_}
+use mathlib.Core.Bool.{Bool, true, false}
 use mathlib.Core.List.{List, [], _∷_, map}
 use mathlib.Core.Option.{Option, none, some}
 use lib.Dec.{eqb}
@@ -9,7 +9,7 @@ use Rattle.model.specs.declared.Value.{Value}
 use Rattle.model.specs.declared.Value.the-variants.{Nothing}
 use Rattle.model.specs.Base.{if_then_else_, keep, joined, both, from, starts, owners}
 use Rattle.model.specs.Value.{value-of}
-use Rattle.model.specs.Kinds.{In, Watch, never, if-driven, always, Out, Kind, kind-at}
+use Rattle.model.specs.Kinds.{In, never, if-driven, always, Out, kind-at}
 
 -- a call from an output: to an input, at once or remote, which waits for the chain's end
 pub record Call : Type 0 where

@@ -1,5 +1,5 @@
 -- Countdowns, and how buffers, Queues, Clocks and Stopwatches take what comes to them and move on by a tick.
-use Prim.Native.Nat.{ℕ, zero, suc, _-_, max}
+use Prim.Native.Nat.{ℕ, suc, _-_, max}
 use mathlib.Core.Bool.{Bool, true, false, not, _&&_}
 use mathlib.Core.List.{List, [], _∷_, map}
 use mathlib.Core.Option.{Option, none, some}
@@ -10,7 +10,7 @@ use lib.ListN.{length}
 use Rattle.model.specs.declared.Value.{Value}
 use Rattle.model.specs.declared.Value.the-variants.{Float}
 use Rattle.model.specs.Base.{if_then_else_, snoc}
-use Rattle.model.specs.Value.{truthy, as-int, as-float, plus64, le64, lt64, plus32, le32, narrow, minus-one-point-zero}
+use Rattle.model.specs.Value.{as-int, as-float, plus64, le64, lt64, plus32, le32, narrow, minus-one-point-zero}
 use Rattle.model.specs.State.{Countdown, ticks-left, seconds, Flight, Queued, Delay, flight≔, fires≔, elapsed≔, records≔}
 
 -- ---- countdowns

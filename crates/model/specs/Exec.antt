@@ -1,17 +1,17 @@
 -- One step of a chain: an exec gate, entered through one of its inputs, by kind.
 use Prim.Native.Nat.{ℕ, zero, suc, _-_, _%_}
 use mathlib.Core.Bool.{Bool, true, false, not, _||_}
-use mathlib.Core.List.{List, [], _∷_, map}
+use mathlib.Core.List.{List, _∷_, map}
 use mathlib.Core.Option.{Option, none, some}
 use lib.Dec.{leb, ltb, eqb}
 use lib.IntN.{ℤ, pos, negsuc, sucℤ, predℤ}
 use lib.ListN.{length, getD, set}
 use Rattle.model.specs.declared.Value.{Value}
-use Rattle.model.specs.declared.Value.the-variants.{Nothing, Int, Float, Bool as Truth}
+use Rattle.model.specs.declared.Value.the-variants.{Int, Float, Bool as Truth}
 use Rattle.model.specs.Base.{if_then_else_, each, snoc, among, from}
 use Rattle.model.specs.Value.{truthy, as-int, as-float}
 use Rattle.model.specs.Circuit.{Circuit, kind-of-gate, input, output, gate-at-input, setting}
-use Rattle.model.specs.State.{Countdown, Delay, idle, fires≔, Send, State, wires≔, delays≔, written≔, unions-passed≔, outbox≔}
+use Rattle.model.specs.State.{Countdown, Delay, idle, fires≔, State, wires≔, delays≔, written≔, unions-passed≔, outbox≔}
 use Rattle.model.specs.Wires.{shown, show, look, ready, set-out}
 use Rattle.model.specs.Delays.{nat, in-ticks, in-seconds, countdown-ticks, countdown-seconds, queue-record, pressed}
 

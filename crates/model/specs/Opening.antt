@@ -1,8 +1,8 @@
 -- The start of a run, and the opening of a tick: all that comes before its passes.
-use Prim.Native.Nat.{ℕ, zero, suc, _+_}
+use Prim.Native.Nat.{ℕ, suc, _+_}
 use mathlib.Core.Bool.{Bool, true, false, _&&_, _||_}
-use mathlib.Core.List.{List, [], _∷_, _++_, map}
-use mathlib.Core.Option.{Option, none, some}
+use mathlib.Core.List.{List, [], _++_, map}
+use mathlib.Core.Option.{none, some}
 use lib.Dec.{leb, ltb, eqb}
 use lib.ListN.{length, getD, set, replicate}
 use Rattle.schedule.specs.Schedule.{Raise, Place, to-late, to-delivered, to-pending}
@@ -11,13 +11,13 @@ use Rattle.model.specs.declared.Value.the-variants.{Nothing, Int, Float,
 use Rattle.model.specs.Base.{if_then_else_, each, keep, joined, from}
 use Rattle.model.specs.Value.{truthy, as-float, same, narrow, plus64, one-point-zero}
 use Rattle.model.specs.Kinds.{pure}
-use Rattle.model.specs.Circuit.{Circuit, kind-of-gate, input, output, setting, watching, gates, gates-of}
+use Rattle.model.specs.Circuit.{Circuit, kind-of-gate, output, setting, watching, gates, gates-of}
 use Rattle.model.specs.Script.{Given}
 use Rattle.model.specs.State.{Wires, idle, Act, Send, State, times≔, wires≔, pulses≔}
 use Rattle.model.specs.Wires.{look, invalidate, refresh-all, set-outs}
 use Rattle.model.specs.Delays.{Moved, advance-flight, advance-fires, advance-records, advance-elapsed, advance-time}
 use Rattle.model.specs.Exec.{delay, delay≔, set-output, readied, read, countdown}
-use Rattle.model.specs.Settle.{Settled, settle}
+use Rattle.model.specs.Settle.{settle}
 
 -- ---- the start
 

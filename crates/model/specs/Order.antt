@@ -15,7 +15,7 @@ use Rattle.model.specs.Chain.{no-calls}
 use Rattle.model.specs.Unit.{run-unit}
 use Rattle.model.specs.Run.{most-steps, machine, world-at-start, seen}
 use Rattle.model.specs.Questions.{Areas}
-use Rattle.model.specs.Answer.{Answer, played, answer}
+use Rattle.model.specs.Answer.{played, answer}
 
 module _ (c : Circuit) (limit : ℕ) where
   -- a tick whose activations are known by the number of their raising

@@ -1,17 +1,17 @@
 -- The ten questions, in order. A word is held as its 64 bits: a negative one is 2^63 or more, so it lies above every bound here.
 use Prim.Native.Nat.{ℕ, zero, suc, _+_, _*_, _/_, _%_, max}
 use mathlib.Core.Bool.{Bool, true, false, not, _&&_, _||_}
-use mathlib.Core.List.{List, [], _∷_, map}
+use mathlib.Core.List.{List, map}
 use mathlib.Core.Option.{Option, none, some}
 use lib.Dec.{leb, ltb, eqb}
 use lib.ListN.{length, getD}
-use lib.Ieee.{Float as Number, nan, inf, fin, binary64, ofBits}
+use lib.Ieee.{nan, inf, fin, binary64, ofBits}
 use Rattle.words.specs.Words.{words}
 use Rattle.model.specs.declared.Value.{Value}
 use Rattle.model.specs.declared.Value.the-variants.{Nothing, Int, Float, Bool as Truth}
 use Rattle.model.specs.Base.{if_then_else_, all, both, from, sum}
 use Rattle.model.specs.Value.{le64}
-use Rattle.model.specs.Kinds.{In, value, Setting, anything, ticks, seconds, variable, channel, Out, fires, shows, passes, kind-at, pure}
+use Rattle.model.specs.Kinds.{In, value, Setting, anything, ticks, seconds, variable, channel, fires, shows, passes, kind-at, pure}
 use Rattle.model.specs.Circuit.{Circuit, circuit, part, word-at, minus-one, kind-of-gate, inputs-of, source, stored-in, gate-at-output, gates, gates-of}
 
 unfoldable pub within : ℕ → ℕ → ℕ → Bool
@@ -72,17 +72,21 @@ good-setting c seconds v = float-or-nothing v
 good-setting c variable v = int-such-that (λ g. eqb (kind-of-gate c g) 5) v
 good-setting c channel v = int-such-that (within 0 255) v
 
--- of input i, its source and stored words
-unfoldable pub good-input : Circuit → ℕ → In → ℕ → ℕ → Value → Bool
-good-input c K pin src k v =
+-- 0 to K: the constants are named 1 to K, and 0 is nothing
+unfoldable pub names-constant : Circuit → ℕ → Bool
+names-constant c k = ltb k (length (c .constants))
+
+-- of an input, its words for source and stored, and the value stored
+unfoldable pub good-input : Circuit → In → ℕ → ℕ → Value → Bool
+good-input c pin src k v =
     (if eqb src minus-one then true else value-output c src && pin .source && eqb k 0)
-    && within 0 K k && (eqb k 0 || pin .constant) && good-setting c (pin .setting) v
+    && names-constant c k && (eqb k 0 || pin .constant) && good-setting c (pin .setting) v
 
 unfoldable pub question-4 : List ℕ → Circuit → Bool
 question-4 ws c =
     let I = word-at ws 2 in
     let inputs = 4 + 2 * (word-at ws 1 + word-at ws 0) in
-    all (λ i. good-input c (word-at ws 1) (getD (c .pins) i value) (word-at ws (inputs + i)) (word-at ws (inputs + I + i)) (stored-in c i)) (from 0 I)
+    all (λ i. good-input c (getD (c .pins) i value) (word-at ws (inputs + i)) (word-at ws (inputs + I + i)) (stored-in c i)) (from 0 I)
 
 -- 5. Does each call go from an exec output or RER_Output to an E or RER_Input?
 unfoldable pub may-call : Circuit → ℕ → Bool
@@ -142,30 +146,40 @@ question-9 ws =
     all good-length (part ws 2 T) && all (within 0 64) (part ws (2 + T) T) && eqb (sum (part ws (2 + T) T)) (word-at ws 1)
 
 -- 10. Is each stimulus gate of kind 28, its constant 0 to K?
-unfoldable pub question-10 : ℕ → List ℕ → Circuit → Bool
-question-10 K ws c =
+unfoldable pub question-10 : List ℕ → Circuit → Bool
+question-10 ws c =
     let S = word-at ws 1 in
     let stimuli = 2 + 2 * word-at ws 0 in
-    all (λ g. eqb (kind-of-gate c g) 28) (part ws stimuli S) && all (within 0 K) (part ws (stimuli + S) S)
+    all (λ g. eqb (kind-of-gate c g) 28) (part ws stimuli S) && all (names-constant c) (part ws (stimuli + S) S)
 
--- The number of the first question whose answer is no, and 0 where all are yes; `areas` is none for a call that is lent none.
-unfoldable pub refusal : Option Areas → List ℕ → List ℕ → ℕ
-refusal areas circuit-bytes script-bytes =
-    let cw = words circuit-bytes in
-    let sw = words script-bytes in
-    let c = circuit cw in
-    if not (question-1 circuit-bytes cw) then 1
-    else if not (question-2 cw) then 2
-    else if not (question-3 cw c) then 3
-    else if not (question-4 cw c) then 4
-    else if not (question-5 cw c) then 5
+-- The number of the first question about the circuit whose answer is no, and 0 where all are yes. `areas` is none for a call that is lent none.
+unfoldable pub circuit-refusal : Option Areas → List ℕ → ℕ
+circuit-refusal areas bytes =
+    let ws = words bytes in
+    let c = circuit ws in
+    if not (question-1 bytes ws) then 1
+    else if not (question-2 ws) then 2
+    else if not (question-3 ws c) then 3
+    else if not (question-4 ws c) then 4
+    else if not (question-5 ws c) then 5
     else if not (question-6 c) then 6
     else if not (question-7 areas c) then 7
-    else if not (question-8 script-bytes sw) then 8
-    else if not (question-9 sw) then 9
-    else if not (question-10 (word-at cw 1) sw c) then 10
     else 0
 
+-- the same of the questions about a script for the circuit c
+unfoldable pub script-refusal : Circuit → List ℕ → ℕ
+script-refusal c bytes =
+    let ws = words bytes in
+    if not (question-8 bytes ws) then 8 else if not (question-9 ws) then 9 else if not (question-10 ws c) then 10 else 0
+
+-- a later question is asked only where the earlier ones were answered yes
+unfoldable pub or-else : ℕ → ℕ → ℕ
+or-else zero later = later
+or-else (suc n) later = suc n
+
+unfoldable pub refusal : Option Areas → List ℕ → List ℕ → ℕ
+refusal areas circuit-bytes script-bytes = or-else (circuit-refusal areas circuit-bytes) (script-refusal (circuit (words circuit-bytes)) script-bytes)
+
 unfoldable pub questions-opened : ℕ
-unfolding within finite yes-all question-1 good-constant question-2 question-3 value-output int-such-that int-or-nothing float-or-nothing good-setting good-input question-4 may-call may-be-called question-5 source-placed place place-on question-6 queues question-7 question-8 good-length question-9 question-10 refusal
+unfolding within finite yes-all question-1 good-constant question-2 question-3 value-output int-such-that int-or-nothing float-or-nothing good-setting names-constant good-input question-4 may-call may-be-called question-5 source-placed place place-on question-6 queues question-7 question-8 good-length question-9 question-10 circuit-refusal script-refusal or-else refusal
 questions-opened = 0

@@ -1,15 +1,14 @@
 -- A run: the machine, as `schedule` schedules it, and what is seen of the list of its ticks.
-use Prim.Native.Nat.{ℕ, zero, suc}
-use mathlib.Core.Bool.{Bool, true, false}
+use Prim.Native.Nat.{ℕ}
 use mathlib.Core.List.{List, [], _∷_, map}
 use lib.Dec.{eqb}
 use lib.ListN.{length}
-use Rattle.schedule.specs.Schedule.{Did, Outcome, Closed, Place, Machine, Setup, plain, Tick, run}
+use Rattle.schedule.specs.Schedule.{Did, Outcome, Closed, Place, Machine, plain, Tick, run}
 use Rattle.model.specs.Base.{if_then_else_, keep, joined}
 use Rattle.model.specs.Circuit.{Circuit, rank-of-gate}
 use Rattle.model.specs.Script.{Given}
 use Rattle.model.specs.State.{Act}
-use Rattle.model.specs.Opening.{Opened, open-tick, start}
+use Rattle.model.specs.Opening.{open-tick, start}
 use Rattle.model.specs.Unit.{World, state≔, raises-in, run-unit, finish-chain}
 use Rattle.model.specs.Record.{read-outputs, close}
 

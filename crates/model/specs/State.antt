@@ -1,6 +1,6 @@
 -- What the machine holds. Names are the source's.
 use Prim.Native.Nat.{ℕ}
-use mathlib.Core.Bool.{Bool, true, false}
+use mathlib.Core.Bool.{Bool, false}
 use mathlib.Core.List.{List, []}
 use mathlib.Core.Option.{Option, none}
 use Rattle.model.specs.declared.Value.{Value}

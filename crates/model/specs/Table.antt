@@ -6,7 +6,6 @@ use mathlib.Core.List.{List, [], _∷_, map}
 use Rattle.words.specs.Words.{bytes}
 use Rattle.model.specs.Base.{joined}
 use Rattle.model.specs.Value.{narrow}
-use Rattle.model.specs.Questions.{Areas}
 use Rattle.model.specs.Answer.{Answer, refused, played, answer, model-opened}
 
 -- the arrays of a circuit and of a script, one behind the other, and what the call answers that is lent a log and three areas of 65,536 bytes each

@@ -1,8 +1,8 @@
 -- A unit: what it does first, its chain and forks, and what follows them.
-use Prim.Native.Nat.{ℕ, zero, suc, _-_}
-use mathlib.Core.Bool.{Bool, true, false, _&&_}
+use Prim.Native.Nat.{ℕ, _-_}
+use mathlib.Core.Bool.{_&&_}
 use mathlib.Core.List.{List, [], _∷_, map}
-use mathlib.Core.Option.{Option, some}
+use mathlib.Core.Option.{some}
 use lib.Dec.{leb, ltb, eqb}
 use Rattle.schedule.specs.Schedule.{Raise, Did}
 use Rattle.model.specs.Base.{if_then_else_}
@@ -10,7 +10,7 @@ use Rattle.model.specs.Circuit.{Circuit, kind-of-gate, input, output}
 use Rattle.model.specs.State.{Act, State, wires≔}
 use Rattle.model.specs.Wires.{set-outs}
 use Rattle.model.specs.Chain.{Calls, no-calls, Chained, push-calls, run-chain}
-use Rattle.model.specs.Settle.{Settled, publish-writes, settle}
+use Rattle.model.specs.Settle.{publish-writes, settle}
 
 -- What a unit and a tick hand on: the state, the steps that the tick may still make, the bytes of the log that are free, and the words of the record
 -- that was written last.

@@ -1,9 +1,9 @@
 -- The values on wires, and how each is read as a truth, an Int or a Float. An Int and a Float are held as their 64 bits; sums, comparisons and narrowing
 -- are IEEE 754's, by `lib.Ieee`.
-use Prim.Native.Nat.{ℕ, zero, suc, _*_, _^_}
+use Prim.Native.Nat.{ℕ, zero, suc, _*_}
 use mathlib.Core.Bool.{Bool, true, false, not, Bool·beq}
 use lib.Dec.{eqb}
-use lib.IntN.{ℤ, pos, negsuc}
+use lib.IntN.{ℤ, pos}
 use lib.Ieee.{Float as Number, nan, inf, fin, binary32, binary64, ofBits, toBits, add, lt, le, eq, round, ofInt, toSigned, up, down}
 use Rattle.words.specs.Words.{signed}
 use Rattle.model.specs.declared.Value.{Value}

@@ -2,7 +2,7 @@
 use Prim.Native.Nat.{ℕ, _^_, _-_}
 use mathlib.Core.Path.{_≡_, refl}
 use mathlib.Core.List.{List, [], _∷_}
-use lib.IntN.{ℤ, pos, negsuc}
+use lib.IntN.{pos, negsuc}
 use Rattle.words.specs.Words.{words, tail, bytes, signed, unsigned}
 
 -- the least byte is the first
