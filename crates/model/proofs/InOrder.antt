@@ -10,9 +10,10 @@ use lib.ListN.{length, length-map}
 use borrow.Author.Tests.{eqb-true}
 use Rattle.words.specs.Words.{words}
 use Rattle.schedule.specs.Schedule.{most-units, log-full, Outcome, Setup, numbered, plain, Activation, push-all, activate-open, raise-all, late-pass, main-pass, Turn, Tick, acts, outcome, tick, run}
-use Rattle.schedule.specs.Promise.{All, [·], _∷·_, Ran-as-told}
+use Rattle.schedule.specs.Promise.{All, Ran-as-told}
 use Rattle.schedule.proofs.Theorems.{order, erasure, ran-as-told}
 use Rattle.schedule.proofs.Every.{every}
+use Rattle.schedule.proofs.Ranked.{all-map}
 use Rattle.model.specs.Base.{if_then_else_}
 use Rattle.model.specs.Circuit.{Circuit, circuit}
 use Rattle.model.specs.Script.{Given, script}
@@ -24,10 +25,6 @@ use Rattle.model.specs.Questions.{Areas, refusal}
 use Rattle.model.specs.Answer.{played, play, answer-to, answer}
 use Rattle.model.specs.Order.{Recorded, Ended, Whole-run-in-order}
 use Rattle.model.proofs.Chains.{unit-ended, finish-stop}
-
-all-map : {A : Type 0} {P R : A → Type 0} {l : List A} → ((a : A) → P a → R a) → All P l → All R l
-all-map f All.[·] = All.[·]
-all-map f (All._∷·_ {a = a} p ps) = All._∷·_ (f a p) (all-map f ps)
 
 -- ---- writing a record
 

@@ -24,5 +24,7 @@ pub mod Refreshing
 pub mod Settling
 -- a chain without a stop has made all its calls
 pub mod Chains
+-- refreshing in any order is the same: `stale-is-dirty`
+pub mod Stale
 -- the order promise at this machine: `in-order`
 pub mod InOrder

@@ -1,6 +1,6 @@
 -- The bounds of the definition never show. Marking, refreshing and settling are written with a number of rounds, so that they end; here it stands that these
--- numbers always suffice, any number more gives the same: `bounds-suffice`, for every circuit that is not refused and every state that has its sizes. Every
--- state of a run has them: `run-has`. The proofs are in the files that the headings name.
+-- numbers always suffice, any number more gives the same: `bounds-suffice`, for every circuit that is not refused and every state that has its sizes. So
+-- has each world of a run in which a unit begins or a tick has ended: `run-has`. The proofs are in the files that the headings name.
 use mathlib.Core.Path.{_≡_}
 use mathlib.Core.Bool.{true}
 use mathlib.Core.List.{List, [], _∷_}
@@ -47,7 +47,8 @@ circuit-filled = filled
 
 -- ---- the questions (Asked): a call that is not refused was answered yes ten times
 
-pub call-accepted : (areas : Option Areas) (circuit-bytes script-bytes : List ℕ) → refusal areas circuit-bytes script-bytes ≡ 0 → Accepted areas circuit-bytes script-bytes
+pub call-accepted :
+    (areas : Option Areas) (circuit-bytes script-bytes : List ℕ) → refusal areas circuit-bytes script-bytes ≡ 0 → Accepted areas circuit-bytes script-bytes
 call-accepted = accepted
 
 -- ---- question 6 (Placing): answered yes exactly where pure gates can be ordered
@@ -63,7 +64,8 @@ order-enough = order-suffices
 -- What holds of a circuit's bounds, each with any number more.
 pub record Bounds-suffice (c : Circuit) : Type 0 where
   -- marking, in as many rounds as there are gates, and one
-  pub marking : (w : Wires) → Sized-wires c w → (o more : ℕ) → mark-on c (suc (length (c .kinds)) + more) (record { wires = w; work = o ∷ [] }) ≡ mark-readers c w o
+  pub marking :
+      (w : Wires) → Sized-wires c w → (o more : ℕ) → mark-on c (suc (length (c .kinds)) + more) (record { wires = w; work = o ∷ [] }) ≡ mark-readers c w o
   -- refreshing, as deep as there are gates
   pub refreshing : (w : Wires) → Sized-wires c w → (g more : ℕ) → refresh-to c (length (c .kinds) + more) w g ≡ refresh c w g
   -- settling, in rounds by the numbers of inputs and outputs; and at its end no input waits
@@ -81,7 +83,8 @@ circuit-suffices c l q =
       nothing-waits = λ s z. settled c l s (z .wires);
     }
 
-pub bounds-suffice : (areas : Option Areas) (circuit-bytes script-bytes : List ℕ) → refusal areas circuit-bytes script-bytes ≡ 0 → Bounds-suffice (circuit (words circuit-bytes))
+pub bounds-suffice :
+    (areas : Option Areas) (circuit-bytes script-bytes : List ℕ) → refusal areas circuit-bytes script-bytes ≡ 0 → Bounds-suffice (circuit (words circuit-bytes))
 bounds-suffice areas cb sb h = circuit-suffices (circuit (words cb)) (laid (words cb)) (accepted areas cb sb h .order)
 
 module _ (c : Circuit) where

@@ -31,6 +31,7 @@ pub data Answer : Type 0 where
 unfoldable pub play : ℕ → Circuit → List ℕ → Played
 play room c script-words = seen c most-steps (ticks-of c most-steps room (script (c .constants) script-words))
 
+-- by the number of the question that refuses it, 0 for none
 unfoldable pub answer-to : ℕ → ℕ → List ℕ → List ℕ → Answer
 answer-to zero room circuit-bytes script-bytes = played (play room (circuit (words circuit-bytes)) (words script-bytes))
 answer-to (suc n) room circuit-bytes script-bytes = refused (suc n)

@@ -6,6 +6,7 @@ use lib.Dec.{eqb}
 use lib.ListN.{replicate}
 
 infix 4 if_then_else_
+-- a choice by a test
 unfoldable pub if_then_else_ {ℓ} : {A : Type ℓ} → Bool → A → A → A
 if true then a else b = a
 if false then a else b = b
@@ -16,6 +17,7 @@ module _ {A : Type 0} where
   keep p [] = []
   keep p (x ∷ xs) = if p x then x ∷ keep p xs else keep p xs
 
+  -- whether each passes the test
   unfoldable pub all : (A → Bool) → List A → Bool
   all p [] = true
   all p (x ∷ xs) = p x && all p xs
@@ -29,6 +31,7 @@ module _ {A : Type 0} where
   unfoldable pub snoc : List A → A → List A
   snoc xs x = xs ++ (x ∷ [])
 
+  -- one list behind the other
   unfoldable pub joined : List (List A) → List A
   joined [] = []
   joined (x ∷ xs) = x ++ joined xs
@@ -40,6 +43,7 @@ both f [] (y ∷ ys) = []
 both f (x ∷ xs) [] = []
 both f (x ∷ xs) (y ∷ ys) = f x y ∷ both f xs ys
 
+-- whether n is one of them
 unfoldable pub among : ℕ → List ℕ → Bool
 among n [] = false
 among n (x ∷ xs) = eqb n x || among n xs
@@ -49,6 +53,7 @@ unfoldable pub from : ℕ → ℕ → List ℕ
 from n zero = []
 from n (suc k) = n ∷ from (suc n) k
 
+-- added up
 unfoldable pub sum : List ℕ → ℕ
 sum [] = 0
 sum (x ∷ xs) = x + sum xs

@@ -24,6 +24,7 @@ pub record Calls : Type 0 where
   pub stack : List ℕ
   pub forks : List ℕ
 
+-- no call waits
 abbrev pub no-calls : Calls
 no-calls = record { stack = []; forks = [] }
 
@@ -32,11 +33,13 @@ pub record Popped : Type 0 where
   pub input : ℕ
   pub rest : Calls
 
+-- from the stack, else from the forks
 unfoldable pub pop : List ℕ → List ℕ → Option Popped
 pop [] [] = none
 pop [] (i ∷ fs) = some (record { input = i; rest = record { stack = []; forks = fs } })
 pop (i ∷ st) fs = some (record { input = i; rest = record { stack = st; forks = fs } })
 
+-- the limits of both
 unfoldable pub fit : Calls → Bool
 fit q = leb (length (q .stack)) most-calls && leb (length (q .forks)) most-calls
 
@@ -47,6 +50,7 @@ pub record Chained : Type 0 where
   pub stop : ℕ
   pub calls : Calls
 
+-- the same, by its parts
 unfoldable pub chained : State → ℕ → ℕ → Calls → Chained
 chained s left stop q = record { state = s; left = left; stop = stop; calls = q }
 

@@ -47,6 +47,7 @@ part ws k n = take n (drop k ws)
 unfoldable pub word-at : List ℕ → ℕ → ℕ
 word-at ws k = getD ws k 0
 
+-- the word -1
 abbrev pub minus-one : ℕ
 minus-one = 2 ^ 64 - 1
 
@@ -54,13 +55,16 @@ minus-one = 2 ^ 64 - 1
 unfoldable pub source-of : ℕ → Option ℕ
 source-of w = if eqb w minus-one then none else some w
 
+-- whether there is a source
 unfoldable pub has-source : Option ℕ → Bool
 has-source none = false
 has-source (some o) = true
 
+-- a watched pin, by what it is and whether a value drives it
 unfoldable pub is-watched : In → Option ℕ → Bool
 is-watched p s = elim (p .watch) [ never ↦ false | if-driven ↦ has-source s | always ↦ true ]
 
+-- whether input i reads output o
 unfoldable pub reads : ℕ → List (Option ℕ) → ℕ → Bool
 reads o ss i = elim (getD ss i none) [ none ↦ false | some p ↦ eqb o p ]
 
@@ -73,6 +77,7 @@ pub record Listed : Type 0 where
 unfoldable pub listed-call : ℕ → ℕ → Listed
 listed-call o t = record { out = o; call = record { to = t / 2; remote = eqb (t % 2) 1 } }
 
+-- the calls of output o, as listed
 unfoldable pub calls-from : ℕ → List Listed → List Call
 calls-from o ls = map (λ l. l .call) (keep (λ l. eqb (l .out) o) ls)
 
@@ -114,9 +119,11 @@ circuit ws =
 -- ---- looking things up
 
 module _ (c : Circuit) where
+  -- the kind of gate g
   unfoldable pub kind-of-gate : ℕ → ℕ
   kind-of-gate g = getD (c .kinds) g 0
 
+  -- the rank of gate g, which is that of its units
   unfoldable pub rank-of-gate : ℕ → ℕ
   rank-of-gate g = getD (c .ranks) g 0
 
@@ -127,15 +134,19 @@ module _ (c : Circuit) where
   unfoldable pub output : ℕ → ℕ → ℕ
   output g p = getD (c .first-output) g 0 + p
 
+  -- all inputs of gate g
   unfoldable pub inputs-of : ℕ → List ℕ
   inputs-of g = from (input g 0) (length (kind-at (kind-of-gate g) .ins))
 
+  -- the gate that has input i
   unfoldable pub gate-at-input : ℕ → ℕ
   gate-at-input i = getD (c .gate-of-input) i 0
 
+  -- the output that input i reads
   unfoldable pub source : ℕ → Option ℕ
   source i = getD (c .sources) i none
 
+  -- the value stored in input i
   unfoldable pub stored-in : ℕ → Value
   stored-in i = getD (c .stored) i Nothing
 
@@ -143,15 +154,19 @@ module _ (c : Circuit) where
   unfoldable pub setting : ℕ → ℕ → Value
   setting g p = stored-in (input g p)
 
+  -- the gate that has output o
   unfoldable pub gate-at-output : ℕ → ℕ
   gate-at-output o = getD (c .gate-of-output) o 0
 
+  -- the inputs that read output o, in ascending gate, then input
   unfoldable pub readers-of : ℕ → List ℕ
   readers-of o = getD (c .readers) o []
 
+  -- the calls of output o, in listed order
   unfoldable pub calls-of : ℕ → List Call
   calls-of o = getD (c .calls) o []
 
+  -- whether a change of what input i reads is acted on
   unfoldable pub watching : ℕ → Bool
   watching i = getD (c .watched) i false
 

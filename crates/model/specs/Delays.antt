@@ -15,7 +15,7 @@ use Rattle.model.specs.State.{Countdown, ticks-left, seconds, Flight, Qu
 
 -- ---- countdowns
 
--- 0 for a negative number
+-- a number that is not negative; 0 for a negative one
 unfoldable pub nat : ℤ → ℕ
 nat (pos n) = n
 nat (negsuc n) = 0
@@ -33,6 +33,7 @@ unfoldable pub tick-down : ℕ → Countdown → Countdown
 tick-down dt (ticks-left n) = ticks-left (n - 1)
 tick-down dt (seconds wait elapsed) = seconds wait (plus32 elapsed dt)
 
+-- its ticks are over, or its seconds have come to the wait
 unfoldable pub due : Countdown → Bool
 due (ticks-left n) = eqb n 0
 due (seconds wait elapsed) = le32 wait elapsed
@@ -43,6 +44,7 @@ unfoldable pub countdown-ticks : Bool → Value → Value → Countdown
 countdown-ticks rising wait zero-wait =
     in-ticks (if not rising && leZ (pos 0) (as-int (negsuc 0) zero-wait) then as-int (negsuc 0) zero-wait else as-int (pos 0) wait)
 
+-- the same in seconds
 unfoldable pub countdown-seconds : Bool → Value → Value → Countdown
 countdown-seconds rising wait zero-wait =
     in-seconds (if not rising && le64 0 (as-float minus-one-point-zero zero-wait) then as-float minus-one-point-zero zero-wait else as-float 0 wait)
@@ -53,11 +55,13 @@ pub record Moved : Type 0 where
   pub row : List Value
   pub fires : ℕ
 
+-- the same, by its parts
 unfoldable pub moved : Delay → List Value → ℕ → Moved
 moved d row n = record { state = d; row = row; fires = n }
 
 -- ---- a value buffer
 
+-- a value in flight
 unfoldable pub launch : Value → Countdown → Option Flight
 launch v k = some (record { what = v; left = k })
 
@@ -69,50 +73,62 @@ buffer-input d v k = elim (d .flight) [ none ↦ flight≔ d (launch v k) (d .la
 unfoldable pub relaunch : (Value → Countdown) → Delay → Delay
 relaunch start d = elim (d .later) [ none ↦ flight≔ d none none | some v ↦ flight≔ d (launch v (start v)) none ]
 
+-- it lands when its countdown is due
 unfoldable pub flown : (Value → Countdown) → Delay → Value → Countdown → Moved
 flown start d v k = if due k then moved (relaunch start d) (v ∷ []) 0 else moved (flight≔ d (launch v k) (d .later)) [] 0
 
+-- a value buffer moves on by a tick of the length dt in f32
 unfoldable pub advance-flight : (Value → Countdown) → ℕ → Delay → Moved
 advance-flight start dt d = elim (d .flight) [ none ↦ moved d [] 0 | some f ↦ flown start d (f .what) (tick-down dt (f .left)) ]
 
 -- ---- a buffer in exec mode: the fires that are due, from the front
 
+-- those due leave from the front, and n have fired
 unfoldable pub drop-due : Delay → List Countdown → ℕ → Moved
 drop-due d [] n = moved (fires≔ d []) [] n
 drop-due d (k ∷ ks) n = elim (due k) [ true ↦ drop-due d ks (suc n) | false ↦ moved (fires≔ d (k ∷ ks)) [] n ]
 
+-- a buffer in exec mode moves on: all its fires count down
 unfoldable pub advance-fires : ℕ → Delay → Moved
 advance-fires dt d = drop-due d (map (tick-down dt) (d .fires)) 0
 
 -- ---- a Queue: with 256 records a new one is dropped; all count down, and the front one alone is handed out if it is due
 
+-- the records that a Queue keeps
 abbrev pub most-records : ℕ
 most-records = 256
 
+-- a new record, with its countdown
 unfoldable pub queue-record : Delay → List Value → Countdown → Delay
 queue-record d row k = if ltb (length (d .records)) most-records then records≔ d (snoc (d .records) (record { row = row; left = k })) else d
 
+-- the front record, if it is due
 unfoldable pub hand-out : Delay → List Queued → Moved
 hand-out d [] = moved (records≔ d []) [] 0
 hand-out d (q ∷ qs) = if due (q .left) then moved (records≔ d qs) (q .row) 1 else moved (records≔ d (q ∷ qs)) [] 0
 
+-- a Queue moves on: all its records count down
 unfoldable pub advance-records : ℕ → Delay → Moved
 advance-records dt d = hand-out d (map (λ q. record { row = q .row; left = tick-down dt (q .left) }) (d .records))
 
 -- ---- a Clock: at its interval it goes back to 0.0 and loses the excess
 
+-- at t seconds
 unfoldable pub clock-at : Delay → ℕ → ℕ → Moved
 clock-at d interval t = if le64 interval t then moved (elapsed≔ d 0 false) [] 1 else moved (elapsed≔ d t false) [] 0
 
+-- a Clock moves on by dt seconds in f64, if it is enabled
 unfoldable pub advance-elapsed : ℕ → ℕ → Bool → Delay → Moved
 advance-elapsed dt interval enabled d = if enabled then clock-at d interval (plus64 (d .elapsed) dt) else moved d [] 0
 
 -- ---- a Stopwatch: it ends at its limit, if that is above zero, and shows its time
 
+-- at t seconds
 unfoldable pub stopwatch-at : Delay → ℕ → ℕ → Moved
 stopwatch-at d limit t =
     if lt64 0 limit && le64 limit t then moved (elapsed≔ d limit false) (Float limit ∷ []) 1 else moved (elapsed≔ d t true) (Float t ∷ []) 0
 
+-- a Stopwatch moves on by dt seconds in f64, if it runs
 unfoldable pub advance-time : ℕ → ℕ → Delay → Moved
 advance-time dt limit d = if d .running then stopwatch-at d limit (plus64 (d .elapsed) dt) else moved d [] 0
 

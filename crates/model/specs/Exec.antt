@@ -21,6 +21,7 @@ pub record Stepped : Type 0 where
   pub next : Option ℕ
   pub full : Bool
 
+-- the chain goes on from output o
 unfoldable pub fires-next : State → ℕ → Stepped
 fires-next s o = record { state = s; next = some o; full = false }
 
@@ -46,22 +47,27 @@ cycle-next down (pos (suc n)) now = remainder (if down then predℤ now else suc
 module _ (c : Circuit) where
   -- ---- small readings and changes
 
+  -- the small state of gate g
   unfoldable pub delay : State → ℕ → Delay
   delay s g = getD (s .delays) g idle
 
+  -- it becomes d
   unfoldable pub delay≔ : State → ℕ → Delay → State
   delay≔ s g d = delays≔ s (set (s .delays) g d)
 
+  -- output o gets a value
   unfoldable pub set-output : State → ℕ → Value → State
   set-output s o v = wires≔ s (set-out c (s .wires) o v)
 
-  -- n inputs of gate g from p on are made ready to be read, in their order; and what they then read
+  -- n inputs of gate g from p on are made ready to be read, in their order
   unfoldable pub readied : State → ℕ → ℕ → ℕ → State
   readied s g p n = wires≔ s (each (ready c) (s .wires) (from (input c g p) n))
 
+  -- what input p of gate g reads
   unfoldable pub read : State → ℕ → ℕ → Value
   read s g p = look c (s .wires) (input c g p)
 
+  -- what n inputs of gate g from p on read
   unfoldable pub read-row : State → ℕ → ℕ → ℕ → List Value
   read-row s g p n = map (look c (s .wires)) (from (input c g p) n)
 
@@ -76,7 +82,7 @@ module _ (c : Circuit) where
 
   -- ---- by kind; p is the pin entered through
 
-  -- 11 and 13
+  -- 11 and 13: one fire more is under way, never with the zero wait
   unfoldable pub exec-Buffer : State → ℕ → Stepped
   exec-Buffer s g =
       if ltb (length (delay s g .fires)) most-fires then ends (delay≔ s g (fires≔ (delay s g) (snoc (delay s g .fires) (countdown g true))))
@@ -94,25 +100,29 @@ module _ (c : Circuit) where
       let s = readied s₀ g 1 9 in
       ends (delay≔ s g (queue-record (delay s g) (read-row s g 1 8) (countdown-of (read s g 9))))
 
+  -- the Var's value, as it stands in storage, to Value
   unfoldable pub exec-VarGet : State → ℕ → Stepped
   exec-VarGet s g = fires-next (set-output s (output c g 1) (shown (s .wires) (var g))) (output c g 0)
 
-  -- direct readers see it at once; what else it reaches is marked when it is published
+  -- a Var written, once; what reads it is marked when its write is published
   unfoldable pub record-write : State → ℕ → State
   record-write s o = if among o (s .written) then s else written≔ s (snoc (s .written) o)
 
+  -- Value, as it reads, to the Var, with no conversion; direct readers see it at once
   unfoldable pub exec-VarSet : State → ℕ → Stepped
   exec-VarSet s₀ g =
       let s = readied s₀ g 2 1 in
       fires-next (record-write (wires≔ s (show (s .wires) (var g) (read s g 2))) (var g)) (output c g 0)
 
+  -- a condition that is true to ExecOutA, else to ExecOutB
   unfoldable pub exec-Branch : State → ℕ → Stepped
   exec-Branch s₀ g = let s = readied s₀ g 1 1 in fires-next s (output c g (if truthy (read s g 1) then 0 else 1))
 
-  -- once a tick
+  -- a Union passes once a tick
   unfoldable pub exec-Union : State → ℕ → Stepped
   exec-Union s g = if among g (s .unions-passed) then ends s else fires-next (unions-passed≔ s (g ∷ s .unions-passed)) (output c g 0)
 
+  -- what is true becomes false, anything else true
   unfoldable pub exec-Toggle : State → ℕ → Stepped
   exec-Toggle s g = fires-next (set-output s (output c g 1) (Truth (not (truthy (shown (s .wires) (output c g 1)))))) (output c g 0)
 
@@ -131,6 +141,7 @@ module _ (c : Circuit) where
       (if among g (map (λ m. m .gate) (s .outbox)) then s else outbox≔ s (snoc (s .outbox) (record { gate = g; row = read-row s g 2 8 })))
       (output c g 0)
 
+  -- by the kind k of gate g
   unfoldable pub exec-kind : ℕ → State → ℕ → ℕ → Stepped
   exec-kind k s g p =
       if eqb k 2 then fires-next s (output c g 0)

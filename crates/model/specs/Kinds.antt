@@ -29,6 +29,7 @@ exec = record { called = true; source = true; constant = false; watch = if-drive
 unfoldable pub exec-only : In
 exec-only = record { called = true; source = false; constant = false; watch = never; setting = anything }
 
+-- a value input
 unfoldable pub value : In
 value = record { called = false; source = true; constant = true; watch = never; setting = anything }
 
@@ -48,13 +49,16 @@ set-to s = record { called = false; source = false; constant = true; watch = nev
 pub data Out : Type 0 where
   fires shows passes : Out
 
+-- a kind: its inputs and its outputs, in order
 pub record Kind : Type 0 where
   pub ins : List In
   pub outs : List Out
 
+-- a row of the table
 unfoldable pub kind : List In → List Out → Kind
 kind i o = record { ins = i; outs = o }
 
+-- kinds 1 to 28
 unfoldable pub table : List Kind
 table =
     kind (value ∷ value ∷ value ∷ []) (shows ∷ [])  -- 1 Select: bSelectB InputA InputB

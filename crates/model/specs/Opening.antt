@@ -55,6 +55,7 @@ pub record Opened : Type 0 where
   pub state : State
   pub raises : List (Raise State Act Place)
 
+-- these are raised at the state s, to a list
 unfoldable pub raised-to : Place → State → List Act → List (Raise State Act Place)
 raised-to p s acts = map (λ a. record { at = s; act = a; place = p }) acts
 
@@ -62,6 +63,7 @@ raised-to p s acts = map (λ a. record { at = s; act = a; place = p }) acts
 unfoldable pub fire : ℕ → ℕ → List Act
 fire n g = replicate n (record { gate = g; form = 0; row = [] })
 
+-- the next tick begins: its number, its length, the uptime; no Union has passed, and the outbox is emptied
 unfoldable pub begin-tick : State → ℕ → State
 begin-tick s dt =
     record {
@@ -87,6 +89,7 @@ module _ (c : Circuit) where
   unfoldable pub receives : ℕ → ℕ → Bool
   receives g r = eqb (kind-of-gate c r) (kind-of-gate c g + 2) && same (setting c g 1) (setting c r 0)
 
+  -- what an event raises
   unfoldable pub delivered : Send → List Act
   delivered m = map (λ r. record { gate = r; form = 1; row = m .row }) (keep (receives (m .gate)) (gates c))
 

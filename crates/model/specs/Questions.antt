@@ -14,12 +14,15 @@ use Rattle.model.specs.Value.{le64}
 use Rattle.model.specs.Kinds.{In, value, Setting, anything, ticks, seconds, variable, channel, fires, shows, passes, kind-at, pure}
 use Rattle.model.specs.Circuit.{Circuit, circuit, part, word-at, minus-one, kind-of-gate, inputs-of, source, stored-in, gate-at-output, gates, gates-of}
 
+-- low to high
 unfoldable pub within : ℕ → ℕ → ℕ → Bool
 within low high w = leb low w && leb w high
 
+-- neither an infinity nor a NaN
 unfoldable pub finite : ℕ → Bool
 finite b = elim (ofBits binary64 b) [ nan ↦ false | inf s ↦ false | fin s m e ↦ true ]
 
+-- all were answered yes
 unfoldable pub yes-all : List Bool → Bool
 yes-all bs = all (λ b. b) bs
 
@@ -34,6 +37,7 @@ question-1 bytes ws =
 unfoldable pub good-constant : ℕ → ℕ → Bool
 good-constant k b = if eqb k 1 then true else if eqb k 2 then finite b else if eqb k 3 then within 0 1 b else false
 
+-- of all constants
 unfoldable pub question-2 : List ℕ → Bool
 question-2 ws = yes-all (both good-constant (part ws 4 (word-at ws 1)) (part ws (4 + word-at ws 1) (word-at ws 1)))
 
@@ -47,24 +51,28 @@ question-3 ws c =
 unfoldable pub value-output : Circuit → ℕ → Bool
 value-output c o = ltb o (length (c .outputs)) && (elim (getD (c .outputs) o fires) [ fires ↦ false | shows ↦ true | passes ↦ true ])
 
+-- an Int that passes the test
 unfoldable pub int-such-that : (ℕ → Bool) → Value → Bool
 int-such-that p Nothing = false
 int-such-that p (Int b) = p b
 int-such-that p (Float b) = false
 int-such-that p (Truth t) = false
 
+-- an Int or nothing
 unfoldable pub int-or-nothing : Value → Bool
 int-or-nothing Nothing = true
 int-or-nothing (Int b) = true
 int-or-nothing (Float b) = false
 int-or-nothing (Truth t) = false
 
+-- a Float or nothing
 unfoldable pub float-or-nothing : Value → Bool
 float-or-nothing Nothing = true
 float-or-nothing (Int b) = false
 float-or-nothing (Float b) = true
 float-or-nothing (Truth t) = false
 
+-- initial anything; tick waits Int or nothing; seconds Float or nothing; variable the Int number of a kind-5 gate; channel an Int 0 to 255
 unfoldable pub good-setting : Circuit → Setting → Value → Bool
 good-setting c anything v = true
 good-setting c ticks v = int-or-nothing v
@@ -82,6 +90,7 @@ good-input c pin src k v =
     (if eqb src minus-one then true else value-output c src && pin .source && eqb k 0)
     && names-constant c k && (eqb k 0 || pin .constant) && good-setting c (pin .setting) v
 
+-- of all inputs
 unfoldable pub question-4 : List ℕ → Circuit → Bool
 question-4 ws c =
     let I = word-at ws 2 in
@@ -92,9 +101,11 @@ question-4 ws c =
 unfoldable pub may-call : Circuit → ℕ → Bool
 may-call c o = ltb o (length (c .outputs)) && (elim (getD (c .outputs) o shows) [ fires ↦ true | shows ↦ false | passes ↦ true ])
 
+-- E or RER_Input, by the word of a target
 unfoldable pub may-be-called : Circuit → ℕ → Bool
 may-be-called c t = ltb (t / 2) (length (c .pins)) && getD (c .pins) (t / 2) value .called
 
+-- of all calls
 unfoldable pub question-5 : List ℕ → Circuit → Bool
 question-5 ws c =
     let C = word-at ws 3 in
@@ -106,13 +117,16 @@ question-5 ws c =
 unfoldable pub source-placed : Circuit → List Bool → ℕ → Bool
 source-placed c placed i = elim (source c i) [ none ↦ true | some o ↦ getD placed (gate-at-output c o) true ]
 
+-- one round
 unfoldable pub place : Circuit → List Bool → List Bool
 place c placed = map (λ g. not (pure (kind-of-gate c g)) || all (source-placed c placed) (inputs-of c g)) (gates c)
 
+-- n rounds
 unfoldable pub place-on : Circuit → ℕ → List Bool → List Bool
 place-on c zero placed = placed
 place-on c (suc n) placed = place-on c n (place c placed)
 
+-- all are placed in the end; at the beginning those that are not pure
 unfoldable pub question-6 : Circuit → Bool
 question-6 c = yes-all (place-on c (length (c .kinds)) (map (λ k. not (pure k)) (c .kinds)))
 
@@ -122,6 +136,7 @@ pub record Areas : Type 0 where
   pub units : ℕ
   pub delays : ℕ
 
+-- Queues in ticks and in seconds together
 unfoldable pub queues : Circuit → ℕ
 queues c = length (gates-of c (within 16 17))
 
@@ -140,6 +155,7 @@ question-8 bytes ws =
 unfoldable pub good-length : ℕ → Bool
 good-length b = finite b && le64 0 b && le64 b 0x40AC200000000000
 
+-- of all tick lengths and counts
 unfoldable pub question-9 : List ℕ → Bool
 question-9 ws =
     let T = word-at ws 0 in
@@ -177,6 +193,7 @@ unfoldable pub or-else : ℕ → ℕ → ℕ
 or-else zero later = later
 or-else (suc n) later = suc n
 
+-- the number that a call with this circuit and script is refused with, or 0
 unfoldable pub refusal : Option Areas → List ℕ → List ℕ → ℕ
 refusal areas circuit-bytes script-bytes = or-else (circuit-refusal areas circuit-bytes) (script-refusal (circuit (words circuit-bytes)) script-bytes)
 

@@ -33,6 +33,7 @@ units-begun o = map (λ a. a .gate) (o .late ++ o .main) ++ map (λ a. a .form) 
 unfoldable pub outputs-shown : State → ℕ → List ℕ
 outputs-shown s stop = if eqb stop 0 then map kind-of (s .wires .outs) ++ map content-of (s .wires .outs) else []
 
+-- the words of a record
 unfoldable pub log-record : ℕ → World → Outcome Act → List ℕ
 log-record limit w o = head limit w o ++ units-begun o ++ outputs-shown (w .state) (o .stop)
 
@@ -43,6 +44,7 @@ write w r =
     record { world = record { state = w .state; left = w .left; room = w .room - 8 * length r; logged = r }; fits = true }
     else record { world = record { state = w .state; left = w .left; room = w .room; logged = [] }; fits = false }
 
+-- the record of a tick, made and written
 unfoldable pub close : ℕ → World → Outcome Act → Closed World
 close limit w o = write w (log-record limit w o)
 

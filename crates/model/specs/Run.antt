@@ -23,14 +23,17 @@ pub record Played : Type 0 where
   pub ticks : ℕ
 
 module _ (c : Circuit) (limit : ℕ) where
+  -- before the passes: no step was made
   unfoldable pub opening : World → Given → Did World Act Place
   opening w given =
       let z = open-tick c (w .state) given in
       record { world = state≔ w limit (z .state); raises = raises-in w limit (z .raises); stop = 0 }
 
+  -- what a unit does
   unfoldable pub body : World → Act → Did World Act (Unit {0})
   body w a = finish-chain c w (run-unit c w a)
 
+  -- after the passes: the outputs are read, the record is written
   unfoldable pub closing : World → Outcome Act → Closed World
   closing w o = close limit (state≔ w (w .left) (read-outputs c (w .state) (o .stop))) o
 
@@ -46,10 +49,12 @@ module _ (c : Circuit) (limit : ℕ) where
   unfoldable pub ticks-of : ℕ → List Given → List (Tick (plain machine))
   ticks-of room given = run (plain machine) given (world-at-start room)
 
+  -- the stop of the last tick, or 0
   unfoldable pub last-stop : List (Tick (plain machine)) → ℕ
   last-stop [] = 0
   last-stop (t ∷ ts) = if eqb (t .stop) 0 then last-stop ts else t .stop
 
+  -- the records of a run's ticks, one behind the other, its stop, and how many ticks had none
   unfoldable pub seen : List (Tick (plain machine)) → Played
   seen ts =
       record {

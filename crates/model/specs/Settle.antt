@@ -22,17 +22,20 @@ pub record Settled : Type 0 where
   pub state : State
   pub raises : List (Raise State Act (Unit {0}))
 
+-- nothing was raised
 unfoldable pub calm : State → Settled
 calm s = record { state = s; raises = [] }
 
+-- gate g is raised, in a form that brings no values
 unfoldable pub raise : State → ℕ → ℕ → Settled
 raise s g form = record { state = s; raises = record { at = s; act = record { gate = g; form = form; row = [] }; place = tt } ∷ [] }
 
--- what the last check read, nothing where there was none; and whether it is what is read now
+-- what the last check read, nothing where there was none
 unfoldable pub last-value : Option Value → Value
 last-value none = Nothing
 last-value (some u) = u
 
+-- whether it is equal to what is read now
 unfoldable pub unchanged : Option Value → Value → Bool
 unchanged none v = false
 unchanged (some u) v = same u v
@@ -68,6 +71,7 @@ module _ (c : Circuit) where
       let t = last≔ s (set (s .last) i (some now)) in
       if unchanged was now then calm t else detect (kind-of-gate c (gate-at-input c i)) t (gate-at-input c i) (i - input c (gate-at-input c i) 0) (last-value was) now
 
+  -- a watched input is read again
   unfoldable pub check : State → ℕ → Settled
   check s i = let t = wires≔ s (ready c (s .wires) i) in compared t i (getD (s .last) i none) (look c (t .wires) i)
 

@@ -20,6 +20,7 @@ pub record World : Type 0 where
   pub room : ℕ
   pub logged : List ℕ
 
+-- another state, and other steps left
 unfoldable pub state≔ : World → ℕ → State → World
 state≔ w left s = record { state = s; left = left; room = w .room; logged = w .logged }
 
@@ -42,6 +43,7 @@ module _ (c : Circuit) where
   unfoldable pub enter : State → Act → State
   enter s a = wires≔ s (set-outs c (s .wires) (output c (a .gate) 1) (a .row))
 
+  -- a unit's chain and forks
   unfoldable pub run-unit : World → Act → Chained
   run-unit w a = run-chain c (w .left) (begin a) (enter (w .state) a)
 

@@ -11,21 +11,27 @@ use Rattle.model.specs.declared.Value.the-variants.{Nothing, Int, Float,
 
 -- ---- f64 and f32 by their bits
 
+-- the f64 sum, rounded to nearest, ties to even
 unfoldable pub plus64 : ℕ → ℕ → ℕ
 plus64 a b = toBits binary64 (add binary64 (ofBits binary64 a) (ofBits binary64 b))
 
+-- at most; 0.0 and -0.0 are equal
 unfoldable pub le64 : ℕ → ℕ → Bool
 le64 a b = le (ofBits binary64 a) (ofBits binary64 b)
 
+-- below
 unfoldable pub lt64 : ℕ → ℕ → Bool
 lt64 a b = lt (ofBits binary64 a) (ofBits binary64 b)
 
+-- equal
 unfoldable pub eq64 : ℕ → ℕ → Bool
 eq64 a b = eq (ofBits binary64 a) (ofBits binary64 b)
 
+-- the f32 sum, rounded likewise
 unfoldable pub plus32 : ℕ → ℕ → ℕ
 plus32 a b = toBits binary32 (add binary32 (ofBits binary32 a) (ofBits binary32 b))
 
+-- at most, of f32
 unfoldable pub le32 : ℕ → ℕ → Bool
 le32 a b = le (ofBits binary32 a) (ofBits binary32 b)
 
@@ -35,13 +41,15 @@ nearest32 nan = nan
 nearest32 (inf s) = inf s
 nearest32 (fin s m e) = round binary32 s (m * up e) (down e)
 
+-- the f32 bits that f64 bits narrow to
 unfoldable pub narrow : ℕ → ℕ
 narrow b = toBits binary32 (nearest32 (ofBits binary64 b))
 
--- 1.0 and -1.0
+-- 1.0
 abbrev pub one-point-zero : ℕ
 one-point-zero = 0x3FF0000000000000
 
+-- -1.0
 abbrev pub minus-one-point-zero : ℕ
 minus-one-point-zero = 0xBFF0000000000000
 
@@ -54,6 +62,7 @@ truthy (Int b) = not (eqb b 0)
 truthy (Float b) = not (eq64 b 0)
 truthy (Truth t) = t
 
+-- 1 for true
 unfoldable pub bit : Bool → ℕ
 bit false = 0
 bit true = 1
@@ -93,18 +102,21 @@ same (Truth x) (Truth y) = Bool·beq x y
 
 -- ---- as two words, kind and content: 0 0 is nothing, 1 Int, 2 Float, 3 Bool
 
+-- the kind of a value
 unfoldable pub kind-of : Value → ℕ
 kind-of Nothing = 0
 kind-of (Int b) = 1
 kind-of (Float b) = 2
 kind-of (Truth t) = 3
 
+-- its content: the bits of an Int or a Float, 0 or 1 of a Bool
 unfoldable pub content-of : Value → ℕ
 content-of Nothing = 0
 content-of (Int b) = b
 content-of (Float b) = b
 content-of (Truth t) = bit t
 
+-- the value of a kind and a content
 unfoldable pub value-of : ℕ → ℕ → Value
 value-of zero b = Nothing
 value-of (suc zero) b = Int b

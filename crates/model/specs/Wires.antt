@@ -22,6 +22,7 @@ shown w o = getD (w .outs) o Nothing
 unfoldable pub show : Wires → ℕ → Value → Wires
 show w o v = outs≔ w (set (w .outs) o v)
 
+-- whether gate g is stale
 unfoldable pub is-dirty : Wires → ℕ → Bool
 is-dirty w g = getD (w .dirty) g false
 
@@ -29,9 +30,11 @@ is-dirty w g = getD (w .dirty) g false
 unfoldable pub is-clean : Wires → ℕ → Bool
 is-clean w g = not (getD (w .dirty) g true)
 
+-- gate g becomes stale
 unfoldable pub soil : Wires → ℕ → Wires
 soil w g = dirty≔ w (set (w .dirty) g true)
 
+-- gate g is fresh
 unfoldable pub clean : Wires → ℕ → Wires
 clean w g = dirty≔ w (set (w .dirty) g false)
 
@@ -59,6 +62,7 @@ module _ (c : Circuit) where
       else if eqb (kind-of-gate c g) 3 then Float (w .dt)
       else Float (w .uptime)
 
+  -- a pure gate shows what it gives, and is fresh
   unfoldable pub recompute : Wires → ℕ → Wires
   recompute w g = clean (show w (output c g 0) (compute w g)) g
 
@@ -72,12 +76,15 @@ module _ (c : Circuit) where
   refresh-to zero w g = w
   refresh-to (suc deep) w g = elim (is-dirty w g) [ true ↦ recompute (each (behind (λ v h. refresh-to deep v h)) w (inputs-of c g)) g | false ↦ w ]
 
+  -- gate g and all that it reads
   unfoldable pub refresh : Wires → ℕ → Wires
   refresh w g = refresh-to (length (c .kinds)) w g
 
+  -- every gate, ascending
   unfoldable pub refresh-all : Wires → Wires
   refresh-all w = each refresh w (gates c)
 
+  -- what input i reads is fresh
   unfoldable pub ready : Wires → ℕ → Wires
   ready w i = behind refresh w i
 
@@ -96,6 +103,7 @@ module _ (c : Circuit) where
   mark-on zero m = m .wires
   mark-on (suc n) m = elim (m .work) [ [] ↦ m .wires | (o ∷ work) ↦ mark-on n (each mark-reader (record { wires = m .wires; work = work }) (readers-of c o)) ]
 
+  -- all that reads output o
   unfoldable pub mark-readers : Wires → ℕ → Wires
   mark-readers w o = mark-on (suc (length (c .kinds))) (record { wires = w; work = o ∷ [] })
 

@@ -13,7 +13,7 @@ use Rattle.schedule.specs.Promise.{All, [·], _∷·_, Raised, Played, B
 use Rattle.schedule.proofs.Steps.{next-main-is, To-main, at-carried, at-pending, activate-main-is, activate-open-is, Raises, none, one, Passes, broke, done, turn}
 use Rattle.schedule.proofs.Ticks.{Ticked}
 
-all-map : {A : Type 0} {P R : A → Type 0} {l : List A} → ((a : A) → P a → R a) → All P l → All R l
+pub all-map : {A : Type 0} {P R : A → Type 0} {l : List A} → ((a : A) → P a → R a) → All P l → All R l
 all-map f All.[·] = All.[·]
 all-map f (All._∷·_ {a = a} p ps) = All._∷·_ (f a p) (all-map f ps)
 

@@ -71,6 +71,7 @@ module _ (M : Machine) where
   abbrev pub Raised : Type 0
   Raised = Activation (numbered M)
 
+  -- a tick of numbered activations
   abbrev pub Played : Type 0
   Played = Tick (numbered M)
 

@@ -8,6 +8,7 @@ use lib.Dec.{leb, ltb, eqb}
 
 -- ---- the limits, and the stops that they lead to
 
+-- units begun in a tick
 abbrev pub most-units : ℕ
 most-units = 1024
 
@@ -15,6 +16,7 @@ most-units = 1024
 abbrev pub most-waiting : ℕ
 most-waiting = 256
 
+-- delivered events
 abbrev pub most-delivered : ℕ
 most-delivered = 64
 
@@ -56,6 +58,7 @@ pub record Closed (W : Type 0) : Type 0 where
 pub data Place : Type 0 where
   to-late to-delivered to-pending : Place
 
+-- What is scheduled.
 pub record Machine : Type 1 where
   -- all that a tick leaves to the next but the lists, and what a script gives to a tick
   pub W : Type 0
@@ -89,14 +92,17 @@ plain M = record { machine = M; Tag = Unit {0}; first = tt; after = λ t. t }
 
 -- ---- the lists
 
+-- what waits for the late pass: by rank, and delivered events in the order sent
 pub record LateQ (E : Type 0) : Type 0 where
   pub late : List E
   pub delivered : List E
 
+-- what waits for the main pass, by rank, and what is carried into the next tick, in the order raised
 pub record MainQ (E : Type 0) : Type 0 where
   pub pending : List E
   pub carried : List E
 
+-- what waits while a tick opens
 pub record OpenQ (E : Type 0) : Type 0 where
   pub lateq : LateQ E
   pub pending : List E
@@ -124,6 +130,7 @@ module _ (S : Setup) where
     pub act : Act
     pub tag : Tag
 
+  -- an activation's rank
   abbrev pub rank-of : Activation → ℕ
   rank-of e = rank (e .act)
 
@@ -132,6 +139,7 @@ module _ (S : Setup) where
   push e [] = e ∷ []
   push e (x ∷ l) = cond (leb (rank-of x) (rank-of e)) (x ∷ push e l) (e ∷ x ∷ l)
 
+  -- one after the other
   unfoldable pub push-all : List Activation → List Activation → List Activation
   push-all [] l = l
   push-all (e ∷ es) l = push-all es (push e l)
@@ -164,6 +172,7 @@ module _ (S : Setup) where
 
   -- ---- raising: one after the other, up to the first that finds its list full
 
+  -- what raising came to: what was raised, the queue, the identity to give next, the world, and the stop or 0
   pub record Raising (Q : Type 0) : Type 0 where
     pub raised : List Activation
     pub queue : Q
@@ -171,13 +180,16 @@ module _ (S : Setup) where
     pub world : W
     pub stop : ℕ
 
+  -- e was raised, then the rest
   abbrev pub raising : {Q : Type 0} → Activation → Raising Q → Raising Q
   raising e k = record { raised = e ∷ k .raised; queue = k .queue; next = k .next; world = k .world; stop = k .stop }
 
+  -- by whether there was room
   abbrev pub raise-on : {Q : Type 0} → Filed Q → Activation → Raising Q → (Q → Raising Q) → Raising Q
   raise-on full e z k = z
   raise-on (filed q) e z k = raising e (k q)
 
+  -- as `activate` puts them
   unfoldable pub raise-all : {P Q : Type 0} → (P → Activation → Q → Filed Q) → List (Raise W Act P) → Tag → Q → W → ℕ → Raising Q
   raise-all activate [] t q w s = record { raised = []; queue = q; next = t; world = w; stop = s }
   raise-all activate (r ∷ rs) t q w s =
@@ -196,6 +208,7 @@ module _ (S : Setup) where
     pub raised : List Activation
     pub ran : Bool
 
+  -- what a pass came to: the units begun in order, the queue, the identity to give next, the world, the stop or 0, and the units that may still begin
   pub record Passed (Q : Type 0) : Type 0 where
     pub turns : List Turn
     pub queue : Q
@@ -204,17 +217,21 @@ module _ (S : Setup) where
     pub stop : ℕ
     pub left : ℕ
 
+  -- the unit u begins, then the rest
   abbrev pub turning : {Q : Type 0} → Activation → W → List Activation → Bool → Passed Q → Passed Q
   turning u w es ran k =
       record { turns = record { unit = u; from = w; raised = es; ran = ran } ∷ k .turns; queue = k .queue; next = k .next; world = k .world; stop = k .stop; left = k .left }
 
+  -- none begins
   abbrev pub no-turn : {Q : Type 0} → ℕ → Tag → Q → W → ℕ → Passed Q
   no-turn n t q w s = record { turns = []; queue = q; next = t; world = w; stop = s; left = n }
 
+  -- by whether one waits
   abbrev pub pass-on : {Q : Type 0} → Took Activation Q → Passed Q → (Activation → Q → Passed Q) → Passed Q
   pass-on empty z k = z
   pass-on (took u q) z k = k u q
 
+  -- It stops where one waits and none may begin any more.
   unfoldable pub pass : {Q : Type 0} → (Q → Took Activation Q) → (Activation → Activation → Q → Filed Q) → ℕ → Tag → Q → W → ℕ → Passed Q
   pass next activate zero t q w zero = pass-on (next q) (no-turn zero t q w 0) (λ u q′. no-turn zero t q w list-full)
   pass next activate zero t q w (suc s) = no-turn zero t q w (suc s)
@@ -231,9 +248,11 @@ module _ (S : Setup) where
   next-late′ [] (e ∷ d) = took e (record { late = []; delivered = d })
   next-late′ (e ∷ l) d = took e (record { late = l; delivered = d })
 
+  -- the one that the late pass begins next
   unfoldable pub next-late : LateQ Activation → Took Activation (LateQ Activation)
   next-late q = next-late′ (q .late) (q .delivered)
 
+  -- with at most n units
   unfoldable pub late-pass : ℕ → Tag → LateQ Activation → W → ℕ → Passed (LateQ Activation)
   late-pass = pass next-late activate-late
 
@@ -242,9 +261,11 @@ module _ (S : Setup) where
   next-main′ [] c = empty
   next-main′ (e ∷ l) c = took e (record { pending = l; carried = c })
 
+  -- the one that the main pass begins next
   unfoldable pub next-main : MainQ Activation → Took Activation (MainQ Activation)
   next-main q = next-main′ (q .pending) (q .carried)
 
+  -- with as many units as the late pass left
   unfoldable pub main-pass : ℕ → Tag → MainQ Activation → W → ℕ → Passed (MainQ Activation)
   main-pass = pass next-main activate-main
 
@@ -264,10 +285,12 @@ module _ (S : Setup) where
     pub world : W
     pub stop : ℕ
 
+  -- what the units of a pass ran
   abbrev pub acts : List Turn → List Act
   acts [] = []
   acts (u ∷ us) = u .unit .act ∷ acts us
 
+  -- what the record is made of
   abbrev pub outcome : List Turn → List Turn → List Activation → ℕ → Outcome Act
   outcome late main carried stop = record { late = acts late; main = acts main; carried = map (λ (e : Activation). e .act) carried; stop = stop }
 
