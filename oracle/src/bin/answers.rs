@@ -1,0 +1,60 @@
+//! Answers cases from a file in short: a changed oracle is told by them.
+//!
+//! A case is a line: its name, the bytes lent for log, values, units and
+//! delays, and the bytes of circuit and script in hexadecimal, with tabs
+//! between. Its answer is a line too: the name, quick or slow, the answers of
+//! `check` and `run`, and of a log its length and a number made of its words.
+
+use std::io::{BufRead, BufReader, Write};
+use std::panic::catch_unwind;
+
+use oracle::{Answer, Lent, check, run};
+
+/// An answer of more words, or with more steps in its first tick, is slow.
+const MANY_WORDS: usize = 50_000;
+const MANY_STEPS: i64 = 1_000_000;
+
+/// The numbers of FNV-1a, 64 bits.
+const OFFSET: u64 = 0xcbf2_9ce4_8422_2325;
+const PRIME: u64 = 0x0000_0100_0000_01b3;
+
+fn main() {
+    let file = std::env::args_os().nth(1).expect("a file of cases");
+    let file = BufReader::new(std::fs::File::open(file).expect("a file of cases"));
+    // A panic is an answer of a broken oracle, and prints nothing else.
+    std::panic::set_hook(Box::new(|_| {}));
+    for line in file.lines() {
+        let line = line.expect("text");
+        let (name, case) = line.split_once('\t').expect("a name and a case");
+        let short = catch_unwind(|| in_short(case)).unwrap_or_else(|_| "quick\tpanicked".to_string());
+        println!("{name}\t{short}");
+        std::io::stdout().flush().expect("an open output");
+    }
+}
+
+fn in_short(case: &str) -> String {
+    let parts: Vec<&str> = case.split('\t').collect();
+    let [log, values, units, delays] = [0, 1, 2, 3].map(|at| parts[at].parse().expect("a size"));
+    let (circuit, script) = (bytes(parts[4]), bytes(parts[5]));
+    let checked = check(&circuit, &script);
+    match run(&circuit, &script, &Lent { log, values, units, delays }) {
+        Answer::Refused(number) => format!("quick\t{checked} refused {number}"),
+        Answer::Played { log, stop, ticks } => {
+            let steps = log.get(1).copied().unwrap_or(0);
+            let slow = log.len() > MANY_WORDS || steps > MANY_STEPS;
+            let speed = if slow { "slow" } else { "quick" };
+            format!("{speed}\t{checked} {stop} {ticks} {} {:016x}", log.len(), hash(&log))
+        }
+    }
+}
+
+fn bytes(hexadecimal: &str) -> Vec<u8> {
+    let (pairs, _) = hexadecimal.as_bytes().as_chunks::<2>();
+    let byte = |pair: &[u8; 2]| u8::from_str_radix(str::from_utf8(pair).ok()?, 16).ok();
+    pairs.iter().map(|pair| byte(pair).expect("hexadecimal")).collect()
+}
+
+fn hash(words: &[i64]) -> u64 {
+    let bytes = words.iter().flat_map(|w| w.to_le_bytes());
+    bytes.fold(OFFSET, |h, b| (h ^ u64::from(b)).wrapping_mul(PRIME))
+}

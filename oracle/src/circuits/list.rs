@@ -1,0 +1,72 @@
+//! docs/CIRCUITS.md, written from the list of the stated circuits.
+
+use super::places::{HELD_OTHERWISE, PLACES};
+use super::{Case, Group, groups};
+use crate::generate::FAMILIES;
+
+/// The text of docs/CIRCUITS.md.
+pub fn document() -> String {
+    let groups = groups();
+    let mut text = String::from(INTRODUCTION);
+    for group in &groups {
+        text += &format!("\n## {}\n\n{}\n\n", capital(group.name), group.about);
+        text += &if group.name == "families" { families(group) } else { table(&group.cases) };
+    }
+    text += PLACES_INTRODUCTION;
+    for (place, number) in PLACES.into_iter().zip(1..) {
+        text += &format!("{number}. {place} {}\n", told(&groups, number));
+    }
+    text
+}
+
+const INTRODUCTION: &str = "# The stated circuits
+
+Every circuit and script that the player and the source are compared on, with what each shows. This page is
+written from the list in `oracle/src/circuits` (`oracle circuits > docs/CIRCUITS.md`), and a test holds it to
+that list. `oracle circuits NAME DIR` writes one as `circuit.bin` and `script.bin`; `vectors/` holds the
+answers.
+";
+
+const PLACES_INTRODUCTION: &str = "\n## Places where a port goes wrong
+
+Each with the circuits that tell it, or how else it is held.
+
+";
+
+fn capital(name: &str) -> String {
+    let (first, rest) = name.split_at(1);
+    first.to_uppercase() + rest
+}
+
+fn table(cases: &[Case]) -> String {
+    let mut text = String::from("| circuit | shows |\n|---|---|\n");
+    for case in cases {
+        text += &format!("| {} | {} |\n", case.name, case.shows);
+    }
+    text
+}
+
+/// One row a family: its circuits differ in their seeds alone.
+fn families(group: &Group) -> String {
+    let mut text = String::from("| circuits | family |\n|---|---|\n");
+    for family in FAMILIES {
+        text += &row(group, &format!("random-{}", family.name()), family.about());
+    }
+    text + &row(group, "damaged", "Small circuits with a fault of one or two questions")
+}
+
+fn row(group: &Group, name: &str, about: &str) -> String {
+    let n = group.cases.iter().filter(|c| c.name.starts_with(&format!("{name}-"))).count();
+    format!("| {name}-0 to {name}-{} | {about} |\n", n - 1)
+}
+
+/// The circuits that tell a place, or how else it is held.
+fn told(groups: &[Group], place: u8) -> String {
+    if let Some((_, otherwise)) = HELD_OTHERWISE.into_iter().find(|held| held.0 == place) {
+        return otherwise.to_string();
+    }
+    let cases = groups.iter().flat_map(|g| &g.cases).filter(|c| c.trap.contains(&place));
+    let names: Vec<&str> = cases.map(|c| c.name.as_str()).collect();
+    let more = if names.len() > 8 { format!(" and {} more", names.len() - 8) } else { String::new() };
+    format!("({}{more})", names[..names.len().min(8)].join(", "))
+}

@@ -1,0 +1,163 @@
+//! What a family of random circuits is about, and what it draws from.
+
+#[derive(Clone, Copy, Debug, PartialEq, Eq)]
+pub enum Family {
+    Small,
+    Pure,
+    Ranks,
+    Feedback,
+    Events,
+    Remote,
+    Buffers,
+    Seconds,
+    Clocks,
+    Queues,
+    Pulses,
+    Variables,
+    Mixed,
+    Stops,
+}
+
+pub const FAMILIES: [Family; 14] = [
+    Family::Small,
+    Family::Pure,
+    Family::Ranks,
+    Family::Feedback,
+    Family::Events,
+    Family::Remote,
+    Family::Buffers,
+    Family::Seconds,
+    Family::Clocks,
+    Family::Queues,
+    Family::Pulses,
+    Family::Variables,
+    Family::Mixed,
+    Family::Stops,
+];
+
+impl Family {
+    pub fn name(self) -> String {
+        format!("{self:?}").to_lowercase()
+    }
+
+    pub fn about(self) -> &'static str {
+        match self {
+            Family::Small => "Any kinds, few gates, few ticks",
+            Family::Pure => "Selects and Reroutes over variables and time",
+            Family::Ranks => "Ties and inversions of rank, much of it carried",
+            Family::Feedback => "Pins driven by what they change",
+            Family::Events => "Sends and events, local and global",
+            Family::Remote => "Forks, and forks of forks",
+            Family::Buffers => "All four kinds of buffer",
+            Family::Seconds => "Awkward seconds: 0.1, 1/3, 2^24, tiny, huge, negative",
+            Family::Clocks => "Clocks and Stopwatches",
+            Family::Queues => "Up to three Queues",
+            Family::Pulses => "Detectors and their pulses",
+            Family::Variables => "Variables written and read in chains",
+            Family::Mixed => "Any kinds, many gates",
+            Family::Stops => "Circuits that end with 12 or 13",
+        }
+    }
+}
+
+/// What a family draws from.
+pub struct Profile {
+    pub gates: (usize, usize),
+    pub ticks: (usize, usize),
+    pub kinds: Vec<i64>,
+    pub ranks: Vec<i64>,
+    /// Of a hundred exec pins, how many have a source.
+    pub driven: usize,
+    /// Of a hundred outputs that may call, how many do.
+    pub calling: usize,
+    /// Of a hundred calls, how many are remote.
+    pub remote: usize,
+    pub queues: usize,
+    pub lengths: &'static [f64],
+}
+
+const PLAIN: &[f64] = &[0.25, 0.25, 0.5, 0.125, 1.0, 0.0];
+
+const AWKWARD: &[f64] = &[
+    0.1,
+    0.1,
+    0.1,
+    1.0 / 3.0,
+    1.0 / 60.0,
+    0.0,
+    -0.0,
+    5e-324,
+    1e-45,
+    1e-30,
+    1e-7,
+    0.7,
+    0.30000000000000004,
+    1.0000000596046448,
+    3600.0,
+];
+
+fn plain() -> Profile {
+    Profile {
+        gates: (6, 20),
+        ticks: (6, 14),
+        kinds: (1..=28).collect(),
+        ranks: vec![0, 1, 2, 2, 3, 5, 65_535],
+        driven: 40,
+        calling: 75,
+        remote: 15,
+        queues: 1,
+        lengths: PLAIN,
+    }
+}
+
+fn of(kinds: &[i64]) -> Profile {
+    Profile { kinds: kinds.to_vec(), ..plain() }
+}
+
+impl Family {
+    pub fn profile(self) -> Profile {
+        match self {
+            Family::Small => Profile { gates: (3, 12), ticks: (3, 6), ..plain() },
+            Family::Pure => of(&[1, 1, 1, 2, 2, 3, 4, 5, 6, 6, 10, 19, 20, 22]),
+            Family::Ranks => Profile {
+                gates: (12, 28),
+                ranks: vec![4, 4, 5, 3],
+                driven: 60,
+                calling: 95,
+                ..of(&[3, 6, 6, 6, 9, 9, 14, 14, 14, 22, 22, 22, 23, 20, 1])
+            },
+            Family::Feedback => {
+                Profile { driven: 90, ..of(&[1, 2, 6, 7, 8, 9, 19, 5, 20, 21, 22, 23, 10, 15]) }
+            }
+            Family::Events => of(&[24, 24, 25, 25, 26, 26, 27, 27, 22, 23, 6, 19, 5, 14]),
+            Family::Remote => {
+                Profile { remote: 60, calling: 95, ..of(&[2, 2, 18, 19, 19, 5, 20, 21, 22, 23, 1, 24, 26]) }
+            }
+            Family::Buffers => {
+                Profile { driven: 60, ..of(&[10, 10, 11, 11, 12, 12, 13, 13, 22, 23, 1, 6, 14]) }
+            }
+            Family::Seconds => Profile {
+                lengths: AWKWARD,
+                ticks: (10, 24),
+                ..of(&[12, 12, 13, 13, 17, 14, 15, 3, 4, 22, 23, 6])
+            },
+            Family::Clocks => Profile {
+                lengths: AWKWARD,
+                driven: 60,
+                ..of(&[14, 14, 14, 15, 15, 15, 3, 4, 1, 22, 23, 6, 9])
+            },
+            Family::Queues => Profile {
+                queues: 3,
+                calling: 95,
+                ticks: (8, 20),
+                ..of(&[16, 17, 16, 17, 23, 22, 6, 1, 3, 19, 5])
+            },
+            Family::Pulses => Profile { ticks: (8, 20), ..of(&[6, 7, 7, 8, 8, 9, 9, 1, 2, 22, 23, 3]) },
+            Family::Variables => {
+                Profile { calling: 95, driven: 25, ..of(&[5, 5, 18, 19, 19, 19, 1, 2, 2, 20, 6, 8]) }
+            }
+            Family::Mixed => Profile { gates: (24, 64), ticks: (10, 24), ..plain() },
+            Family::Stops => Profile { gates: (4, 12), ..plain() },
+        }
+    }
+}

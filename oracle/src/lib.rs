@@ -1,0 +1,68 @@
+//! The oracle: the source's `Machine::step`, with its outside operations cut
+//! off, played on circuits and scripts of document 01.
+
+// What is left of the source, and what it leans on, under the source's paths.
+pub mod source;
+mod collections;
+mod fields;
+mod semantics;
+pub use source::{Dt, SimError, SimOptions, graph, machine, value, world};
+
+// Document 01: its bytes, its questions, its run.
+pub mod circuit;
+pub mod graph_of;
+pub mod kinds;
+pub mod play;
+pub mod print;
+pub mod questions;
+pub mod script;
+pub mod words;
+
+// The stated circuits (build, generate, circuits, vectors):
+pub mod build;
+pub mod circuits;
+pub mod generate;
+pub mod vectors;
+
+/// How many bytes are lent for the log and for the three areas.
+#[derive(Clone, Debug, PartialEq, Eq)]
+pub struct Lent {
+    pub log: usize,
+    pub values: usize,
+    pub units: usize,
+    pub delays: usize,
+}
+
+impl Default for Lent {
+    fn default() -> Self {
+        Self { log: 65_536, values: 65_536, units: 65_536, delays: 65_536 }
+    }
+}
+
+/// What a call answers.
+#[derive(Clone, Debug, PartialEq, Eq)]
+pub enum Answer {
+    /// The number of the first question answered no.
+    Refused(u8),
+    /// The words written to the log, the stop (0 for none) and the ticks done.
+    Played { log: Vec<i64>, stop: u8, ticks: u64 },
+}
+
+/// Ask the ten questions, then play.
+pub fn run(circuit: &[u8], script: &[u8], lent: &Lent) -> Answer {
+    match questions::ask(circuit, script, Some(lent)) {
+        Err(number) => Answer::Refused(number),
+        Ok((circuit, script)) => play::play(&circuit, &script, lent.log),
+    }
+}
+
+/// The questions of a call that is lent no areas: the number of the first
+/// answered no, or 0.
+pub fn check(circuit: &[u8], script: &[u8]) -> u8 {
+    questions::ask(circuit, script, None).err().unwrap_or(0)
+}
+
+/// What document 01's program prints for `answer`.
+pub fn print(answer: &Answer) -> String {
+    print::lines(answer, print::outputs_of(answer))
+}

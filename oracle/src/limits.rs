@@ -1,0 +1,89 @@
+//! The limits of document 01 (stop 12), and the units begun in a tick.
+
+use super::{Activation, Machine};
+use crate::SimError;
+use crate::graph::GateId;
+
+/// The most entries of pending, late, carried, forks and chain stack, each.
+pub(super) const LIST: usize = 256;
+/// The most delivered events.
+pub(super) const DELIVERED: usize = 64;
+/// The most fires of a buffer.
+pub(super) const FIRES: usize = 32;
+/// The most units of a tick.
+const UNITS: usize = 1_024;
+
+/// What a tick has begun, and what its ranked lists hold.
+#[derive(Default)]
+pub(super) struct Tally {
+    /// Entries of `pending` over all ranks.
+    pub(super) pending: usize,
+    /// Entries of `late` over all ranks.
+    pub(super) late: usize,
+    /// Gate and form of each unit begun, in the order begun.
+    pub(super) begun: Vec<(GateId, u16)>,
+    /// How many of them the late pass began.
+    pub(super) late_units: usize,
+    /// A list would have passed its limit.
+    pub(super) passed: bool,
+}
+
+impl Tally {
+    pub(super) fn next_tick(&mut self) {
+        self.begun.clear();
+        self.late_units = 0;
+    }
+
+    /// Whether a list of `held` entries takes one more.
+    pub(super) fn room(&mut self, held: usize, limit: usize) -> bool {
+        self.passed |= held >= limit;
+        held < limit
+    }
+
+    pub(super) fn raise_late(&mut self) -> bool {
+        let room = self.room(self.late, LIST);
+        self.late += usize::from(room);
+        room
+    }
+
+    pub(super) fn raise_pending(&mut self) -> bool {
+        let room = self.room(self.pending, LIST);
+        self.pending += usize::from(room);
+        room
+    }
+
+    /// The forks and the chain stack after an output's calls are on them.
+    pub(super) fn hold(&mut self, forks: usize, stack: usize) {
+        self.passed |= forks > LIST || stack > LIST;
+    }
+}
+
+impl Machine {
+    /// The unit joins the units begun, unless they are at their limit.
+    pub(super) fn begin(&mut self, g: GateId, act: &Activation) -> Result<(), SimError> {
+        if self.tally.room(self.tally.begun.len(), UNITS) {
+            self.tally.begun.push((g, form(act)));
+            self.tally.late_units += usize::from(self.in_late);
+        }
+        self.within_limits()
+    }
+
+    /// The stop of the tick once a list would have passed its limit.
+    pub(super) fn within_limits(&self) -> Result<(), SimError> {
+        if self.tally.passed {
+            return Err(self.error(0, "a list would pass its limit"));
+        }
+        Ok(())
+    }
+}
+
+/// The form the log shows.
+fn form(act: &Activation) -> u16 {
+    match act {
+        Activation::Fire => 0,
+        Activation::Event(_) => 1,
+        Activation::World(..) => 2,
+        Activation::Pin(pin) => 16 + pin,
+        Activation::Output(output) => 32 + output,
+    }
+}

@@ -1,0 +1,73 @@
+//! The oracle's commands.
+
+use std::process::ExitCode;
+
+use oracle::Lent;
+
+mod bench;
+mod mutants;
+mod program;
+mod stated;
+
+const USAGE: &str = "\
+oracle play DIR [--log N] [--values N] [--units N] [--delays N] [--any-size]
+oracle bench DIR
+oracle circuits [NAME DIR]
+oracle generate FAMILY SEED DIR
+oracle vectors DIR
+oracle mutants [NAME..]";
+
+fn main() -> ExitCode {
+    let words: Vec<String> = std::env::args().skip(1).collect();
+    let words: Vec<&str> = words.iter().map(String::as_str).collect();
+    match run(&words) {
+        Some(()) => ExitCode::SUCCESS,
+        None => {
+            eprintln!("{USAGE}");
+            ExitCode::FAILURE
+        }
+    }
+}
+
+fn run(words: &[&str]) -> Option<()> {
+    match words {
+        ["play", dir, options @ ..] => {
+            let (lent, any_size) = options_of(options)?;
+            print!("{}", program::play(dir.as_ref(), &lent, any_size));
+        }
+        ["bench", dir] => println!("{}", bench::bench(dir.as_ref())),
+        ["circuits"] => print!("{}", oracle::circuits::document()),
+        ["circuits", name, dir] => println!("{}", stated::write(&stated::stated(name)?, dir.as_ref())?),
+        ["generate", family, seed, dir] => {
+            println!("{}", stated::write(&stated::generated(family, seed)?, dir.as_ref())?);
+        }
+        ["vectors", dir] => oracle::vectors::write(dir.as_ref()).ok()?,
+        ["mutants", names @ ..] => mutants::try_mutants(names),
+        _ => return None,
+    }
+    Some(())
+}
+
+/// The sizes lent, and whether files of any size are taken.
+fn options_of(mut options: &[&str]) -> Option<(Lent, bool)> {
+    let mut lent = Lent::default();
+    let mut any_size = false;
+    while let [name, rest @ ..] = options {
+        options = rest;
+        if *name == "--any-size" {
+            any_size = true;
+            continue;
+        }
+        let place = match *name {
+            "--log" => &mut lent.log,
+            "--values" => &mut lent.values,
+            "--units" => &mut lent.units,
+            "--delays" => &mut lent.delays,
+            _ => return None,
+        };
+        let [number, rest @ ..] = options else { return None };
+        *place = number.parse().ok()?;
+        options = rest;
+    }
+    Some((lent, any_size))
+}

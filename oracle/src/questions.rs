@@ -1,0 +1,26 @@
+//! The ten questions, in order.
+
+use crate::Lent;
+use crate::circuit::Circuit;
+use crate::script::Script;
+
+/// The least bytes of an area.
+const AREA: usize = 65_536;
+/// The most Queues.
+const QUEUES: usize = 8;
+
+/// The circuit and the script, or the number of the first question answered
+/// no. A call that is lent no areas asks only the first half of question 7.
+pub fn ask(circuit: &[u8], script: &[u8], lent: Option<&Lent>) -> Result<(Circuit, Script), u8> {
+    let circuit = Circuit::decode(circuit)?;
+    let queues = circuit.queues();
+    if queues > QUEUES || lent.is_some_and(|lent| !areas_suffice(lent, queues)) {
+        return Err(7);
+    }
+    let script = Script::decode(script, &circuit)?;
+    Ok((circuit, script))
+}
+
+fn areas_suffice(lent: &Lent, queues: usize) -> bool {
+    lent.values >= AREA && lent.units >= AREA && lent.delays >= AREA * queues.max(1)
+}

@@ -1,0 +1,717 @@
+//! The stated circuits against what document 01 and the source say of them.
+
+mod reading;
+
+use oracle::circuits::{self, Case};
+use oracle::{Answer, check, print, run};
+use reading::{Played, STATED, case, played};
+
+const INT: i64 = 1;
+const FLOAT: i64 = 2;
+const BOOL: i64 = 3;
+const NOTHING: (i64, i64) = (0, 0);
+const LEAST: i64 = i64::MIN;
+
+fn float(f: f64) -> (i64, i64) {
+    (FLOAT, f.to_bits() as i64)
+}
+
+fn int(n: i64) -> (i64, i64) {
+    (INT, n)
+}
+
+fn yes() -> (i64, i64) {
+    (BOOL, 1)
+}
+
+fn no() -> (i64, i64) {
+    (BOOL, 0)
+}
+
+// ---- document 01's played examples ----
+
+#[test]
+fn the_printed_example() {
+    let case = case("toggle");
+    let answer = run(&case.circuit, &case.script, &case.lent);
+    assert_eq!(print(&answer), "1 1 1 0 0 0 0 2 0 1 0 3 0 7 0 1\nend 0 1\n");
+}
+
+#[test]
+fn no_ticks() {
+    let case = case("no-ticks");
+    let answer = run(&case.circuit, &case.script, &case.lent);
+    assert_eq!(print(&answer), "end 0 0\n");
+}
+
+#[test]
+fn rank_4_raising_4_and_5() {
+    let carried = played("rank-4-raises-4");
+    assert_eq!(carried.main(1), [0]);
+    assert_eq!(carried.ticks[0].carried, 1);
+    assert_eq!(carried.late(2), [2]);
+    let now = played("rank-4-raises-5");
+    assert_eq!(now.main(1), [0, 2]);
+    assert_eq!(now.ticks[0].carried, 0);
+    assert_eq!(now.late(2), []);
+}
+
+#[test]
+fn a_pulse_lasts_two_ticks() {
+    let p = played("pulse");
+    let shown: Vec<_> = (1..=8).map(|t| p.shown(t, 1, 0)).collect();
+    assert_eq!(shown, [NOTHING, NOTHING, NOTHING, NOTHING, yes(), yes(), no(), no()]);
+}
+
+#[test]
+fn a_clock_of_1_under_ticks_of_a_quarter() {
+    assert_eq!(played("clock").begun_in(0), [4, 8]);
+}
+
+#[test]
+fn cycle_from_nothing() {
+    assert_eq!(played("cycle-up").shown(1, 1, 2), int(1));
+    assert_eq!(played("cycle-down").shown(1, 1, 2), int(2));
+}
+
+#[test]
+fn narrowed_waits() {
+    let rows = [
+        ("narrow-tenth", NOTHING, int(2)),
+        ("narrow-half-down", NOTHING, int(2)),
+        ("narrow-half-up", NOTHING, int(2)),
+        ("narrow-half-of-least", int(1), int(2)),
+        ("narrow-over-half-of-least", NOTHING, int(2)),
+        ("narrow-least-and-half", NOTHING, int(2)),
+        ("narrow-up-to-2", NOTHING, int(2)),
+        ("narrow-least", NOTHING, int(2)),
+        ("narrow-over", NOTHING, NOTHING),
+        ("narrow-tick-tenth", NOTHING, int(2)),
+        ("narrow-tick-half-down", NOTHING, int(2)),
+        ("narrow-tick-half-of-least", NOTHING, int(2)),
+    ];
+    for (name, second, fourth) in rows {
+        let p = played(name);
+        assert_eq!((p.shown(2, 2, 2), p.shown(4, 2, 2)), (second, fourth), "{name}");
+        let queue: Vec<usize> =
+            [(2, second), (4, fourth)].iter().filter(|t| t.1 != NOTHING).map(|t| t.0).collect();
+        assert_eq!(p.begun_in(3), queue, "{name}");
+    }
+}
+
+#[test]
+fn a_queue_keeps_256() {
+    let p = played("queue-257");
+    assert_eq!(p.shown(1, 1, 2), int(257));
+    for t in 2..=257 {
+        assert_eq!(p.shown(t, 2, 1), int(t as i64 - 1));
+    }
+    assert_eq!(p.begun_in(2), (2..=257).collect::<Vec<_>>());
+    let released = played("queue-released-and-filled-1");
+    assert_eq!(released.begun_in(3), (3..=259).collect::<Vec<_>>());
+    assert_eq!(released.shown(259, 3, 1), int(257));
+}
+
+#[test]
+fn fifty_million_steps() {
+    let p = played("steps-50000000");
+    assert_eq!((p.stop, p.ticks[0].steps), (0, 50_000_000));
+    let p = played("steps-50000001");
+    assert_eq!((p.stop, p.done), (11, 0));
+    assert_eq!(p.words, [1, 50_000_001, 1, 0, 0, 11, 0, 2]);
+}
+
+#[test]
+fn wrong_though_they_look_right() {
+    let p = played("wrong-carry-below");
+    assert_eq!((p.main(1), p.ticks[0].carried), (vec![0, 4], 2));
+    assert_eq!(p.late(2), [2, 3]);
+    let p = played("wrong-events-sorted");
+    assert_eq!(p.late(2), [3, 0, 2]);
+    assert_eq!(played("wrong-clock-excess").begun_in(0), [3, 6, 9]);
+    let p = played("wrong-all-due-records");
+    let out: Vec<_> = (1..=5).map(|t| p.shown(t, 1, 1)).collect();
+    assert_eq!(out, [NOTHING, int(1), int(2), int(3), int(3)]);
+    assert_eq!(p.begun_in(1), [2, 3, 4]);
+    let p = played("wrong-pulse-one-tick");
+    let counted: Vec<_> = (1..=5).map(|t| p.shown(t, 2, 2)).collect();
+    assert_eq!(counted, [int(1), int(2), int(2), int(2), int(2)]);
+}
+
+// ---- marking, settling, equality, pulses ----
+
+#[test]
+fn stale_gates() {
+    assert_eq!(played("leftover-dirty").shown(1, 3, 0), int(9));
+    assert_eq!(played("fresh-after-settling").shown(1, 3, 0), int(1));
+    assert_eq!(played("unchosen-side").shown(1, 2, 0), int(1));
+    assert_eq!(played("var-seen-by-a-stale-gate").shown(1, 2, 0), int(9));
+    for case in STATED.iter().filter(|c| c.name.starts_with("reads-")) {
+        let seen = if case.name.starts_with("reads-not-") { 9 } else { 1 };
+        assert_eq!(played(&case.name).shown(1, 2, 0), int(seen), "{}", case.name);
+    }
+    assert_eq!(played("full-queue-reads").shown(2, 2, 0), int(1));
+    assert_eq!(played("second-send-reads").shown(1, 2, 0), int(1));
+}
+
+#[test]
+fn order_of_checks() {
+    assert_eq!(played("last-reader-first").late(1), [0, 3, 5, 4]);
+    let p = played("diamond");
+    assert_eq!((p.late(1), p.late(2)), (vec![0, 5, 4], vec![0, 0, 5, 4, 5, 4]));
+    assert_eq!(played("keeps-its-place").late(1), [0, 4, 3]);
+    assert_eq!(played("published-once").late(1), [0, 4, 3]);
+    assert_eq!(played("published-after-outputs").late(1), [0, 4, 3]);
+}
+
+#[test]
+fn what_counts_as_changed() {
+    let p = played("there-and-back");
+    assert_eq!([p.late(1), p.late(2), p.late(3), p.late(4)], [vec![1, 4], vec![1], vec![0, 4], vec![1]]);
+    assert_eq!(played("last-after-falsy").begun_in(1), [1, 3, 7]);
+    let p = played("pin-changes");
+    assert_eq!((p.begun_in(1), p.begun_in(2)), (vec![1, 2, 3, 4, 5], vec![1, 2, 3, 4, 5, 6, 7]));
+    assert_eq!(p.shown(8, 0, 1), float(0.0));
+    assert_eq!(played("pin-not-read-again").ticks[0].late, [(0, 2), (0, 2), (1, 16)]);
+    assert_eq!(played("published-though-equal").begun_in(4), []);
+    assert_eq!(played("settled-once").begun_in(3), [1, 3]);
+    let p = played("kinds-differ");
+    assert_eq!((p.begun_in(1), p.begun_in(4)), (vec![1, 4, 7, 10], vec![1]));
+    assert_eq!([p.shown(4, 2, 0), p.shown(7, 2, 0), p.shown(4, 3, 0)], [yes(), yes(), no()]);
+}
+
+#[test]
+fn what_is_true() {
+    let p = played("what-is-true");
+    let truth = [2, 3, 4, 6, 8, 10, 11, 12, 13, 14].map(|k| k + 1);
+    let counted = |t: usize| p.shown(t, 2, 2) != p.shown(t - 1, 2, 2);
+    assert_eq!((2..=15).filter(|&t| counted(t)).collect::<Vec<_>>(), truth);
+    let chosen = |t: usize| p.shown(t, 4, 0) == int(2);
+    assert_eq!((2..=15).filter(|&t| chosen(t)).collect::<Vec<_>>(), truth);
+    assert_eq!(p.begun_in(6), truth);
+    // The Clock reads what the tick before left, and is enabled by nothing.
+    let enabled: Vec<usize> =
+        [1, 2].into_iter().chain(truth.iter().map(|t| t + 1)).filter(|&t| t <= 15).collect();
+    assert_eq!(p.begun_in(5), enabled);
+}
+
+#[test]
+fn nothing_again() {
+    let p = played("nothing-again");
+    let held =
+        |t: usize| [p.shown(t, 3, 1), p.shown(t, 4, 1), p.shown(t, 5, 0), p.shown(t, 7, 1), p.shown(t, 8, 0)];
+    assert_eq!(held(4), [int(5); 5]);
+    assert_eq!(held(8), [NOTHING; 5]);
+    assert_eq!(p.begun_in(9), [1, 5]);
+    assert_eq!(p.ticks[0].late, [(0, 2), (9, 0), (10, 32)]);
+    assert_eq!(p.ticks[4].late, [(0, 2), (9, 0), (10, 33)]);
+    assert_eq!(p.shown(6, 8, 0), NOTHING);
+}
+
+#[test]
+fn zeros() {
+    let p = played("zero-slots");
+    assert_eq!([p.shown(2, 0, 1), p.shown(2, 1, 1)], [(FLOAT, 0), (FLOAT, LEAST)]);
+    assert_eq!([p.shown(2, 2, 0), p.shown(2, 3, 0)], [(FLOAT, LEAST), (FLOAT, 0)]);
+    assert_eq!([p.shown(4, 2, 0), p.shown(4, 3, 0)], [(FLOAT, LEAST), float(0.25)]);
+    assert_eq!(p.begun_in(4), [1]);
+    let p = played("zero-of-a-var");
+    assert_eq!(
+        [p.shown(1, 1, 0), p.shown(1, 3, 1), p.shown(1, 4, 0)],
+        [(FLOAT, LEAST), (FLOAT, 0), (FLOAT, LEAST)]
+    );
+    assert_eq!(p.begun_in(5), []);
+}
+
+#[test]
+fn edges() {
+    let p = played("edges-are-floats");
+    assert_eq!(p.ticks[0].late[3..], [(4, 32), (10, 32)]);
+    assert_eq!(p.ticks[3].late[3..], [(7, 33), (10, 33)]);
+    assert_eq!([p.shown(4, 5, 0), p.shown(1, 8, 0), p.shown(4, 3, 0)], [yes(), yes(), no()]);
+}
+
+#[test]
+fn pulses() {
+    let p = played("pulse-extended");
+    let shown: Vec<_> = (1..=6).map(|t| p.shown(t, 1, 0)).collect();
+    assert_eq!(shown, [yes(), yes(), yes(), yes(), no(), no()]);
+    let p = played("both-pulses");
+    let shown: Vec<_> = (1..=5).map(|t| (p.shown(t, 1, 0), p.shown(t, 1, 1))).collect();
+    assert_eq!(shown, [(NOTHING, NOTHING), (yes(), NOTHING), (yes(), yes()), (no(), yes()), (no(), no())]);
+    assert_eq!(played("lowered-before-buffers").main(3), [4, 3]);
+    assert_eq!(played("lowered-before-clocks").begun_in(2), [1, 2]);
+    assert_eq!(played("lowered-by-gate-and-output").main(3), [6, 5, 4]);
+    let p = played("ring-of-changes");
+    let shown: Vec<_> = (1..=8).map(|t| (p.shown(t, 1, 0), p.shown(t, 2, 0))).collect();
+    let (up, down) = ((yes(), yes()), (no(), yes()));
+    assert_eq!(shown, [up, up, down, down, up, up, down, down]);
+}
+
+// ---- delays ----
+
+/// The first tick in which the output of a gate changes after `from`.
+fn lands(p: &Played, gate: usize, from: usize) -> Option<usize> {
+    (from + 1..=p.ticks.len()).find(|&t| p.shown(t, gate, 0) != p.shown(t - 1, gate, 0))
+}
+
+#[test]
+fn value_buffers() {
+    let p = played("truthy-takes-the-wait");
+    assert_eq!((lands(&p, 1, 1), lands(&p, 1, 6)), (Some(4), Some(9)));
+    let p = played("zero-waits");
+    let landed: Vec<_> = (1..=9).map(|g| lands(&p, g, 7).unwrap()).collect();
+    assert_eq!(landed, [8, 8, 9, 11, 11, 8, 9, 11, 11]);
+    let p = played("latest-only");
+    for gate in [1, 2] {
+        let shown: Vec<_> = (1..=15).map(|t| p.shown(t, gate, 0).1).collect();
+        assert_eq!(shown, [0, 0, 0, 1, 1, 1, 3, 3, 3, 6, 6, 6, 9, 9, 9]);
+    }
+    let p = played("queued-by-its-own-rule");
+    let shown: Vec<_> = [3, 4, 5, 9, 10].map(|t| p.shown(t, 1, 0)).into();
+    assert_eq!(shown, [NOTHING, int(5), int(0), int(0), int(5)]);
+    assert_eq!(lands(&played("lands-though-equal"), 1, 4), Some(10));
+}
+
+#[test]
+fn exec_buffers() {
+    assert_eq!(played("exec-never-zero").ticks[3].late, [(1, 0), (2, 0)]);
+    let p = played("fires-together");
+    assert_eq!([p.late(3), p.late(4)], [vec![1, 1, 1, 2, 2, 2], vec![1, 2]]);
+    assert_eq!([p.late(9), p.late(10)], [vec![1, 2, 2], vec![1]]);
+}
+
+#[test]
+fn waits() {
+    let p = played("tick-waits");
+    for (k, due) in
+        [Some(2), Some(2), Some(2), Some(3), Some(4), Some(2), Some(2), None].into_iter().enumerate()
+    {
+        assert_eq!(lands(&p, 1 + 2 * k, 1), due, "value buffer {k}");
+        assert_eq!(p.begun_in(2 + 2 * k).first().copied(), due, "exec buffer {k}");
+    }
+    let p = played("second-waits");
+    let due = [Some(2), Some(2), Some(2), Some(2), Some(2), None, Some(2), Some(3), Some(5)];
+    for (k, due) in due.into_iter().enumerate() {
+        assert_eq!(lands(&p, 1 + 2 * k, 1), due, "value buffer {k}");
+        assert_eq!(p.begun_in(2 + 2 * k).first().copied(), due, "exec buffer {k}");
+    }
+    let p = played("sums-in-f32");
+    assert_eq!([p.begun_in(1), p.begun_in(2)], [[11], [11]]);
+    assert_eq!(lands(&p, 3, 1), Some(11));
+    let p = played("sums-in-f64");
+    assert_eq!([p.begun_in(1), p.begun_in(2)], [[11], [12]]);
+    assert_eq!(p.shown(12, 2, 0), float(1.0));
+    let p = played("sum-that-stalls");
+    assert_eq!([p.begun_in(1), p.begun_in(2)], [[13], [2]]);
+}
+
+#[test]
+fn queues() {
+    let p = played("short-behind-long");
+    let shown: Vec<_> = (5..=9).map(|t| p.shown(t, 1, 1)).collect();
+    assert_eq!(shown, [NOTHING, int(5), int(1), int(2), int(2)]);
+    assert_eq!(played("queue-counts-on").begun_in(1), [5, 6, 7]);
+    let p = played("released-before-settling");
+    assert_eq!((&p.ticks[1].late[..], &p.ticks[1].main[..]), (&[(0, 2), (1, 0)][..], &[(2, 0)][..]));
+    let p = played("own-data");
+    let shown: Vec<_> = (2..=5).map(|t| (p.shown(t, 4, 1), p.shown(t, 4, 2))).collect();
+    assert_eq!(shown, [(int(1), NOTHING), (int(2), NOTHING), (int(2), int(11)), (int(2), int(22))]);
+    // Waits of nothing, 2, 2.9, true, -2.0, 0.3, -7, 1e-40 and 0, six ticks of 0.5 apart.
+    assert_eq!(played("queue-waits-in-ticks").begun_in(2), [2, 6, 12, 17, 23, 29, 35, 41, 47]);
+    assert_eq!(played("queue-waits-in-seconds").begun_in(2), [2, 8, 16, 18, 23, 29, 35, 41, 47]);
+}
+
+#[test]
+fn clocks() {
+    let p = played("clock-reads-last-delta");
+    assert_eq!((p.begun_in(2), p.begun_in(3)), (vec![1, 3, 4], vec![1, 4]));
+    let p = played("clock-sees-this-tick");
+    assert_eq!((p.begun_in(3), p.begun_in(4)), (vec![3, 4, 5], vec![1, 2]));
+    assert_eq!(played("clock-before-stopwatch").begun_in(2), [2, 3]);
+    let p = played("clock-inputs");
+    let every: Vec<usize> = (1..=9).collect();
+    let rows = [
+        vec![3, 6, 9],
+        vec![4, 8],
+        every.clone(),
+        vec![4, 8],
+        every.clone(),
+        every.clone(),
+        vec![2, 4, 6, 8],
+        every.clone(),
+        every.clone(),
+        vec![],
+        every,
+        vec![4, 8],
+    ];
+    for (gate, fires) in rows.into_iter().enumerate() {
+        assert_eq!(p.begun_in(gate), fires, "clock {gate}");
+    }
+    assert_eq!(played("clock-disabled").begun_in(1), [8, 12, 16]);
+}
+
+#[test]
+fn stopwatches() {
+    let p = played("limits-in-gate-order");
+    assert_eq!((p.begun_in(2), p.begun_in(1)), (vec![4], vec![5]));
+    assert_eq!([p.shown(4, 2, 0), p.shown(5, 1, 0)], [float(0.5), float(0.5)]);
+    let p = played("limit-reads-last-uptime");
+    assert_eq!((p.begun_in(3), p.begun_in(4)), (vec![2], vec![2, 6]));
+    let p = played("stopwatch-pins");
+    let shown: Vec<_> = (1..=12).map(|t| p.shown(t, 0, 0)).collect();
+    let times = [0.25, 0.5, 0.0, 0.25, 0.5, 0.75, 0.75, 0.75, 1.0, 1.25].map(float);
+    assert_eq!(shown, [&[NOTHING, NOTHING], &times[..]].concat());
+    let p = played("stopwatch-limits");
+    assert_eq!((p.begun_in(3), p.begun_in(4)), (vec![8, 11], vec![]));
+    assert_eq!((p.begun_in(5), p.begun_in(6), p.begun_in(7)), (vec![], vec![], vec![5, 11]));
+    assert_eq!([p.shown(7, 3, 0), p.shown(8, 3, 0), p.shown(11, 3, 0)], [float(1.5), float(0.5), float(0.5)]);
+}
+
+#[test]
+fn all_delays_full() {
+    let p = played("all-delays-full");
+    assert_eq!((p.stop, p.done), (0, 51));
+    for t in 3..=33 {
+        assert_eq!(p.late(t).len(), 64, "tick {t}");
+    }
+    assert_eq!(p.begun_in(1), (41..=51).collect::<Vec<_>>());
+    assert_eq!([p.shown(48, 1, 1), p.shown(48, 1, 8), p.shown(49, 1, 1)], [int(100), int(100), int(101)]);
+}
+
+// ---- order ----
+
+#[test]
+fn late_and_main() {
+    let p = played("order-in-a-late-rank");
+    assert_eq!(p.ticks[2].late, [(6, 0), (3, 2), (7, 2), (1, 0), (2, 0), (0, 0), (8, 1), (6, 0)]);
+    let p = played("clocks-before-the-rest");
+    assert_eq!(p.ticks[0].main, [(4, 0), (5, 0), (3, 0), (1, 0), (2, 32)]);
+    assert_eq!(p.ticks[2].main, [(4, 0), (3, 0)]);
+    assert_eq!(p.ticks[3].main, [(4, 0), (5, 0), (3, 0), (1, 0), (2, 33)]);
+    assert_eq!(played("time-sources-ascending").main(1), [3, 2]);
+    let p = played("start-settle-is-main");
+    assert_eq!([&p.ticks[1].main, &p.ticks[3].main], [&[(1, 0), (3, 16)]; 2]);
+    assert!(p.ticks.iter().all(|t| t.late.is_empty() && t.carried == 0));
+    assert_eq!(played("late-pass-has-no-cursor").late(1), [0, 4, 0, 4, 3, 3, 2, 2]);
+    assert_eq!(played("ranks-fall-in-the-late-pass").late(1), [1, 3, 1, 3, 0, 3, 0, 3]);
+    assert_eq!(played("oldest-of-a-rank").main(1), [0, 5, 4, 6, 3, 3]);
+    let p = played("events-after-all");
+    assert_eq!([p.late(2), p.late(3)], [vec![0, 3, 6, 4, 6], vec![3, 6, 4, 6]]);
+}
+
+#[test]
+fn raised_again() {
+    let p = played("late-unit-raises-itself");
+    assert_eq!((p.late(1), p.ticks[0].steps), (vec![0, 2, 2, 2, 2, 2], 10));
+    let p = played("endless-in-the-late-pass");
+    assert_eq!(p.words[..6], [1, 1024, 1024, 0, 0, 12]);
+    let p = played("endless-by-carrying");
+    assert_eq!((p.stop, p.done, p.ticks[1].carried), (12, 2, 1));
+    assert_eq!((p.ticks[2].late.len(), p.ticks[2].carried), (1024, 0));
+}
+
+#[test]
+fn carried() {
+    let p = played("carried-once");
+    assert_eq!((p.ticks[3].carried, &p.ticks[4].late[..]), (3, &[(2, 0), (5, 16), (4, 32)][..]));
+    assert_eq!((p.ticks[7].carried, &p.ticks[8].late[..]), (2, &[(2, 0), (4, 33)][..]));
+    let p = played("carried-by-what-was-carried");
+    assert_eq!((p.ticks[1].carried, p.late(3), p.ticks[2].carried), (1, vec![3, 4, 5], 0));
+    let p = played("raised-in-the-main-pass");
+    assert_eq!((p.main(1), p.ticks[0].carried, p.late(2)), (vec![0, 3, 4], 2, vec![6, 5]));
+}
+
+#[test]
+fn stopped_records() {
+    assert_eq!(played("stopped-while-carrying").words, [1, 257, 0, 2, 2, 12, 0, 4, 0, 0]);
+    let p = played("stopped-before-the-main-pass");
+    assert_eq!(p.words[p.words.len() - 8..], [2, 256, 1, 0, 0, 12, 2, 0]);
+    let p = played("late-full-at-the-opening");
+    assert_eq!((p.ticks[1].carried, p.done), (256, 2));
+    assert_eq!(p.words[p.words.len() - 6..], [3, 0, 0, 0, 0, 12]);
+}
+
+// ---- chains ----
+
+#[test]
+fn calls() {
+    let p = played("source-and-call");
+    assert_eq!((p.ticks[0].steps, p.shown(1, 1, 1)), (2, no()));
+    assert_eq!((p.ticks[1].steps, p.shown(2, 1, 1), p.late(2)), (1, yes(), vec![0]));
+    let p = played("fan-out");
+    assert_eq!([0, 1, 2, 3, 4, 5].map(|k| p.shown(1, 3 + 3 * k, 0).1), [1, 2, 3, 4, 6, 5]);
+    let p = played("forks-of-forks");
+    assert_eq!([0, 1, 2, 3, 4, 5].map(|k| p.shown(1, 3 + 3 * k, 0).1), [1, 3, 2, 4, 5, 6]);
+    let p = played("reroute-both-ways");
+    assert_eq!((p.ticks[0].steps, p.shown(1, 3, 0)), (3, int(5)));
+    let p = played("ring-through-a-union");
+    assert_eq!((p.ticks[0].steps, p.shown(2, 3, 1)), (4, no()));
+    let p = played("union-once-a-tick");
+    assert_eq!([1, 2, 3].map(|t| p.ticks[t].steps), [6, 3, 2]);
+    assert_eq!(p.shown(4, 3, 2), int(3));
+    let p = played("what-costs-a-step");
+    assert_eq!([0, 1, 2].map(|t| p.ticks[t].steps), [8, 0, 7]);
+    assert_eq!(p.ticks[0].late, [(0, 2), (6, 16), (8, 0), (9, 32)]);
+}
+
+#[test]
+fn variables() {
+    let p = played("var-seen-directly");
+    assert_eq!([1, 2].map(|t| (p.shown(t, 2, 0), p.shown(t, 3, 0))), [(int(5), int(0)), (int(6), int(5))]);
+    let p = played("forks-before-publish");
+    assert_eq!([1, 2].map(|t| (p.shown(t, 2, 0), p.shown(t, 3, 0))), [(int(1), int(9)), (int(9), int(9))]);
+}
+
+#[test]
+fn sends() {
+    let p = played("second-send");
+    assert_eq!((p.shown(1, 2, 2), p.ticks[0].steps), (int(2), 4));
+    assert_eq!([2, 3].map(|t| p.shown(t, 3, 1)), [int(1), int(3)]);
+    let p = played("sends-in-order");
+    assert_eq!(p.late(2), [0, 6, 8, 7, 9, 6, 8]);
+    assert_eq!(p.late(3), [6, 8, 7, 9, 6, 8, 10]);
+    assert_eq!([p.shown(3, 6, 1), p.shown(3, 7, 1), p.shown(3, 10, 1)], [int(2), int(3), int(4)]);
+    let p = played("sent-again-next-tick");
+    assert_eq!([2, 3, 4, 5].map(|t| p.shown(t, 3, 1).1), [1, 2, 3, 4]);
+}
+
+#[test]
+fn cycles() {
+    let p = played("cycle-counts");
+    let shown = |t: usize| (2..=11).map(|g| p.shown(t, g, 2).1).collect::<Vec<_>>();
+    assert_eq!(shown(1), [0, 0, 0, 0, 1, 0, 1, 0, 0, 0]);
+    assert_eq!(shown(2), [0, 0, 0, 0, 2, 0, 0, 0, 0, 0]);
+    assert_eq!(shown(3), [0, 0, 0, 0, 0, 0, 1, 0, 0, 0]);
+    assert_eq!(shown(4), [0, 0, 0, 0, 0, 0, 0, 0, 0, 0]);
+    assert_eq!(shown(5), [0, 0, 0, 0, 2, 0, 1, 0, 0, 0]);
+    let p = played("cycle-ends");
+    let shown: Vec<_> = (1..=7).map(|t| (p.shown(t, 3, 2).1, p.shown(t, 6, 2).1)).collect();
+    let most = i64::MAX;
+    let rows = [(most - 1, 9), (most - 2, 8), (0, 0), (most - 1, most - 1), (most - 1, 1022), (0, 0), (1, 1)];
+    assert_eq!(shown, rows);
+    assert!((1..=7).all(|t| p.shown(t, 4, 2).1 == p.shown(t, 3, 2).1 && p.shown(t, 5, 2) == int(0)));
+}
+
+#[test]
+fn the_start() {
+    let p = played("start-shows-nothing");
+    for tick in &p.ticks {
+        assert!(tick.late.is_empty() && tick.main.is_empty());
+    }
+    let four = [p.shown(2, 3, 0), p.shown(2, 5, 0)];
+    assert_eq!(four, [int(4), int(4)]);
+    assert_eq!(p.ticks[1].outputs.iter().filter(|&&o| o != NOTHING).count(), 2);
+    let p = played("stored-zero");
+    assert_eq!([p.shown(1, 1, 0), p.shown(1, 2, 0), p.shown(1, 4, 0), p.shown(2, 6, 1)], [(FLOAT, 0); 4]);
+    assert_eq!(p.begun_in(3), [1, 2, 3]);
+}
+
+// ---- limits ----
+
+#[test]
+fn limits_pass_at_their_edge_and_stop_past_it() {
+    let rows: [(&str, &[i64]); 15] = [
+        ("pending", &[2, 9, 0, 8, 0, 12]),
+        ("pending-at-the-opening", &[1, 0, 0, 0, 0, 12]),
+        ("late", &[1, 9, 8, 0, 0, 12]),
+        ("late-by-fires", &[2, 0, 0, 0, 0, 12]),
+        ("carried", &[2, 9, 0, 8, 256, 12]),
+        ("forks", &[1, 2, 1, 0, 0, 12]),
+        ("forks-of-a-fork", &[1, 4, 1, 0, 0, 12]),
+        ("chain-stack", &[1, 3, 1, 0, 0, 12]),
+        ("chain-stack-from-a-pin", &[1, 256, 2, 0, 0, 12]),
+        ("delivered", &[2, 0, 0, 0, 0, 12]),
+        ("delivered-to-many", &[2, 0, 0, 0, 0, 12]),
+        ("fires", &[1, 33, 33, 0, 0, 12]),
+        ("fires-over-ticks", &[4, 1, 1, 0, 0, 12]),
+        ("units-late", &[1, 65, 1024, 0, 0, 12]),
+        ("units-main", &[1, 64, 1024, 0, 0, 12]),
+    ];
+    for (name, head) in rows {
+        let names: Vec<String> = STATED.iter().map(|c| c.name.clone()).filter(|n| is_edge(n, name)).collect();
+        assert_eq!(names.len(), 2, "{name}");
+        assert_eq!(played(&names[0]).stop, 0, "{name}");
+        let p = played(&names[1]);
+        let last = p.ticks.last().unwrap();
+        let begun = (last.late.len() as i64, last.main.len() as i64);
+        assert_eq!([last.tick, last.steps, begun.0, begun.1, last.carried, last.stop], *head, "{name}");
+        assert_eq!((p.stop, p.done as i64), (12, head[0] - 1), "{name}");
+    }
+}
+
+/// Whether a case is one of a limit: its name and a number.
+fn is_edge(case: &str, limit: &str) -> bool {
+    case.strip_prefix(limit).and_then(|rest| rest.strip_prefix('-')).is_some_and(|n| n.parse::<u64>().is_ok())
+}
+
+#[test]
+fn the_edge_is_reached() {
+    assert_eq!(played("carried-256").ticks[1].carried, 256);
+    assert_eq!(played("pending-at-the-opening-256").main(1).len(), 256);
+    assert_eq!(played("delivered-64").late(3).len(), 64);
+    assert_eq!(played("fires-32").late(3).len(), 32);
+    assert_eq!(played("units-late-1024").late(1).len(), 1024);
+    assert_eq!(played("forks-256").ticks[0].steps, 258);
+    assert_eq!(played("late-by-fires-256").late(2).len(), 256);
+    assert_eq!(played("late-beside-delivered").late(2).len(), 8 + 256 + 64);
+    assert_eq!(played("forks-beside-the-stack").ticks[0].steps, 2 + 150 + 200);
+    assert_eq!(played("chain-stack-from-a-pin-256").ticks[0].steps, 257);
+}
+
+#[test]
+fn logs() {
+    let rows = [
+        ("log-exact", 0, 2, 32),
+        ("log-byte-short", 13, 1, 16),
+        ("log-word-short", 13, 1, 16),
+        ("log-byte-over", 0, 2, 32),
+        ("log-one-record-short", 13, 0, 0),
+        ("log-empty", 13, 0, 0),
+        ("log-empty-no-ticks", 0, 0, 0),
+        ("log-12-exact", 12, 0, 8),
+        ("log-12-byte-short", 13, 0, 0),
+        ("log-12-empty", 13, 0, 0),
+        ("log-11-exact", 11, 0, 8),
+        ("log-11-byte-short", 13, 0, 0),
+    ];
+    for (name, stop, done, words) in rows {
+        let p = played(name);
+        assert_eq!((p.stop, p.done, p.words.len()), (stop, done, words), "{name}");
+    }
+    assert_eq!(played("log-11-exact").words, [1, 50_000_001, 1, 0, 0, 11, 0, 2]);
+    assert_eq!(played("log-12-exact").words, [1, 256, 1, 0, 0, 12, 0, 2]);
+}
+
+// ---- questions ----
+
+/// The question and the answer that a case's name says.
+fn named(case: &Case) -> Option<(u8, bool)> {
+    let (question, rest) = case.name.strip_prefix('q')?.split_once('-')?;
+    Some((question.parse().ok()?, rest.starts_with("yes-")))
+}
+
+#[test]
+fn questions() {
+    let mut asked = [[0; 2]; 11];
+    for case in STATED.iter() {
+        let Some((question, yes)) = named(case) else { continue };
+        let answer = run(&case.circuit, &case.script, &case.lent);
+        if yes {
+            assert!(matches!(answer, Answer::Played { .. }), "{}: {answer:?}", case.name);
+            assert_eq!(check(&case.circuit, &case.script), 0, "{}", case.name);
+        } else {
+            assert_eq!(answer, Answer::Refused(question), "{}", case.name);
+            if question != 7 {
+                assert_eq!(check(&case.circuit, &case.script), question, "{}", case.name);
+            }
+        }
+        asked[question as usize][usize::from(yes)] += 1;
+    }
+    assert!(asked[1..].iter().all(|&[no, yes]| no > 3 && yes > 0), "{asked:?}");
+}
+
+#[test]
+fn without_areas_question_7_asks_the_queues_alone() {
+    for case in STATED.iter().filter(|c| c.name.starts_with("q7-no-")) {
+        let expected = match case.name.strip_prefix("q7-no-and-") {
+            Some(other) => other.parse().unwrap(),
+            None if case.name.contains("nine-queues") => 7,
+            None => 0,
+        };
+        assert_eq!(check(&case.circuit, &case.script), expected, "{}", case.name);
+    }
+}
+
+// ---- all of them ----
+
+#[test]
+fn every_log_is_made_of_whole_records() {
+    for case in STATED.iter() {
+        if let Some(p) = reading::read(case) {
+            p.assert_whole(case);
+        }
+    }
+}
+
+#[test]
+fn every_place_is_told_or_held_otherwise() {
+    for place in 1..=circuits::PLACES.len() as u8 {
+        let told = STATED.iter().any(|c| c.trap.contains(&place));
+        let otherwise = circuits::HELD_OTHERWISE.iter().any(|held| held.0 == place);
+        assert!(told != otherwise, "place {place}");
+    }
+}
+
+#[test]
+fn names_are_unique() {
+    let mut names: Vec<&str> = STATED.iter().map(|c| c.name.as_str()).collect();
+    let n = names.len();
+    names.sort();
+    names.dedup();
+    assert_eq!(names.len(), n);
+}
+
+#[test]
+fn every_kind_and_form_begins() {
+    let mut begun = std::collections::BTreeSet::new();
+    for case in circuits::groups().iter().filter(|g| g.name == "kinds").flat_map(|g| &g.cases) {
+        let p = reading::read(case).unwrap();
+        for tick in &p.ticks {
+            for &(gate, form) in tick.late.iter().chain(&tick.main) {
+                begun.insert((p.kinds[gate as usize], form));
+            }
+        }
+    }
+    let mut wanted = vec![(6, 0), (9, 32), (9, 33), (11, 0), (13, 0), (14, 0), (15, 0), (16, 0), (17, 0)];
+    wanted.extend([(26, 1), (27, 1), (28, 2), (15, 16), (15, 17), (15, 18), (23, 16), (23, 17)]);
+    wanted.extend((16..=22).map(|kind| (kind, 16)));
+    wanted.extend([(24, 16), (25, 16)]);
+    for form in wanted {
+        assert!(begun.contains(&form), "{form:?}");
+    }
+}
+
+#[test]
+fn vehicles() {
+    for case in circuits::groups().iter().filter(|g| g.name == "vehicles").flat_map(|g| &g.cases) {
+        let p = reading::read(case).unwrap();
+        assert!((20..=64).contains(&p.kinds.len()), "{}: {} gates", case.name, p.kinds.len());
+        assert!((500..=20_000).contains(&p.ticks.len()), "{}: {} ticks", case.name, p.ticks.len());
+        assert_eq!((p.stop, p.done as usize), (0, p.ticks.len()), "{}", case.name);
+        assert!(records_every_activity(&p), "{}", case.name);
+        let gaps = reading::gaps(case, |kind, content| kind == INT && content > 100);
+        assert!((1..=12).all(|gap| gaps.contains(&gap)), "{}: {gaps:?}", case.name);
+    }
+}
+
+/// Whether some Var held each of the activities 0 to 3.
+fn records_every_activity(p: &Played) -> bool {
+    let vars = (0..p.kinds.len()).filter(|&g| p.kinds[g] == oracle::build::VAR);
+    let held = |g: usize, n: i64| (1..=p.ticks.len()).any(|t| p.shown(t, g, 0) == int(n));
+    vars.into_iter().any(|g| (0..=3).all(|n| held(g, n)))
+}
+
+#[test]
+fn the_list_is_up_to_date() {
+    let path = concat!(env!("CARGO_MANIFEST_DIR"), "/../docs/CIRCUITS.md");
+    let text = std::fs::read_to_string(path).expect("docs/CIRCUITS.md");
+    assert!(text == circuits::document(), "write it again: oracle circuits > docs/CIRCUITS.md");
+}
+
+#[test]
+fn the_vectors_are_up_to_date() {
+    let dir = concat!(env!("CARGO_MANIFEST_DIR"), "/../vectors");
+    for group in circuits::groups() {
+        let name = oracle::vectors::file_name(&group);
+        let text = std::fs::read_to_string(format!("{dir}/{name}")).expect("the group's vectors");
+        assert!(text == oracle::vectors::text(&group), "write {name} again: oracle vectors vectors");
+    }
+}
+
+#[test]
+fn the_hash_is_fnv_1a() {
+    // The bytes of the word spell "foobar" and two zeros.
+    assert_eq!(oracle::vectors::fnv(&[]), 0xcbf2_9ce4_8422_2325);
+    assert_eq!(oracle::vectors::fnv(&[i64::from_le_bytes(*b"foobar\0\0")]), 0x74c8_e7eb_4f24_5c28);
+}
