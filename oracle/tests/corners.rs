@@ -159,3 +159,64 @@ fn events_follow_all_ranked_late_units() {
     assert_eq!(run.records[1].units, [(0, 2), (2, 1)]);
     assert_eq!(run.shown(2, 2, 1), (1, 42));
 }
+
+/// A Clock reads its interval before the Stopwatches of the tick move on.
+#[test]
+fn a_clock_sees_a_stopwatchs_last_time() {
+    let mut plan = Plan::default();
+    plan.gate(28, 0, &[]);
+    plan.gate(15, 0, &[]);
+    plan.gate(14, 0, &[Pin::Nothing, Pin::From(1, 0)]);
+    plan.call(0, 0, 1, 0);
+    let run = plan.play(&[(0.5, &[(0, Pin::Nothing)]), (0.5, &[]), (0.5, &[]), (0.5, &[]), (0.5, &[])]);
+    assert_eq!(run.begun(2, 0), [2, 3]);
+}
+
+/// What a unit made stale is fresh again before the next one writes a Var.
+#[test]
+fn settle_refreshes_what_nothing_watches() {
+    let mut plan = Plan::default();
+    plan.gate(28, 0, &[]);
+    plan.gate(5, 0, &[Pin::Int(1)]);
+    plan.gate(1, 0, &[Pin::From(0, 1), Pin::From(1, 0), Pin::From(1, 0)]);
+    plan.gate(28, 1, &[]);
+    plan.gate(19, 0, &[Pin::Nothing, Pin::Int(1), Pin::Int(9)]);
+    plan.gate(19, 0, &[Pin::Nothing, Pin::Int(6), Pin::From(2, 0)]);
+    plan.gate(5, 0, &[Pin::Nothing]);
+    plan.call(3, 0, 4, 0);
+    plan.call(4, 0, 5, 0);
+    let run = plan.play(&[(QUARTER, &[(0, Pin::Int(5)), (3, Pin::Nothing)])]);
+    assert_eq!(run.shown(1, 6, 0), (1, 1));
+    assert_eq!(run.shown(1, 2, 0), (1, 9));
+}
+
+/// A wait of 0.1 becomes the f32 above it, which the f32 below does not reach.
+#[test]
+fn a_queues_wait_is_narrowed_to_the_nearest() {
+    let below = f64::from(f32::from_bits(0x3DCC_CCCC));
+    let mut plan = Plan::default();
+    plan.gate(28, 0, &[]);
+    let mut pins = [Pin::Nothing; 10];
+    pins[9] = Pin::Float(0.1);
+    plan.gate(17, 0, &pins);
+    plan.call(0, 0, 1, 0);
+    let run = plan.play(&[(below, &[(0, Pin::Nothing)]), (below, &[]), (below, &[])]);
+    assert_eq!(run.begun(1, 0), [3]);
+}
+
+/// Vars are published in order of their first write, not of their numbers.
+#[test]
+fn the_var_written_first_is_published_first() {
+    let mut plan = Plan::default();
+    plan.gate(28, 0, &[]);
+    plan.gate(19, 0, &[Pin::Nothing, Pin::Int(4), Pin::Int(1)]);
+    plan.gate(19, 0, &[Pin::Nothing, Pin::Int(3), Pin::Int(1)]);
+    plan.gate(5, 0, &[]);
+    plan.gate(5, 0, &[]);
+    plan.gate(6, 0, &[Pin::From(3, 0)]);
+    plan.gate(6, 0, &[Pin::From(4, 0)]);
+    plan.call(0, 0, 1, 0);
+    plan.call(1, 0, 2, 0);
+    let run = plan.play(&[(QUARTER, &[(0, Pin::Nothing)])]);
+    assert_eq!(run.records[0].units, [(0, 2), (6, 0), (5, 0)]);
+}

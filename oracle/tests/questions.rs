@@ -292,6 +292,7 @@ fn the_first_no_is_the_answer() {
         let words = changed(&base().0, a);
         assert_eq!(check(&bytes(&words), &[]), *first, "before question 8");
     }
+    assert_eq!([circuit(&[(5, 4), (10, 29)]), circuit(&[(5, 4), (13, 3)])], [2; 2]);
     assert_eq!(script(&[(0, 3), (2, -1), (6, 1)]), 8);
     assert_eq!(script(&[(2, -1), (6, 1)]), 9);
     let two_queues = [vec![2, 0, 20, 0, 16, 17, 0, 0], vec![-1; 20], vec![0; 20]].concat();

@@ -143,6 +143,25 @@ fn late_holds_256_units_over_all_ranks() {
     assert_eq!(late(true), [2, 64, 64, 0, 0, 12]);
 }
 
+/// 64 delivered events wait beside 256 late units.
+#[test]
+fn delivered_events_are_not_on_the_late_list() {
+    let mut plan = Plan::default();
+    let world = plan.gate(28, 0, &[]);
+    let toggle = plan.gate(22, 0, &[]);
+    plan.call(world, 0, toggle, 0);
+    plan.alike(4, 6, 5, &[Pin::From(toggle, 1)]);
+    let other = plan.gate(28, 0, &[]);
+    for _ in 0..8 {
+        let send = plan.gate(24, 0, &[Pin::Nothing, Pin::Int(0)]);
+        plan.call(other, 0, send, 0);
+    }
+    plan.alike(8, 26, 0, &[Pin::Int(0)]);
+    let ticks: [(f64, &[(usize, Pin)]); 2] =
+        [(0.25, &[(other, Pin::Nothing)]), (0.25, &[(world, Pin::Nothing); 64])];
+    assert_eq!(last(&mut plan, &ticks), [2, 64, 384, 0, 0, 0]);
+}
+
 /// 16 Clocks of rank 0 each set off 16 ChangeDetectors of this rank.
 fn clocks(rank: i64) -> (Plan, usize) {
     let mut plan = Plan::default();

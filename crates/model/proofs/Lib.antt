@@ -28,3 +28,5 @@ pub mod Chains
 pub mod Stale
 -- the order promise at this machine: `in-order`
 pub mod InOrder
+-- the records of a run fit its log: `play-fits`, `log-keeps-length`
+pub mod Fits

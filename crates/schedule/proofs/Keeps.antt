@@ -1,4 +1,5 @@
--- What opening, body and closing keep holds wherever a unit begins, and after each tick, of a whole run.
+-- What opening, body and closing keep holds wherever a unit begins, and after each tick, of a whole run; what opening and body keep, up to each closing.
+use mathlib.Core.Path.{_≡_, refl, sym, subst}
 use mathlib.Core.List.{List, [], _∷_}
 use Prim.Native.Nat.{ℕ, zero, suc}
 use lib.Dec.{eqb}
@@ -15,9 +16,17 @@ module _ (S : Setup) where
     turns : All (λ (u : Turn S). P (u .from)) (k .turns)
     world : P (k .world)
 
-  -- what opening, body and closing keep
-  module _ (P : W → Type 0) (opened : (w : W) (i : In) → P w → Did-keep P (opens w i)) (ran : (w : W) (a : Act) → P w → Did-keep P (runs w a))
-      (closed : (w : W) (o : Outcome Act) → P w → P (closes w o .world)) where
+  -- P holds wherever a unit of the tick k began, and in the world before it was closed
+  pub record Tick-closes (P : W → Type 0) (k : Tick S) : Type 0 where
+    pub late : All (λ (u : Turn S). P (u .from)) (k .late)
+    pub main : All (λ (u : Turn S). P (u .from)) (k .main)
+    pub before : W
+    pub holds : P before
+    pub done : Outcome Act
+    pub world : k .world ≡ closes before done .world
+
+  -- what opening and body keep
+  module _ (P : W → Type 0) (opened : (w : W) (i : In) → P w → Did-keep P (opens w i)) (ran : (w : W) (a : Act) → P w → Did-keep P (runs w a)) where
     raise-all-keeps :
         {Pl Q : Type 0} (activate : Pl → Activation S → Q → Filed Q) (rs : List (Raise W Act Pl)) (t : Tag) (q : Q) (w : W) (s : ℕ) →
         P w → All (λ r. P (r .at)) rs → P (raise-all S activate rs t q w s .world)
@@ -63,9 +72,9 @@ module _ (S : Setup) where
               record { turns = _∷·_ p (r .turns); world = r .world }
       pass-keeps (suc n) t q w (suc s) p = record { turns = [·]; world = p }
 
-    pub tick-keeps : (w : W) (i : In) (came : List (Activation S)) (t : Tag) → P w → Tick-keeps S P (tick S w i came t)
+    pub tick-closes : (w : W) (i : In) (came : List (Activation S)) (t : Tag) → P w → Tick-closes P (tick S w i came t)
     unfolding tick late-pass main-pass
-    tick-keeps w i came t p =
+    tick-closes w i came t p =
         let d = opens w i in
         let h = opened w i p in
         let q₀ : OpenQ (Activation S) = record { lateq = record { late = push-all S came []; delivered = [] }; pending = [] } in
@@ -76,20 +85,34 @@ module _ (S : Setup) where
         let q : MainQ (Activation S) = record { pending = o .queue .pending; carried = [] } in
         let m = pass S (next-main S) (activate-main S) (l .left) (l .next) q (l .world) (l .stop) in
         let e = pass-keeps (next-main S) (activate-main S) (l .left) (l .next) q (l .world) (l .stop) (b .world) in
-        record { late = b .turns; main = e .turns; world = closed (m .world) (outcome S (l .turns) (m .turns) (m .queue .carried) (m .stop)) (e .world) }
+        record {
+          late = b .turns;
+          main = e .turns;
+          before = m .world;
+          holds = e .world;
+          done = outcome S (l .turns) (m .turns) (m .queue .carried) (m .stop);
+          world = refl;
+        }
 
-    run-on-keeps : (is : List In) (w : W) (came : List (Activation S)) (t : Tag) → P w → All (Tick-keeps S P) (run-on S is w came t)
-    unfolding run-on
-    run-on-keeps [] w came t p = [·]
-    run-on-keeps (i ∷ is) w came t p =
-        let k = tick S w i came t in
-        let h = tick-keeps w i came t p in
-        _∷·_ h (go (k .stop) (run-on-keeps is (k .world) (k .carried) (k .next) (h .world)))
-      where
-        go : (s : ℕ) {ts : List (Tick S)} → All (Tick-keeps S P) ts → All (Tick-keeps S P) (go-on S s ts)
-        go zero a = a
-        go (suc s) a = [·]
+    -- what closing keeps too
+    module _ (closed : (w : W) (o : Outcome Act) → P w → P (closes w o .world)) where
+      tick-keeps : (w : W) (i : In) (came : List (Activation S)) (t : Tag) → P w → Tick-keeps S P (tick S w i came t)
+      tick-keeps w i came t p =
+          let h = tick-closes w i came t p in
+          record { late = h .late; main = h .main; world = subst P (sym (h .world)) (closed (h .before) (h .done) (h .holds)) }
 
-    pub run-keeps : (is : List In) (w : W) → P w → All (Tick-keeps S P) (run S is w)
-    unfolding run
-    run-keeps is w p = run-on-keeps is w [] _ p
+      run-on-keeps : (is : List In) (w : W) (came : List (Activation S)) (t : Tag) → P w → All (Tick-keeps S P) (run-on S is w came t)
+      unfolding run-on
+      run-on-keeps [] w came t p = [·]
+      run-on-keeps (i ∷ is) w came t p =
+          let k = tick S w i came t in
+          let h = tick-keeps w i came t p in
+          _∷·_ h (go (k .stop) (run-on-keeps is (k .world) (k .carried) (k .next) (h .world)))
+        where
+          go : (s : ℕ) {ts : List (Tick S)} → All (Tick-keeps S P) ts → All (Tick-keeps S P) (go-on S s ts)
+          go zero a = a
+          go (suc s) a = [·]
+
+      pub run-keeps : (is : List In) (w : W) → P w → All (Tick-keeps S P) (run S is w)
+      unfolding run
+      run-keeps is w p = run-on-keeps is w [] _ p

@@ -1,5 +1,4 @@
 -- What it means that a fact about worlds is kept: by what was done, and by a tick.
-use mathlib.Core.List.{List}
 use Rattle.schedule.specs.Schedule.{Did, Setup, Machine, Turn, Tick}
 use Rattle.schedule.specs.Promise.{All}
 

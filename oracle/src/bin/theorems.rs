@@ -10,10 +10,11 @@ use std::process::ExitCode;
 
 use oracle::{Answer, Lent};
 
-/// What the prover computes within its step limit: steps of a run, and words of
-/// a log that takes all of it. A run above either is left out, and counted.
-const MOST_STEPS: i64 = 4_000;
+/// What the prover computes within its limits: words of a log that takes the
+/// whole run, and its steps and units times its gates. A run above either is
+/// left out, and counted.
 const MOST_WORDS: usize = 3_000;
+const MOST_WORK: usize = 40_000;
 
 const THEOREMS_A_MODULE: usize = 25;
 
@@ -96,7 +97,7 @@ impl Case<'_> {
         let whole = Lent { log: usize::MAX, delays: 8 * 65_536, ..Lent::default() };
         match oracle::run(&self.words("circuit"), &self.words("script"), &whole) {
             Answer::Refused(_) => false,
-            Answer::Played { log, .. } => log.len() <= MOST_WORDS && self.steps(&log) <= MOST_STEPS,
+            Answer::Played { log, .. } => log.len() <= MOST_WORDS && self.work(&log) <= MOST_WORK,
         }
     }
 
@@ -104,23 +105,19 @@ impl Case<'_> {
         numbers(self.get(name).unwrap_or("")).into_iter().flat_map(i64::to_le_bytes).collect()
     }
 
-    /// The steps of all records of a log.
-    fn steps(&self, log: &[i64]) -> i64 {
-        let outputs = self.outputs();
-        let (mut at, mut steps) = (0, 0);
+    /// Steps and units of all records of a log, times the gates.
+    fn work(&self, log: &[i64]) -> usize {
+        let circuit = numbers(self.get("circuit").unwrap_or(""));
+        let [gates, constants, ..] = circuit.as_slice() else { return 0 };
+        let kinds = circuit.iter().skip(4 + 2 * *constants as usize).take(*gates as usize);
+        let outputs: usize = kinds.map(|&n| oracle::kinds::kind(n).map_or(0, |kind| kind.outputs.len())).sum();
+        let (mut at, mut done) = (0, 0);
         while at + 6 <= log.len() {
-            steps += log[at + 1];
             let units = (log[at + 2] + log[at + 3]) as usize;
+            done += log[at + 1] as usize + units;
             at += 6 + 2 * units + if log[at + 5] == 0 { 2 * outputs } else { 0 };
         }
-        steps
-    }
-
-    fn outputs(&self) -> usize {
-        let words = numbers(self.get("circuit").unwrap_or(""));
-        let [gates, constants, ..] = words.as_slice() else { return 0 };
-        let kinds = words.iter().skip(4 + 2 * *constants as usize).take(*gates as usize);
-        kinds.map(|&number| oracle::kinds::kind(number).map_or(0, |kind| kind.outputs.len())).sum()
+        done * *gates as usize
     }
 
     fn theorem(&self, n: usize) -> String {

@@ -599,5 +599,16 @@ fn pairs() -> Vec<Case> {
             cases.push(case);
         }
     }
+    cases.push(bad_constant_and_kind());
     cases
+}
+
+/// As the pair of questions 2 and 3, by a kind in place of a rank.
+fn bad_constant_and_kind() -> Case {
+    let mut case = edited("q2-no-and-3-by-a-kind".into(), |d| {
+        fault(2, d);
+        d.c.gates[2].0 = 29;
+    });
+    case.shows = "Questions 2 and 3, both no, the latter by a gate of kind 29.".into();
+    case
 }

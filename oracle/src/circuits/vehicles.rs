@@ -376,6 +376,6 @@ fn tanker() -> Case {
             }
         }
     }
-    let shows = "A tanker of 64 gates: stimuli at random, so that swaps fall on every tick of every countdown; 20,000 ticks.";
+    let shows = "A tanker of 64 gates: two slots whose cards are swapped at random, some 4,000 times; 20,000 ticks.";
     Case::new("vehicle-tanker", shows, &c, &s).log(1 << 26)
 }
