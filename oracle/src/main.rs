@@ -14,7 +14,7 @@ oracle play DIR [--log N] [--values N] [--units N] [--delays N] [--any-size]
 oracle bench DIR
 oracle circuits [NAME DIR]
 oracle generate FAMILY SEED DIR
-oracle vectors DIR
+oracle vectors DIR [FIRST LAST]
 oracle mutants [NAME..]";
 
 fn main() -> ExitCode {
@@ -42,6 +42,9 @@ fn run(words: &[&str]) -> Option<()> {
             println!("{}", stated::write(&stated::generated(family, seed)?, dir.as_ref())?);
         }
         ["vectors", dir] => oracle::vectors::write(dir.as_ref()).ok()?,
+        ["vectors", dir, first, last] => {
+            oracle::vectors::write_random(dir.as_ref(), first.parse().ok()?, last.parse().ok()?).ok()?;
+        }
         ["mutants", names @ ..] => mutants::try_mutants(names),
         _ => return None,
     }

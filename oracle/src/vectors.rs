@@ -5,6 +5,7 @@ use std::fmt::Write as _;
 use std::path::Path;
 
 use crate::circuits::{Case, Group, groups};
+use crate::generate::{FAMILIES, damaged, valid};
 use crate::{Answer, Lent, run};
 
 /// Words above this many are not written but summed up.
@@ -16,6 +17,19 @@ pub fn write(dir: &Path) -> std::io::Result<()> {
         std::fs::write(dir.join(file_name(&group)), text(&group))?;
     }
     Ok(())
+}
+
+/// Writes the vectors of every family and of damaged cases, for the seeds from
+/// `first` up to `last`, to `random.txt` in a folder.
+pub fn write_random(dir: &Path, first: u64, last: u64) -> std::io::Result<()> {
+    let mut text = String::new();
+    for seed in first..last {
+        for family in FAMILIES {
+            text += &vector(&valid(seed, family));
+        }
+        text += &vector(&damaged(seed).case);
+    }
+    std::fs::write(dir.join("random.txt"), text)
 }
 
 pub fn file_name(group: &Group) -> String {
