@@ -6,6 +6,9 @@ use mathlib.Core.List.{List, [], _∷_, map}
 use Rattle.words.specs.Words.{bytes}
 use Rattle.model.specs.Base.{joined}
 use Rattle.model.specs.Value.{narrow}
+use Rattle.model.specs.Circuit.{circuit}
+use Rattle.model.specs.Script.{script}
+use Rattle.model.specs.Run.{Played, ticks-of, seen}
 use Rattle.model.specs.Answer.{Answer, refused, played, answer, model-opened}
 
 -- the arrays of a circuit and of a script, one behind the other, and what the call answers that is lent a log and three areas of 65,536 bytes each
@@ -199,3 +202,21 @@ narrowings =
 pub played-examples : (map answered rows ≡ map (λ r. r .wanted) rows) × (map (λ n. narrow (n .wide)) narrowings ≡ map (λ n. n .narrow) narrowings)
 unfolding model-opened row plays answered rows to narrowings
 played-examples = (refl, refl)
+
+-- ---- the step limit, with a small number in place of 50,000,000
+
+-- a WorldEvent calls three Reroutes, one behind the other: three steps
+unfoldable pub three-steps : ℕ → Played
+three-steps limit =
+    let c = circuit (4 ∷ 0 ∷ 3 ∷ 3 ∷ 28 ∷ 2 ∷ 2 ∷ 2 ∷ 0 ∷ 0 ∷ 0 ∷ 0 ∷ -1 ∷ -1 ∷ -1 ∷ 0 ∷ 0 ∷ 0 ∷ 0 ∷ 2 ∷ 3 ∷ 0 ∷ 2 ∷ 4 ∷ []) in
+    seen c limit (ticks-of c limit 65536 (script (c .constants) (1 ∷ 1 ∷ 0 ∷ 1 ∷ 0 ∷ 0 ∷ [])))
+
+-- Three steps pass where three may be made.
+pub steps-pass : three-steps 3 ≡ record { log = 1 ∷ 3 ∷ 1 ∷ 0 ∷ 0 ∷ 0 ∷ 0 ∷ 2 ∷ 0 ∷ 0 ∷ 0 ∷ 0 ∷ 0 ∷ 0 ∷ 0 ∷ 0 ∷ 0 ∷ 0 ∷ []; stop = 0; ticks = 1 }
+unfolding model-opened three-steps
+steps-pass = refl
+
+-- Where two may be made the third stops with 11: the steps include the one not made, and the units begun the one under way.
+pub runaway-stops : three-steps 2 ≡ record { log = 1 ∷ 3 ∷ 1 ∷ 0 ∷ 0 ∷ 11 ∷ 0 ∷ 2 ∷ []; stop = 11; ticks = 0 }
+unfolding model-opened three-steps
+runaway-stops = refl
