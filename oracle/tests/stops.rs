@@ -17,43 +17,34 @@ fn last(plan: &mut Plan, ticks: &[(f64, &[(usize, Pin)])]) -> [i64; 6] {
     head(plan.play(ticks).records.last().unwrap())
 }
 
+/// How a test's plan makes a call: local ones go to the chain stack, remote
+/// ones to the forks.
+type Calls = fn(&mut Plan, usize, usize, usize, usize);
+
+const LISTS: [Calls; 2] = [Plan::call, Plan::remote];
+
 #[test]
-fn the_chain_stack_holds_256_calls() {
-    let mut plan = Plan::default();
-    let world = plan.gate(28, 0, &[]);
-    let toggle = plan.gate(22, 0, &[]);
-    (0..256).for_each(|_| plan.call(world, 0, toggle, 0));
-    assert_eq!(last(&mut plan, &[(0.25, &[(world, Pin::Nothing)])]), [1, 256, 1, 0, 0, 0]);
+fn the_chain_stack_and_the_forks_hold_256_calls() {
+    for call in LISTS {
+        let mut plan = Plan::default();
+        let world = plan.gate(28, 0, &[]);
+        let toggle = plan.gate(22, 0, &[]);
+        (0..256).for_each(|_| call(&mut plan, world, 0, toggle, 0));
+        assert_eq!(last(&mut plan, &[(0.25, &[(world, Pin::Nothing)])]), [1, 256, 1, 0, 0, 0]);
+    }
 }
 
 /// A Reroute that calls itself twice leaves one call more after each step.
 #[test]
-fn the_257th_call_on_the_chain_stack_stops() {
-    let mut plan = Plan::default();
-    let world = plan.gate(28, 0, &[]);
-    let ring = plan.gate(2, 0, &[]);
-    plan.call(world, 0, ring, 0);
-    (0..2).for_each(|_| plan.call(ring, 0, ring, 0));
-    assert_eq!(last(&mut plan, &[(0.25, &[(world, Pin::Nothing)])]), [1, 256, 1, 0, 0, 12]);
-}
-
-#[test]
-fn the_forks_hold_256_calls() {
-    let mut plan = Plan::default();
-    let world = plan.gate(28, 0, &[]);
-    let toggle = plan.gate(22, 0, &[]);
-    (0..256).for_each(|_| plan.remote(world, 0, toggle, 0));
-    assert_eq!(last(&mut plan, &[(0.25, &[(world, Pin::Nothing)])]), [1, 256, 1, 0, 0, 0]);
-}
-
-#[test]
-fn the_257th_fork_stops() {
-    let mut plan = Plan::default();
-    let world = plan.gate(28, 0, &[]);
-    let ring = plan.gate(2, 0, &[]);
-    plan.remote(world, 0, ring, 0);
-    (0..2).for_each(|_| plan.remote(ring, 0, ring, 0));
-    assert_eq!(last(&mut plan, &[(0.25, &[(world, Pin::Nothing)])]), [1, 256, 1, 0, 0, 12]);
+fn the_257th_call_on_the_chain_stack_or_the_forks_stops() {
+    for call in LISTS {
+        let mut plan = Plan::default();
+        let world = plan.gate(28, 0, &[]);
+        let ring = plan.gate(2, 0, &[]);
+        call(&mut plan, world, 0, ring, 0);
+        (0..2).for_each(|_| call(&mut plan, ring, 0, ring, 0));
+        assert_eq!(last(&mut plan, &[(0.25, &[(world, Pin::Nothing)])]), [1, 256, 1, 0, 0, 12]);
+    }
 }
 
 /// World calls a buffer, `fires` times in one tick.

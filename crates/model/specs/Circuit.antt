@@ -127,10 +127,11 @@ module _ (c : Circuit) where
   unfoldable pub rank-of-gate : ℕ → ℕ
   rank-of-gate g = getD (c .ranks) g 0
 
-  -- input p and output p of gate g
+  -- input p of gate g
   unfoldable pub input : ℕ → ℕ → ℕ
   input g p = getD (c .first-input) g 0 + p
 
+  -- output p of gate g
   unfoldable pub output : ℕ → ℕ → ℕ
   output g p = getD (c .first-output) g 0 + p
 
@@ -170,10 +171,11 @@ module _ (c : Circuit) where
   unfoldable pub watching : ℕ → Bool
   watching i = getD (c .watched) i false
 
-  -- all gates, and those of some kinds, ascending
+  -- all gates, ascending
   unfoldable pub gates : List ℕ
   gates = from 0 (length (c .kinds))
 
+  -- those whose kind passes the test, ascending
   unfoldable pub gates-of : (ℕ → Bool) → List ℕ
   gates-of p = keep (λ g. p (kind-of-gate g)) gates
 

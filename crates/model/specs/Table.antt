@@ -17,6 +17,7 @@ pub record Row : Type 0 where
   pub script : List (List ℕ)
   pub wanted : Answer
 
+-- the same, by its parts
 unfoldable pub row : List (List ℕ) → List (List ℕ) → Answer → Row
 row c s a = record { circuit = c; script = s; wanted = a }
 
@@ -24,6 +25,7 @@ row c s a = record { circuit = c; script = s; wanted = a }
 unfoldable pub plays : List (List ℕ) → ℕ → ℕ → Answer
 plays records stop ticks = played (record { log = joined records; stop = stop; ticks = ticks })
 
+-- what the definition answers
 unfoldable pub answered : Row → Answer
 answered r = answer (record { values = 65536; units = 65536; delays = 65536 }) 65536 (bytes (joined (r .circuit))) (bytes (joined (r .script)))
 
@@ -31,6 +33,7 @@ answered r = answer (record { values = 65536; units = 65536; delays = 65536 }) 6
 abbrev -1 : ℕ
 -1 = 2 ^ 64 - 1
 
+-- document 01's examples are marked *
 unfoldable pub rows : List Row
 rows =
     -- * A WorldEvent calls a Toggle.
@@ -186,6 +189,7 @@ pub record Narrowed : Type 0 where
   pub wide : ℕ
   pub narrow : ℕ
 
+-- the same, by its parts
 unfoldable pub to : ℕ → ℕ → Narrowed
 to w n = record { wide = w; narrow = n }
 

@@ -15,10 +15,11 @@ use Rattle.model.specs.State.{Wires, outs≔, dirty≔, to-check≔}
 
 -- ---- what is shown, what is stale, what waits
 
--- what an output shows; it shows a value
+-- what an output shows
 unfoldable pub shown : Wires → ℕ → Value
 shown w o = getD (w .outs) o Nothing
 
+-- it shows a value, and its readers are not told
 unfoldable pub show : Wires → ℕ → Value → Wires
 show w o v = outs≔ w (set (w .outs) o v)
 

@@ -3,12 +3,15 @@ use mathlib.Core.List.{map}
 use Rattle.schedule.specs.Schedule.{Setup, plain, Activation, Turn, Tick}
 
 module _ (S : Setup) where
+  -- of an activation: what it runs
   abbrev pub bare : Activation S → Activation (plain (S .machine))
   bare e = record { act = e .act; tag = tt }
 
+  -- of a unit begun
   abbrev pub bare-turn : Turn S → Turn (plain (S .machine))
   bare-turn u = record { unit = bare (u .unit); from = u .from; raised = map bare (u .raised); ran = u .ran }
 
+  -- of a tick
   abbrev pub bare-tick : Tick S → Tick (plain (S .machine))
   bare-tick k =
       record {

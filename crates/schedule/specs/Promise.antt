@@ -52,13 +52,15 @@ module _ (S : Setup) where
   raised-not-above [] = []
   raised-not-above (u ∷ us) = not-above (u .unit) (u .raised) ++ raised-not-above us
 
-  -- all that a tick began, all of it that has run, and all that was raised in it
+  -- all that a tick began
   abbrev pub begun : Tick S → List (Activation S)
   begun t = units (t .late) ++ units (t .main)
 
+  -- all of it that has run
   abbrev pub has-run : Tick S → List (Activation S)
   has-run t = ended (t .late) ++ ended (t .main)
 
+  -- all that was raised in a tick, in order
   abbrev pub raised : Tick S → List (Activation S)
   raised t = t .opened ++ (raised-by (t .late) ++ raised-by (t .main))
 
@@ -115,10 +117,11 @@ module _ (M : Machine) where
 
   -- ---- of a run
 
-  -- how often number x is raised, and how often it begins, in a list of ticks
+  -- how often number x is raised in a list of ticks
   abbrev pub raises : ℕ → List Played → ℕ
   raises x ts = total (λ t. times x (raised (numbered M) t)) ts
 
+  -- how often it begins in them
   abbrev pub begins : ℕ → List Played → ℕ
   begins x ts = total (λ t. times x (begun (numbered M) t)) ts
 
