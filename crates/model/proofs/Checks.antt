@@ -9,7 +9,7 @@ use borrow.Author.Tests.{leb-true, eqb-true}
 use Rattle.model.specs.declared.Value.{Value}
 use Rattle.model.specs.Kinds.{kind-at, pure, kinds-opened}
 use Rattle.model.specs.Circuit.{Circuit, kind-of-gate, output}
-use Rattle.model.specs.State.{State, Delay}
+use Rattle.model.specs.State.{State, Delay, wires≔}
 use Rattle.model.specs.Exec.{delay≔}
 use Rattle.model.specs.Settle.{Settled, calm, raise, pulse, edge, detect}
 use Rattle.model.proofs.Lists.{if-both, if-by, both-true}
@@ -43,7 +43,7 @@ outs-8 = refl
 -- ---- what is kept by each thing that a check may do is kept by the check
 
 module _ (c : Circuit) (P : Settled → Type 0) (s : State) (g : ℕ) (calmed : P (calm s)) (raised : (form : ℕ) → P (raise s g form))
-    (pulsed : (o k : ℕ) → kind-of-gate c g ≡ k → pulses-up k ≡ true → o < length (kind-at k .outs) → P (calm (pulse c s (output c g o))))
+    (pulsed : (o k : ℕ) → kind-of-gate c g ≡ k → pulses-up k ≡ true → o < length (kind-at k .outs) → P (calm (wires≔ s (pulse c (s .wires) (output c g o)))))
     (delayed : (d : Delay) → P (calm (delay≔ c s g d))) where
   edge-keeps : (was now : Value) (hit : State → ℕ → Settled) → P (hit s 0) → P (hit s 1) → P (edge c s was now hit)
   unfolding edge

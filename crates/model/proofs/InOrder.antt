@@ -60,12 +60,12 @@ module _ (c : Circuit) (limit : ℕ) where
       (w : World) (late main : List (Turn S)) (carried : List (Activation S)) (stop : ℕ) →
       let o = outcome S late main carried stop in
       log-record limit w o
-      ≡ w .state .tick ∷ steps limit w stop ∷ length late ∷ length main ∷ length carried ∷ stop ∷ (units-begun o ++ outputs-shown (w .state) stop)
+      ≡ w .state .wires .tick ∷ steps limit w stop ∷ length late ∷ length main ∷ length carried ∷ stop ∷ (units-begun o ++ outputs-shown (w .state) stop)
   unfolding log-record head
   record-is w late main carried stop =
       let o = outcome S late main carried stop in
       λ j.
-      w .state .tick ∷ steps limit w stop ∷ acts-length late j ∷ acts-length main j ∷ length-map carried (λ (e : Activation S). e .act) j ∷ stop ∷ (units-begun o ++ outputs-shown (w .state) stop)
+      w .state .wires .tick ∷ steps limit w stop ∷ acts-length late j ∷ acts-length main j ∷ length-map carried (λ (e : Activation S). e .act) j ∷ stop ∷ (units-begun o ++ outputs-shown (w .state) stop)
 
   -- what closing a tick came to: its record, or none that fits
   closed-as :
@@ -90,7 +90,7 @@ module _ (c : Circuit) (limit : ℕ) where
           let z = write v r in
           ((tick : ℕ) × (steps : ℕ) × (rest : List ℕ) × (z .world .logged ≡ tick ∷ steps ∷ length late ∷ length main ∷ length carried ∷ cond (z .fits) stop log-full ∷ rest))
           ⊎ ((cond (z .fits) stop log-full ≡ log-full) × (z .world .logged ≡ []))
-      go true h = let e = write-fits v r h in inl (v .state .tick, steps limit v stop, units-begun o ++ outputs-shown (v .state) stop, rw (e .1) (e .0 ∙ record-is v late main carried stop))
+      go true h = let e = write-fits v r h in inl (v .state .wires .tick, steps limit v stop, units-begun o ++ outputs-shown (v .state) stop, rw (e .1) (e .0 ∙ record-is v late main carried stop))
       go false h = let e = write-over v r h in inr (rw (e .1) refl, e .0)
 
   tick-recorded : (w : World) (i : Given) (came : List (Activation S)) (t : ℕ) → Recorded c limit (tick S w i came t)

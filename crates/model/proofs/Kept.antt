@@ -1,64 +1,92 @@
 -- Every operation on the state keeps it sized; so are the states in which it raises.
-use mathlib.Core.Path.{_≡_, refl, sym, _∙_}
-use mathlib.Core.Bool.{Bool, true, false, not, _&&_, _||_}
-use mathlib.Core.List.{List, [], _∷_, _++_}
+use mathlib.Core.Path.{_≡_, refl, sym, ap, _∙_}
+use mathlib.Core.Bool.{Bool, true, false, not, _&&_, _||_, true≢false}
+use mathlib.Core.List.{List, [], _∷_, _++_, map}
 use mathlib.Core.Option.{Option, none, some}
-use Prim.Native.Nat.{ℕ, zero, suc}
+use Prim.Native.Nat.{ℕ, zero, suc, _<_}
+use native.Mathlib.Nat.{zero-add}
 use native.Mathlib.Omega.{arith}
-use lib.Dec.{leb, eqb}
-use lib.ListN.{length, set, length-set, length-map, length-replicate, List·getD-map}
-use borrow.Author.Tests.{eqb-true}
+use lib.Dec.{leb, ltb, eqb}
+use lib.ListN.{length, set, length-set, length-map, length-replicate, List·getD-map, List·getD-eq-default}
+use borrow.Author.Tests.{ltb-true, ltb-false, eqb-true, ne-eqb}
 use Rattle.schedule.specs.Schedule.{Raise, Place, to-late, to-delivered, list-full}
 use Rattle.schedule.specs.Promise.{All, [·], _∷·_}
 use Rattle.model.specs.declared.Value.{Value}
 use Rattle.model.specs.declared.Value.the-variants.{Nothing}
-use Rattle.model.specs.Base.{from}
-use Rattle.model.specs.Kinds.{pure}
-use Rattle.model.specs.Circuit.{Circuit, kind-of-gate, input, output, gate-at-input, gates, gates-of}
+use Rattle.model.specs.Base.{snoc, among, from}
+use Rattle.model.specs.Kinds.{pure, time-source}
+use Rattle.model.specs.Circuit.{Circuit, most-gates, kind-of-gate, output, gate-at-input, gates, gates-of}
 use Rattle.model.specs.Script.{Given}
-use Rattle.model.specs.State.{Wires, State, Countdown, Delay, Act, Send, to-check≔, times≔, wires≔, last≔, pulses≔, delays≔, written≔, unions-passed≔, outbox≔}
+use Rattle.model.specs.State.{Wires, State, Countdown, Delay, Act, Send, to-check≔, times≔, last≔, pulses≔, written≔, unions-passed≔, wires≔, delays≔, outbox≔}
 use Rattle.model.specs.Wires.{is-dirty, ready, mark-readers, invalidate}
 use Rattle.model.specs.Delays.{Moved}
-use Rattle.model.specs.Exec.{Stepped, fires-next, ends, delay≔, set-output, readied, record-write, exec-Buffer, exec-Stopwatch, exec-Queue, exec-VarGet, exec-VarSet, exec-Branch, exec-Union, exec-Toggle, exec-Cycle, exec-SendEvent, exec-kind, exec-gate}
+use Rattle.model.specs.Exec.{Stepped, fires-next, ends, delay≔, set-output, readied, var, record-write, exec-Buffer, exec-Stopwatch, exec-Queue, exec-VarGet, exec-VarSet, exec-Branch, exec-Union, exec-Toggle, exec-Cycle, exec-SendEvent, exec-kind, exec-gate}
 use Rattle.model.specs.Chain.{Calls, Popped, pop, fit, Chained, chained, push-calls, run-chain, runaway}
 use Rattle.model.specs.Settle.{Settled, calm, raise, publish-writes, pulse, compared, check, check-on, settle}
-use Rattle.model.specs.Opening.{wires-at-start, start, Opened, raised-to, fire, begin-tick, lower, advanced, advance-buffer, advance-clock, advance-timer, open-tick}
+use Rattle.model.specs.Opening.{wires-fresh, wires-at-start, start, Opened, raised-to, fire, next-tick, begin-tick, lower, advanced, advance-buffer, advance-clock, advance-timer, open-tick}
 use Rattle.model.specs.Unit.{World, enter, run-unit}
 use Rattle.model.specs.Record.{read-outputs}
-use Rattle.model.proofs.Lists.{if-both, each-keeps, each-keeps-all, all-keep, from-length, all-append, map-all, all-of}
+use Rattle.model.proofs.Lists.{if-both, if-by, each-keeps, each-keeps-all, among-from, from-length, all-append, map-all, all-of}
 use Rattle.model.proofs.Checks.{detect-keeps}
-use Rattle.model.proofs.Sized.{Sized-wires, Sized, show-sized, soil-sized, refresh-all-sized, ready-sized, mark-readers-sized, set-out-sized, set-outs-sized, taken-sized}
+use Rattle.model.proofs.Laid.{Laid}
+use Rattle.model.proofs.Once.{Once, empty, added, either-false, among-map}
+use Rattle.model.proofs.Sized.{Sized-memory, Sized-wires, Sized, show-sized, soil-sized, refresh-all-sized, ready-sized, mark-readers-sized, set-out-sized, set-outs-sized, taken-sized}
+
+map-snoc : {A B : Type 0} (f : A → B) (xs : List A) (x : A) → map f (snoc xs x) ≡ snoc (map f xs) (f x)
+unfolding snoc
+map-snoc f [] x = refl
+map-snoc f (y ∷ ys) x = ap (λ (zs : List _). f y ∷ zs) (map-snoc f ys x)
 
 module _ (c : Circuit) where
   -- ---- one field changed
 
   pub wires-sized : {s : State} {w : Wires} → Sized c s → Sized-wires c w → Sized c (wires≔ s w)
   unfolding wires≔
-  wires-sized z y = record { wires = y; last = z .last; pulses = z .pulses; delays = z .delays }
-
-  last-sized : {s : State} (i : ℕ) (v : Option Value) → Sized c s → Sized c (last≔ s (set (s .last) i v))
-  unfolding last≔
-  last-sized {s} i v z = record { wires = z .wires; last = length-set (s .last) i v ∙ z .last; pulses = z .pulses; delays = z .delays }
-
-  pulses-sized : {s : State} (o t : ℕ) → Sized c s → Sized c (pulses≔ s (set (s .pulses) o t))
-  unfolding pulses≔
-  pulses-sized {s} o t z = record { wires = z .wires; last = z .last; pulses = length-set (s .pulses) o t ∙ z .pulses; delays = z .delays }
+  wires-sized z y = record { wires = y; delays = z .delays; outbox = z .outbox }
 
   delay-sized : {s : State} (g : ℕ) (d : Delay) → Sized c s → Sized c (delay≔ c s g d)
   unfolding delay≔ delays≔
-  delay-sized {s} g d z = record { wires = z .wires; last = z .last; pulses = z .pulses; delays = length-set (s .delays) g d ∙ z .delays }
+  delay-sized {s} g d z = record { wires = z .wires; delays = length-set (s .delays) g d ∙ z .delays; outbox = z .outbox }
 
-  written-sized : {s : State} (x : List ℕ) → Sized c s → Sized c (written≔ s x)
-  unfolding written≔
-  written-sized x z = record { wires = z .wires; last = z .last; pulses = z .pulses; delays = z .delays }
+  -- what is remembered is changed
+  memory-sized :
+      {w : Wires} {last : List (Option Value)} {pulses written : List ℕ} {passed : List Bool} → Sized-wires c w → Sized-memory c last pulses written passed →
+      Sized-wires c (unions-passed≔ (written≔ (pulses≔ (last≔ w last) pulses) written) passed)
+  unfolding unions-passed≔ written≔ pulses≔ last≔ is-dirty
+  memory-sized z m = record { outs = z .outs; dirty = z .dirty; queued = z .queued; stale = z .stale; waiting = z .waiting; memory = m }
 
-  passed-sized : {s : State} (x : List ℕ) → Sized c s → Sized c (unions-passed≔ s x)
-  unfolding unions-passed≔
-  passed-sized x z = record { wires = z .wires; last = z .last; pulses = z .pulses; delays = z .delays }
+  pub last-sized : {w : Wires} (i : ℕ) (v : Option Value) → Sized-wires c w → Sized-wires c (last≔ w (set (w .last) i v))
+  unfolding unions-passed≔ written≔ pulses≔ last≔
+  last-sized {w} i v z =
+      let m = z .memory in
+      memory-sized z (record { last = length-set (w .last) i v ∙ m .last; pulses = m .pulses; written = m .written; passed = m .passed })
 
-  outbox-sized : {s : State} (x : List Send) → Sized c s → Sized c (outbox≔ s x)
+  pub pulses-sized : {w : Wires} (o t : ℕ) → Sized-wires c w → Sized-wires c (pulses≔ w (set (w .pulses) o t))
+  unfolding unions-passed≔ written≔ pulses≔ last≔
+  pulses-sized {w} o t z =
+      let m = z .memory in
+      memory-sized z (record { last = m .last; pulses = length-set (w .pulses) o t ∙ m .pulses; written = m .written; passed = m .passed })
+
+  written-sized : {w : Wires} (x : List ℕ) → Once (map (var c) (gates c)) x → Sized-wires c w → Sized-wires c (written≔ w x)
+  unfolding unions-passed≔ written≔ pulses≔ last≔
+  written-sized x o z = let m = z .memory in memory-sized z (record { last = m .last; pulses = m .pulses; written = o; passed = m .passed })
+
+  passed-sized : {w : Wires} (x : List Bool) → length x ≡ length (w .unions-passed) → Sized-wires c w → Sized-wires c (unions-passed≔ w x)
+  unfolding unions-passed≔ written≔ pulses≔ last≔
+  passed-sized x e z = let m = z .memory in memory-sized z (record { last = m .last; pulses = m .pulses; written = m .written; passed = e ∙ m .passed })
+
+  outbox-sized : {s : State} (x : List Send) → Once (gates c) (map (λ (m : Send). m .gate) x) → Sized c s → Sized c (outbox≔ s x)
   unfolding outbox≔
-  outbox-sized x z = record { wires = z .wires; last = z .last; pulses = z .pulses; delays = z .delays }
+  outbox-sized x o z = record { wires = z .wires; delays = z .delays; outbox = o }
+
+  -- a gate that has a kind is one of the circuit's
+  pub gate-in : (g : ℕ) → eqb (kind-of-gate c g) 0 ≡ false → among g (gates c) ≡ true
+  unfolding kind-of-gate gates
+  gate-in g e = go (ltb g (length (c .kinds))) refl
+    where
+      go : (b : Bool) → ltb g (length (c .kinds)) ≡ b → among g (from 0 (length (c .kinds))) ≡ true
+      go true l = rw zero-add at (among-from 0 (length (c .kinds)) g (ltb-true g _ l))
+      go false l = absurd (true≢false (rw (List·getD-eq-default (c .kinds) 0 (ltb-false g _ l)) at e))
 
   set-output-sized : {s : State} (o : ℕ) (v : Value) → Sized c s → Sized c (set-output c s o v)
   unfolding set-output
@@ -85,40 +113,60 @@ module _ (c : Circuit) where
   unfolding exec-Queue ends
   Queue-sized s g k z = delay-sized _ _ (readied-sized _ _ _ z)
 
-  VarSet-sized : (s : State) (g : ℕ) → Sized c s → Stepped-sized (exec-VarSet c s g)
-  unfolding exec-VarSet fires-next record-write
-  VarSet-sized s g z =
+  record-write-sized : {w : Wires} (g : ℕ) → eqb (kind-of-gate c g) 0 ≡ false → Sized-wires c w → Sized-wires c (record-write c w (var c g))
+  unfolding record-write
+  record-write-sized {w} g h z =
+      if-by (Sized-wires c) (among (var c g) (w .written) || leb most-gates (length (w .written))) (λ _. z)
+      λ e. written-sized _ (added (var c g) (z .memory .written) (among-map (var c) g (gates c) (gate-in g h)) (either-false (among (var c g) (w .written)) _ e .0)) z
+
+  VarSet-sized : (s : State) (g : ℕ) → eqb (kind-of-gate c g) 0 ≡ false → Sized c s → Stepped-sized (exec-VarSet c s g)
+  unfolding exec-VarSet fires-next
+  VarSet-sized s g h z =
       let y = readied-sized _ _ _ z in
-      let x = wires-sized y (show-sized c _ _ _ (y .wires)) in
-      if-both (Sized c) _ x (written-sized _ x)
+      wires-sized y (record-write-sized g h (show-sized c _ _ _ (y .wires)))
 
   Union-sized : (s : State) (g : ℕ) → Sized c s → Stepped-sized (exec-Union c s g)
   unfolding exec-Union fires-next ends
-  Union-sized s g z = if-both Stepped-sized _ z (passed-sized _ z)
+  Union-sized s g z = if-both Stepped-sized _ z (wires-sized z (passed-sized _ (length-set (s .wires .unions-passed) g true) (z .wires)))
 
-  SendEvent-sized : (s : State) (g : ℕ) → Sized c s → Stepped-sized (exec-SendEvent c s g)
-  unfolding exec-SendEvent fires-next
-  SendEvent-sized s g z = if-both (Sized c) _ (readied-sized _ _ _ z) (outbox-sized _ (readied-sized _ _ _ z))
+  SendEvent-sized : (s : State) (g : ℕ) → eqb (kind-of-gate c g) 0 ≡ false → Sized c s → Stepped-sized (exec-SendEvent c s g)
+  unfolding exec-SendEvent fires-next readied wires≔
+  SendEvent-sized s g h z =
+      let y = readied-sized g 2 8 z in
+      let gs = map (λ (m : Send). m .gate) (s .outbox) in
+      if-by (Sized c) (among g gs || leb most-gates (length (s .outbox))) (λ _. y)
+      λ e. outbox-sized _ (rw map-snoc (added g (z .outbox) (gate-in g h) (either-false (among g gs) _ e .0))) y
 
-  exec-kind-sized : (k : ℕ) (s : State) (g p : ℕ) → Sized c s → Stepped-sized (exec-kind c k s g p)
+  -- a kind that a test names is not 0
+  named : (k n : ℕ) → 0 < n → eqb k n ≡ true → eqb k 0 ≡ false
+  named k n l e = ne-eqb k 0 (λ z. omega (arith, eqb-true k n e))
+
+  sends : (k : ℕ) → (eqb k 24 || eqb k 25) ≡ true → eqb k 0 ≡ false
+  sends k e = go (eqb k 24) refl e
+    where
+      go : (b : Bool) → eqb k 24 ≡ b → (b || eqb k 25) ≡ true → eqb k 0 ≡ false
+      go true h e = named k 24 (omega arith) h
+      go false h e = named k 25 (omega arith) e
+
+  exec-kind-sized : (s : State) (g p : ℕ) → Sized c s → Stepped-sized (exec-kind c (kind-of-gate c g) s g p)
   unfolding exec-kind fires-next ends exec-VarGet exec-Branch exec-Toggle exec-Cycle
-  exec-kind-sized k s g p z =
+  exec-kind-sized s g p z =
       if-both Stepped-sized _ z
       (if-both Stepped-sized _ (Buffer-sized s g z)
       (if-both Stepped-sized _ (Stopwatch-sized s g p z)
       (if-both Stepped-sized _ (Queue-sized s g _ z)
       (if-both Stepped-sized _ (Queue-sized s g _ z)
       (if-both Stepped-sized _ (set-output-sized _ _ z)
-      (if-both Stepped-sized _ (VarSet-sized s g z)
+      (if-by Stepped-sized (eqb (kind-of-gate c g) 19) (λ e. VarSet-sized s g (named (kind-of-gate c g) 19 (omega arith) e) z) λ _.
       (if-both Stepped-sized _ (readied-sized _ _ _ z)
       (if-both Stepped-sized _ (Union-sized s g z)
       (if-both Stepped-sized _ (set-output-sized _ _ z)
       (if-both Stepped-sized _ (set-output-sized _ _ (readied-sized _ _ _ z))
-      (if-both Stepped-sized _ (SendEvent-sized s g z) z)))))))))))
+      (if-by Stepped-sized (eqb (kind-of-gate c g) 24 || eqb (kind-of-gate c g) 25) (λ e. SendEvent-sized s g (sends (kind-of-gate c g) e) z) λ _. z)))))))))))
 
   pub exec-gate-sized : (s : State) (i : ℕ) → Sized c s → Stepped-sized (exec-gate c s i)
   unfolding exec-gate
-  exec-gate-sized s i z = exec-kind-sized _ s _ _ z
+  exec-gate-sized s i z = exec-kind-sized s _ _ z
 
   -- ---- a chain
 
@@ -157,10 +205,9 @@ module _ (c : Circuit) where
 
   -- ---- settling
 
-  pub publish-writes-sized : (s : State) → Sized c s → Sized c (publish-writes c s)
+  pub publish-writes-sized : (w : Wires) → Sized-wires c w → Sized-wires c (publish-writes c w)
   unfolding publish-writes
-  publish-writes-sized s z =
-      written-sized _ (wires-sized z (each-keeps (Sized-wires c) (mark-readers c) (mark-readers-sized c) (s .wires) (s .written) (z .wires)))
+  publish-writes-sized w z = written-sized [] empty (each-keeps (Sized-wires c) (mark-readers c) (mark-readers-sized c) w (w .written) z)
 
   -- each state in which something is raised
   abbrev pub Raises-sized : {P : Type 0} → List (Raise State Act P) → Type 0
@@ -178,17 +225,17 @@ module _ (c : Circuit) where
   unfolding raise
   raise-sized g form z = record { state = z; raises = _∷·_ z [·] }
 
-  pulse-sized : {s : State} (o : ℕ) → Sized c s → Sized c (pulse c s o)
+  pulse-sized : {w : Wires} (o : ℕ) → Sized-wires c w → Sized-wires c (pulse c w o)
   unfolding pulse
-  pulse-sized o z = pulses-sized o _ (set-output-sized o _ z)
+  pulse-sized {w} o z = pulses-sized o _ (set-out-sized c w o _ z)
 
   check-sized : (s : State) (i : ℕ) → Sized c s → Settled-sized (check c s i)
-  unfolding check compared
+  unfolding check compared wires≔
   check-sized s i z =
-      let y = last-sized i _ (wires-sized z (ready-sized c (s .wires) i (z .wires))) in
+      let y = wires-sized (wires-sized z (ready-sized c (s .wires) i (z .wires))) (last-sized i _ (ready-sized c (s .wires) i (z .wires))) in
       if-both Settled-sized _ (calm-sized y)
       (detect-keeps c Settled-sized _ (gate-at-input c i) (calm-sized y) (λ form. raise-sized _ form y)
-      (λ o k e u l. calm-sized (pulse-sized _ y)) (λ d. calm-sized (delay-sized _ d y)) _ _ _)
+      (λ o k e u l. calm-sized (wires-sized y (pulse-sized _ (y .wires)))) (λ d. calm-sized (delay-sized _ d y)) _ _ _)
 
   check-on-sized : (n : ℕ) (z : Settled) → Settled-sized z → Settled-sized (check-on c n z)
   unfolding check-on
@@ -214,9 +261,9 @@ module _ (c : Circuit) where
 
   -- ---- the start
 
-  wires-at-start-sized : Sized-wires c (wires-at-start c)
-  unfolding wires-at-start is-dirty pure kind-of-gate
-  wires-at-start-sized =
+  wires-fresh-sized : Sized-wires c (wires-fresh c)
+  unfolding wires-fresh is-dirty pure kind-of-gate
+  wires-fresh-sized =
       refresh-all-sized c _ (record {
         outs =
             each-keeps (λ (vs : List Value). length vs ≡ length (c .outputs)) _ (λ vs g e. length-set vs _ _ ∙ e) _ (gates-of c (λ k. eqb k 5))
@@ -225,6 +272,25 @@ module _ (c : Circuit) where
         queued = length-replicate (length (c .pins)) false;
         stale = λ g e. sym (List·getD-map pure (c .kinds) g 0) ∙ e;
         waiting = omega arith;
+        memory =
+            record {
+              last = length-replicate (length (c .pins)) none;
+              pulses = length-replicate (length (c .outputs)) 0;
+              written = empty;
+              passed = length-replicate (length (c .kinds)) false;
+            };
+      })
+
+  wires-at-start-sized : Sized-wires c (wires-at-start c)
+  unfolding wires-at-start unions-passed≔ written≔ pulses≔ last≔
+  wires-at-start-sized =
+      let z = wires-fresh-sized in
+      let m = z .memory in
+      memory-sized z (record {
+        last = length-map (from 0 (length (c .pins))) _ ∙ from-length 0 (length (c .pins));
+        pulses = m .pulses;
+        written = m .written;
+        passed = m .passed;
       })
 
   pub start-sized : Sized c (start c)
@@ -232,9 +298,8 @@ module _ (c : Circuit) where
   start-sized =
       record {
         wires = wires-at-start-sized;
-        last = length-map (from 0 (length (c .pins))) _ ∙ from-length 0 (length (c .pins));
-        pulses = length-replicate (length (c .outputs)) 0;
         delays = length-replicate (length (c .kinds)) _;
+        outbox = empty;
       }
 
   -- ---- the opening of a tick
@@ -247,17 +312,18 @@ module _ (c : Circuit) where
   unfolding raised-to
   raised-to-sized p s acts z = map-all (λ (r : Raise State Act Place). Sized c (r .at)) _ (all-of (λ a. z) acts)
 
-  times-sized : (w : Wires) (x y : ℕ) → Sized-wires c w → Sized-wires c (times≔ w x y)
+  times-sized : (w : Wires) (t x y : ℕ) → Sized-wires c w → Sized-wires c (times≔ w t x y)
   unfolding times≔ is-dirty
-  times-sized w x y z = record { outs = z .outs; dirty = z .dirty; queued = z .queued; stale = z .stale; waiting = z .waiting }
+  times-sized w t x y z = record { outs = z .outs; dirty = z .dirty; queued = z .queued; stale = z .stale; waiting = z .waiting; memory = z .memory }
 
   begin-tick-sized : (s : State) (dt : ℕ) → Sized c s → Sized c (begin-tick s dt)
-  unfolding begin-tick
-  begin-tick-sized s dt z = record { wires = times-sized (s .wires) _ _ (z .wires); last = z .last; pulses = z .pulses; delays = z .delays }
+  unfolding begin-tick next-tick times≔
+  begin-tick-sized s dt z =
+      outbox-sized [] empty (wires-sized z (passed-sized _ (length-map (s .wires .unions-passed) _) (times-sized (s .wires) _ _ _ (z .wires))))
 
-  lower-sized : (s : State) (o : ℕ) → Sized c s → Sized c (lower c s o)
+  lower-sized : (w : Wires) (o : ℕ) → Sized-wires c w → Sized-wires c (lower c w o)
   unfolding lower
-  lower-sized s o z = if-both (Sized c) _ (set-output-sized o _ (pulses-sized o 0 z)) z
+  lower-sized w o z = if-both (Sized-wires c) _ (set-out-sized c _ o _ (pulses-sized o 0 z)) z
 
   advanced-sized :
       (z : Opened) (s : State) (place : Place) (g p : ℕ) (m : Moved) → Raises-sized (z .raises) → Sized c s → Opened-sized (advanced c z s place g p m)
@@ -282,29 +348,29 @@ module _ (c : Circuit) where
   advance-timer-sized z g y = advanced-sized z _ _ g _ _ (y .raises) (readied-sized g 3 1 (y .state))
 
   -- a time source is a pure gate
-  time-pure : (k : ℕ) → (eqb k 3 || eqb k 4) ≡ true → pure k ≡ true
-  unfolding pure
+  time-pure : (k : ℕ) → time-source k ≡ true → pure k ≡ true
+  unfolding pure time-source
   time-pure k h = go (eqb k 3) refl h
     where
       go : (b : Bool) → eqb k 3 ≡ b → (b || eqb k 4) ≡ true → (leb 1 k && leb k 4) ≡ true
       go true e h = rw (eqb-true k 3 e)
       go false e h = rw (eqb-true k 4 h)
 
-  invalidate-sized : (w : Wires) (g : ℕ) → (eqb (kind-of-gate c g) 3 || eqb (kind-of-gate c g) 4) ≡ true → Sized-wires c w → Sized-wires c (invalidate c w g)
+  invalidate-sized : (w : Wires) (g : ℕ) → time-source (kind-of-gate c g) ≡ true → Sized-wires c w → Sized-wires c (invalidate c w g)
   unfolding invalidate
   invalidate-sized w g e z = mark-readers-sized c _ _ (soil-sized c w g (time-pure (kind-of-gate c g) e) z)
 
-  pub open-tick-sized : (s : State) (given : Given) → Sized c s → Opened-sized (open-tick c s given)
-  unfolding open-tick gates-of
-  open-tick-sized s given z =
+  pub open-tick-sized : Laid c → (s : State) (given : Given) → Sized c s → Opened-sized (open-tick c s given)
+  unfolding open-tick
+  open-tick-sized laid s given z =
       let z₁ = begin-tick-sized s (given .dt) z in
       let came = all-append (raised-to-sized to-delivered _ _ z₁) (raised-to-sized to-late _ (given .stimuli) z₁) in
-      let z₂ = each-keeps (Sized c) (lower c) lower-sized _ (from 0 (length (c .outputs))) z₁ in
-      let b = each-keeps Opened-sized (advance-buffer c _) (advance-buffer-sized _) _ (gates c) (record { state = z₂; raises = came }) in
-      let k = each-keeps Opened-sized (advance-clock c) advance-clock-sized _ (gates-of c (λ k. eqb k 14)) b in
-      let t = each-keeps Opened-sized (advance-timer c) advance-timer-sized _ (gates-of c (λ k. eqb k 15)) k in
-      let times : ℕ → Bool = λ g. eqb (kind-of-gate c g) 3 || eqb (kind-of-gate c g) 4 in
-      let w = each-keeps-all (Sized-wires c) times (invalidate c) invalidate-sized _ _ (all-keep times (gates c)) (t .state .wires) in
+      let z₂ = wires-sized z₁ (each-keeps (Sized-wires c) (lower c) lower-sized _ (from 0 (length (c .outputs))) (z₁ .wires)) in
+      let b = each-keeps Opened-sized (advance-buffer c _) (advance-buffer-sized _) _ (c .buffers) (record { state = z₂; raises = came }) in
+      let k = each-keeps Opened-sized (advance-clock c) advance-clock-sized _ (c .clocks) b in
+      let t = each-keeps Opened-sized (advance-timer c) advance-timer-sized _ (c .stopwatches) k in
+      let times : ℕ → Bool = λ g. time-source (kind-of-gate c g) in
+      let w = each-keeps-all (Sized-wires c) times (invalidate c) invalidate-sized _ _ (laid .times) (t .state .wires) in
       let x = settle-sized _ (wires-sized (t .state) w) in
       record { state = x .state; raises = all-append (t .raises) (map-all (λ (r : Raise State Act Place). Sized c (r .at)) _ (x .raises)) }
 

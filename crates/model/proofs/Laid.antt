@@ -10,10 +10,10 @@ use lib.ListN.{length, getD, replicate, length-take, length-drop, length-append,
 use lib.Seq.{getD-append-add}
 use borrow.Author.Tests.{eqb-true}
 use Rattle.model.specs.Base.{all, joined, both, from, sum, starts, owners}
-use Rattle.model.specs.Kinds.{kind-at}
+use Rattle.model.specs.Kinds.{kind-at, time-source}
 use Rattle.model.specs.Questions.{within, question-1, question-3}
-use Rattle.model.specs.Circuit.{Circuit, circuit, part, word-at, source-of, is-watched, kind-of-gate, input, output, gate-at-input, gate-at-output}
-use Rattle.model.proofs.Lists.{both-true, from-length}
+use Rattle.model.specs.Circuit.{Circuit, circuit, part, word-at, source-of, is-watched, kind-of-gate, input, output, gate-at-input, gate-at-output, gates-such}
+use Rattle.model.proofs.Lists.{both-true, all-keep, from-length}
 
 -- ---- parts in a row
 
@@ -93,13 +93,15 @@ pub record Laid (c : Circuit) : Type 0 where
   -- output p likewise
   pub output-in : (g p : ℕ) → p < length (kind-at (kind-of-gate c g) .outs) → output c g p < length (c .outputs)
   pub output-of : (g p : ℕ) → p < length (kind-at (kind-of-gate c g) .outs) → gate-at-output c (output c g p) ≡ g
+  -- the time sources are DeltaTime and ServerUptime gates
+  pub times : all (λ g. time-source (kind-of-gate c g)) (c .time-sources) ≡ true
 
 no-kind : (length (kind-at 0 .ins) ≡ 0) × (length (kind-at 0 .outs) ≡ 0)
 unfolding kind-at
 no-kind = (refl, refl)
 
 pub laid : (ws : List ℕ) → Laid (circuit ws)
-unfolding circuit kind-of-gate input output gate-at-input gate-at-output
+unfolding circuit kind-of-gate input output gate-at-input gate-at-output gates-such
 laid ws =
     let ks = circuit ws .kinds in
     let is : ℕ → ℕ = λ k. length (kind-at k .ins) in
@@ -115,6 +117,7 @@ laid ws =
       input-of = λ g p h. owner-of is (no-kind .0) ks g p h;
       output-in = λ g p h. rw (joined-length (λ k. kind-at k .outs) ks) (place-of os (no-kind .1) ks g p h);
       output-of = λ g p h. owner-of os (no-kind .1) ks g p h;
+      times = all-keep (λ g. time-source (getD ks g 0)) (from 0 (length ks));
     }
 
 -- ---- the inputs, where questions 1 and 3 are answered yes
@@ -150,6 +153,15 @@ inputs-counted : (ws : List ℕ) (c : Circuit) → question-3 ws c ≡ true → 
 unfolding question-3
 inputs-counted ws c q = eqb-true _ _ (both-true (all (within 1 28) (c .kinds) && all (within 0 65535) (c .ranks)) _ q .1)
 
+-- so many gates, and so many inputs, as the sizes say
+pub gates-found : (bytes ws : List ℕ) → question-1 bytes ws ≡ true → length (circuit ws .kinds) ≡ word-at ws 0
+unfolding circuit
+gates-found bytes ws q = let n = words-counted bytes ws q in part-length ws (4 + 2 * word-at ws 1) (word-at ws 0) (omega arith)
+
+pub inputs-found : (ws : List ℕ) → question-3 ws (circuit ws) ≡ true → length (circuit ws .pins) ≡ word-at ws 2
+unfolding circuit
+inputs-found ws r = joined-length (λ k. kind-at k .ins) (circuit ws .kinds) ∙ inputs-counted ws (circuit ws) r
+
 pub filled : (bytes ws : List ℕ) → question-1 bytes ws ≡ true → question-3 ws (circuit ws) ≡ true → Full (circuit ws)
 unfolding circuit
 filled bytes ws q r =
@@ -158,7 +170,7 @@ filled bytes ws q r =
     let I = word-at ws 2 in
     let n = words-counted bytes ws q in
     let s : length (circuit ws .sources) ≡ I = length-map (part ws (4 + 2 * K + 2 * G) I) source-of ∙ part-length ws (4 + 2 * K + 2 * G) I (omega arith) in
-    let p : length (circuit ws .pins) ≡ I = joined-length (λ k. kind-at k .ins) (circuit ws .kinds) ∙ inputs-counted ws (circuit ws) r in
+    let p : length (circuit ws .pins) ≡ I = inputs-found ws r in
     record {
       ranks = part-length ws (4 + 2 * K + G) G (omega arith) ∙ sym (part-length ws (4 + 2 * K) G (omega arith));
       sources = s ∙ sym p;

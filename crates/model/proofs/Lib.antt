@@ -2,6 +2,8 @@
 pub mod Rounds
 -- choices, lists, counting
 pub mod Lists
+-- a list that has each of its members once
+pub mod Once
 -- each gate's inputs and outputs stand in a row: `laid`, `filled`
 pub mod Laid
 -- a call that is not refused: `accepted`
@@ -16,6 +18,8 @@ pub mod Checks
 pub mod Kept
 -- so does every world of a run: `run-sized`
 pub mod Worlds
+-- the tests of room are never met: `few-roomy`
+pub mod Roomy
 -- marking has rounds enough
 pub mod Marking
 -- refreshing has depth enough

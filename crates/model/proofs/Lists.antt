@@ -1,6 +1,6 @@
 -- Laws of choices and lists that the other proofs cite.
 use mathlib.Core.Path.{_≡_, refl, sym, ap, _∙_}
-use mathlib.Core.Bool.{Bool, true, false, not, _&&_, _||_, true≢false}
+use mathlib.Core.Bool.{Bool, true, false, not, _&&_, _||_, true≢false, or-true}
 use mathlib.Core.List.{List, [], _∷_, _++_, map}
 use Prim.Native.Nat.{ℕ, zero, suc, _+_, _≤_, _<_}
 use native.Mathlib.Nat.{add-zero, add-suc, suc-add}
@@ -153,6 +153,14 @@ unfolding from
 map-from f n zero i d h = absurd (omega arith)
 map-from f n (suc k) zero d h = ap f (sym (add-zero n))
 map-from f n (suc k) (suc i) d h = map-from f (suc n) k i d (omega arith) ∙ ap f (suc-add n i ∙ sym (add-suc n i))
+
+pub among-from : (a n p : ℕ) → p < n → among (a + p) (from a n) ≡ true
+unfolding among from
+among-from a zero p l = absurd (omega arith)
+among-from a (suc n) zero l = rw (eq-eqb (a + 0) a (add-zero a))
+among-from a (suc n) (suc p) l =
+    let e : a + suc p ≡ suc a + p = omega arith in
+    rw (e, among-from (suc a) n p (omega arith), or-true)
 
 pub from-length : (n k : ℕ) → length (from n k) ≡ k
 unfolding from

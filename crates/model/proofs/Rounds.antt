@@ -28,6 +28,7 @@ use Rattle.model.proofs.Laid.{Laid, laid, Full, filled}
 use Rattle.model.proofs.Asked.{Accepted, accepted}
 use Rattle.model.proofs.Sized.{Sized-wires, Sized, refresh-sized, mark-readers-sized, set-out-sized}
 use Rattle.model.proofs.Kept.{Settled-sized, Opened-sized, exec-gate-sized, run-chain-sized, publish-writes-sized, settle-sized, start-sized, open-tick-sized, read-outputs-sized}
+use Rattle.model.proofs.Roomy.{Roomy, few, few-roomy}
 use Rattle.model.proofs.Worlds.{finish-chain-sized, run-sized}
 use Rattle.model.proofs.Marking.{marking-never-runs-out}
 use Rattle.model.proofs.Placing.{Ordered, ordered, order-suffices}
@@ -87,6 +88,12 @@ pub bounds-suffice :
     (areas : Option Areas) (circuit-bytes script-bytes : List ℕ) → refusal areas circuit-bytes script-bytes ≡ 0 → Bounds-suffice (circuit (words circuit-bytes))
 bounds-suffice areas cb sb h = circuit-suffices (circuit (words cb)) (laid (words cb)) (accepted areas cb sb h .order)
 
+-- ---- room (Once, Roomy): the tests of room in `watch`, `record-write` and `exec-SendEvent` are never met
+
+pub roomy :
+    (areas : Option Areas) (circuit-bytes script-bytes : List ℕ) → refusal areas circuit-bytes script-bytes ≡ 0 → Roomy (circuit (words circuit-bytes))
+roomy areas cb sb h = let a = accepted areas cb sb h in few-roomy (circuit (words cb)) (few cb (words cb) (a .sizes) (a .gates))
+
 module _ (c : Circuit) where
   -- ---- chains (Chains): without a stop, all calls are made
 
@@ -119,14 +126,14 @@ module _ (c : Circuit) where
   pub run-chain-keeps : (left : ℕ) (q : Calls) (s : State) → Sized c s → Sized c (run-chain c left q s .state)
   run-chain-keeps = run-chain-sized c
 
-  pub publish-writes-keeps : (s : State) → Sized c s → Sized c (publish-writes c s)
+  pub publish-writes-keeps : (w : Wires) → Sized-wires c w → Sized-wires c (publish-writes c w)
   publish-writes-keeps = publish-writes-sized c
 
   -- with the states in which it raises
   pub settle-keeps : (s : State) → Sized c s → Settled-sized c (settle c s)
   settle-keeps = settle-sized c
 
-  pub open-tick-keeps : (s : State) (given : Given) → Sized c s → Opened-sized c (open-tick c s given)
+  pub open-tick-keeps : Laid c → (s : State) (given : Given) → Sized c s → Opened-sized c (open-tick c s given)
   open-tick-keeps = open-tick-sized c
 
   pub finish-chain-keeps : (w : World) (r : Chained) → Sized c (r .state) → Did-keep (λ v. Sized c (v .state)) (finish-chain c w r)
@@ -136,5 +143,5 @@ module _ (c : Circuit) where
   read-outputs-keeps = read-outputs-sized c
 
   -- wherever a unit begins and after each tick, of any script, whatever the steps that a tick may make and the room of the log
-  pub run-has : (limit room : ℕ) (given : List Given) → All (Tick-keeps (plain (machine c limit)) (λ w. Sized c (w .state))) (ticks-of c limit room given)
-  run-has = run-sized c
+  pub run-has : Laid c → (limit room : ℕ) (given : List Given) → All (Tick-keeps (plain (machine c limit)) (λ w. Sized c (w .state))) (ticks-of c limit room given)
+  run-has laid limit = run-sized c limit laid

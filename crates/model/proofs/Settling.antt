@@ -2,6 +2,7 @@
 use mathlib.Core.Path.{_≡_, refl, sym, ap, _∙_}
 use mathlib.Core.Bool.{Bool, true, false, not, _&&_}
 use mathlib.Core.List.{List, [], _∷_, _++_}
+use mathlib.Core.Option.{Option}
 use Prim.Native.Nat.{ℕ, zero, suc, _+_, _*_, _≤_, _<_}
 use native.Mathlib.Nat.{zero-add, mul-suc, mul-le-mul-left}
 use native.Mathlib.Omega.{arith}
@@ -11,12 +12,13 @@ use Rattle.model.specs.declared.Value.the-variants.{Nothing, Bool as Tru
 use Rattle.model.specs.Value.{bit, same}
 use Rattle.model.specs.Kinds.{kind-at, pure}
 use Rattle.model.specs.Circuit.{Circuit, kind-of-gate, output, gate-at-input, gate-at-output}
-use Rattle.model.specs.State.{Wires, State, outs≔, dirty≔, to-check≔, wires≔, last≔, pulses≔, delays≔}
+use Rattle.model.specs.State.{Wires, State, outs≔, dirty≔, to-check≔, last≔, pulses≔, wires≔, delays≔}
 use Rattle.model.specs.Wires.{shown, show, soil, clean, watch, compute, recompute, ready, refresh-all, mark-readers, set-out}
-use Rattle.model.specs.Exec.{delay≔, set-output}
+use Rattle.model.specs.Exec.{delay≔}
 use Rattle.model.specs.Settle.{Settled, calm, raise, pulse, detect, compared, check, check-on, settle}
 use Rattle.model.proofs.Lists.{if-both, if-by, count, count-most, count-set, steady}
 use Rattle.model.proofs.Laid.{Laid}
+use Rattle.model.proofs.Kept.{last-sized, pulses-sized}
 use Rattle.model.proofs.Checks.{pulses-up, pure-kind, detect-keeps}
 use Rattle.model.proofs.Sized.{taken-sized, Sized-wires, marks, show-sized, recompute-sized, ready-keeps, refresh-all-sized, mark-readers-keeps, mark-readers-sized}
 
@@ -96,6 +98,15 @@ module _ (c : Circuit) where
               (omega (arith, z .few, waiting-most _ y, mul-suc (suc I) (down (set (w .outs) o (Truth true))), ap (λ k. suc I * k) r));
         }
 
+    -- what is remembered takes no rounds
+    raised-within : {w : Wires} (o : ℕ) → Within n w → Within n (pulses≔ w (set (w .pulses) o (w .tick)))
+    unfolding pulses≔ rounds
+    raised-within {w} o z = record { sized = pulses-sized c o _ (z .sized); few = z .few }
+
+    noted-within : {w : Wires} (i : ℕ) (v : Option Value) → Within n w → Within n (last≔ w (set (w .last) i v))
+    unfolding last≔ rounds
+    noted-within {w} i v z = record { sized = last-sized c i v (z .sized); few = z .few }
+
     -- an output of kind 7 or 8 is such a one
     detector :
         (g o k : ℕ) → kind-of-gate c g ≡ k → pulses-up k ≡ true → o < length (kind-at k .outs) →
@@ -106,10 +117,10 @@ module _ (c : Circuit) where
         (rw (laid .output-of g o m, e) u, laid .output-in g o m)
 
     pulse-within :
-        (s : State) (g o k : ℕ) → kind-of-gate c g ≡ k → pulses-up k ≡ true → o < length (kind-at k .outs) →
-        Within n (s .wires) → Within n (pulse c s (output c g o) .wires)
-    unfolding pulse set-output pulses≔ wires≔
-    pulse-within s g o k e u l z = let d = detector g o k e u l in up-within (s .wires) (output c g o) (d .0) (d .1) z
+        (w : Wires) (g o k : ℕ) → kind-of-gate c g ≡ k → pulses-up k ≡ true → o < length (kind-at k .outs) →
+        Within n w → Within n (pulse c w (output c g o))
+    unfolding pulse
+    pulse-within w g o k e u l z = let d = detector g o k e u l in raised-within (output c g o) (up-within w (output c g o) (d .0) (d .1) z)
 
     -- ---- one check
 
@@ -117,12 +128,12 @@ module _ (c : Circuit) where
     Fine z = Within n (z .state .wires)
 
     detect-within : (s : State) (g p : ℕ) (was now : Value) → Within n (s .wires) → Fine (detect c (kind-of-gate c g) s g p was now)
-    unfolding calm raise delay≔ delays≔
-    detect-within s g p was now z = detect-keeps c Fine s g z (λ _. z) (λ o k e u l. pulse-within s g o k e u l z) (λ _. z) p was now
+    unfolding calm raise delay≔ delays≔ wires≔
+    detect-within s g p was now z = detect-keeps c Fine s g z (λ _. z) (λ o k e u l. pulse-within (s .wires) g o k e u l z) (λ _. z) p was now
 
     check-within : (s : State) (i : ℕ) → Within n (s .wires) → Fine (check c s i)
-    unfolding check compared wires≔ last≔ calm
-    check-within s i z = let y = ready-within (s .wires) i z in if-both Fine _ y (detect-within _ (gate-at-input c i) _ _ _ y)
+    unfolding check compared wires≔ calm
+    check-within s i z = let y = noted-within i _ (ready-within (s .wires) i z) in if-both Fine _ y (detect-within _ (gate-at-input c i) _ _ _ y)
 
   -- ---- the rounds
 

@@ -1,11 +1,12 @@
--- What holds of every state: its lists have the circuit's lengths, only pure gates are stale, and no more inputs wait than are marked. Here for the wires.
+-- What holds of every state: its lists have the circuit's lengths, only pure gates are stale, no more inputs wait than are marked, each Var written and each
+-- event's gate is listed once. Here for the wires.
 use mathlib.Core.Path.{_≡_, refl, sym, ap, _∙_}
-use mathlib.Core.Bool.{Bool, true, false, true≢false}
-use mathlib.Core.List.{List, [], _∷_}
+use mathlib.Core.Bool.{Bool, true, false, _||_, true≢false}
+use mathlib.Core.List.{List, [], _∷_, map}
 use mathlib.Core.Option.{Option, none, some}
 use Prim.Native.Nat.{ℕ, zero, suc, _≤_}
 use native.Mathlib.Omega.{arith}
-use lib.Dec.{ltb}
+use lib.Dec.{leb, ltb}
 use lib.ListN.{length, getD, set, length-set}
 use lib.Seq.{set-out as set-past}
 use borrow.Author.Tests.{ltb-true, ltb-false}
@@ -13,14 +14,24 @@ use Rattle.model.specs.declared.Value.{Value}
 use Rattle.model.specs.Base.{each}
 use Rattle.model.specs.Value.{bit}
 use Rattle.model.specs.Kinds.{pure}
-use Rattle.model.specs.Circuit.{Circuit, kind-of-gate, inputs-of, gate-at-input, source, gate-at-output, readers-of, gates}
-use Rattle.model.specs.State.{Wires, State, outs≔, dirty≔, to-check≔}
+use Rattle.model.specs.Circuit.{Circuit, most-inputs, kind-of-gate, inputs-of, gate-at-input, source, gate-at-output, readers-of, gates}
+use Rattle.model.specs.State.{Wires, Send, State, outs≔, dirty≔, to-check≔}
 use Rattle.model.specs.Wires.{show, is-dirty, soil, clean, watch, Marking, behind, recompute, refresh-to, refresh, refresh-all, ready, mark-reader, mark-on, mark-readers, set-out, set-outs}
+use Rattle.model.specs.Exec.{var}
+use Rattle.model.proofs.Once.{Once, either-false}
 use Rattle.model.proofs.Lists.{if-both, if-by, each-keeps, bit-most, count, count-set, in-range, set-marked, snoc-length}
 
 -- the marks of a list
 unfoldable pub marks : List Bool → ℕ
 marks bs = count (λ _ b. b) 0 bs
+
+-- what is remembered of the wires
+pub record Sized-memory (c : Circuit) (ls : List (Option Value)) (ps vs : List ℕ) (us : List Bool) : Type 0 where
+  pub last : length ls ≡ length (c .pins)
+  pub pulses : length ps ≡ length (c .outputs)
+  -- the Vars written, each once, are some that settings name
+  pub written : Once (map (var c) (gates c)) vs
+  pub passed : length us ≡ length (c .kinds)
 
 pub record Sized-wires (c : Circuit) (w : Wires) : Type 0 where
   pub outs : length (w .outs) ≡ length (c .outputs)
@@ -30,17 +41,18 @@ pub record Sized-wires (c : Circuit) (w : Wires) : Type 0 where
   pub stale : (g : ℕ) → is-dirty w g ≡ true → pure (kind-of-gate c g) ≡ true
   -- each input that waits is marked
   pub waiting : length (w .to-check) ≤ marks (w .queued)
+  pub memory : Sized-memory c (w .last) (w .pulses) (w .written) (w .unions-passed)
 
 -- and so of the whole state
 pub record Sized (c : Circuit) (s : State) : Type 0 where
   pub wires : Sized-wires c (s .wires)
-  pub last : length (s .last) ≡ length (c .pins)
-  pub pulses : length (s .pulses) ≡ length (c .outputs)
   pub delays : length (s .delays) ≡ length (c .kinds)
+  -- the gates that sent, each once
+  pub outbox : Once (gates c) (map (λ (m : Send). m .gate) (s .outbox))
 
 -- ---- the marks of what waits
 
-mark-more : (bs : List Bool) (i : ℕ) → getD bs i true ≡ false → marks (set bs i true) ≡ suc (marks bs)
+pub mark-more : (bs : List Bool) (i : ℕ) → getD bs i true ≡ false → marks (set bs i true) ≡ suc (marks bs)
 unfolding marks bit
 mark-more bs i e = omega (arith, rw e at (count-set (λ _ b. b) 0 bs i true true (in-range true bs i e)))
 
@@ -57,7 +69,7 @@ module _ (c : Circuit) where
 
   pub show-sized : (w : Wires) (o : ℕ) (v : Value) → Sized-wires c w → Sized-wires c (show w o v)
   unfolding show outs≔ is-dirty
-  show-sized w o v z = record { outs = length-set (w .outs) o v ∙ z .outs; dirty = z .dirty; queued = z .queued; stale = z .stale; waiting = z .waiting }
+  show-sized w o v z = record { outs = length-set (w .outs) o v ∙ z .outs; dirty = z .dirty; queued = z .queued; stale = z .stale; waiting = z .waiting; memory = z .memory }
 
   pub soil-sized : (w : Wires) (g : ℕ) → pure (kind-of-gate c g) ≡ true → Sized-wires c w → Sized-wires c (soil w g)
   unfolding soil dirty≔ is-dirty
@@ -68,6 +80,7 @@ module _ (c : Circuit) where
         queued = z .queued;
         stale = set-marked (λ h. pure (kind-of-gate c h) ≡ true) (w .dirty) g true (λ _. p) (z .stale);
         waiting = z .waiting;
+        memory = z .memory;
       }
 
   pub clean-sized : (w : Wires) (g : ℕ) → Sized-wires c w → Sized-wires c (clean w g)
@@ -79,18 +92,21 @@ module _ (c : Circuit) where
         queued = z .queued;
         stale = set-marked (λ h. pure (kind-of-gate c h) ≡ true) (w .dirty) g false (λ e. absurd (true≢false (sym e))) (z .stale);
         waiting = z .waiting;
+        memory = z .memory;
       }
 
   pub watch-sized : (w : Wires) (i : ℕ) → Sized-wires c w → Sized-wires c (watch w i)
   unfolding watch to-check≔ is-dirty
   watch-sized w i z =
-      if-by (Sized-wires c) (getD (w .queued) i true) (λ _. z) λ e.
+      if-by (Sized-wires c) (getD (w .queued) i true || leb most-inputs (length (w .to-check))) (λ _. z) λ h.
+      let e = either-false (getD (w .queued) i true) _ h .0 in
       record {
         outs = z .outs;
         dirty = z .dirty;
         queued = length-set (w .queued) i true ∙ z .queued;
         stale = z .stale;
         waiting = omega (arith, z .waiting, snoc-length (w .to-check) i, mark-more (w .queued) i e);
+        memory = z .memory;
       }
 
   -- the first that waits is taken
@@ -103,6 +119,7 @@ module _ (c : Circuit) where
         queued = length-set (w .queued) i false ∙ z .queued;
         stale = z .stale;
         waiting = omega (arith, z .waiting, ap length e, marks-fewer (w .queued) i);
+        memory = z .memory;
       }
 
   pub recompute-sized : (w : Wires) (g : ℕ) → Sized-wires c w → Sized-wires c (recompute c w g)

@@ -23,7 +23,7 @@ use Rattle.model.specs.Circuit.{Circuit, kind-of-gate, input, output, in
 use Rattle.model.specs.State.{Wires, outs≔, dirty≔}
 use Rattle.model.specs.Wires.{shown, show, is-dirty, clean, look, compute, recompute, behind, refresh-to, refresh, refresh-all}
 use Rattle.model.specs.Questions.{question-6}
-use Rattle.model.proofs.Lists.{in-range}
+use Rattle.model.proofs.Lists.{among-from, in-range}
 use Rattle.model.proofs.Laid.{Laid}
 use Rattle.model.proofs.Checks.{pure-kind}
 use Rattle.model.proofs.Sized.{Sized-wires, recompute-sized, refresh-all-sized}
@@ -47,14 +47,6 @@ marked-still (b ∷ bs) zero zero e = absurd (true≢false (sym e))
 marked-still (b ∷ bs) zero (suc j) e = (λ q. omega arith, e)
 marked-still (b ∷ bs) (suc i) zero e = (λ q. omega arith, e)
 marked-still (b ∷ bs) (suc i) (suc j) e = let r = marked-still bs i j e in (λ q. r .0 (omega arith), r .1)
-
-among-from : (a n p : ℕ) → p < n → among (a + p) (from a n) ≡ true
-unfolding among from
-among-from a zero p l = absurd (omega arith)
-among-from a (suc n) zero l = rw (eq-eqb (a + 0) a (add-zero a))
-among-from a (suc n) (suc p) l =
-    let e : a + suc p ≡ suc a + p = omega arith in
-    rw (e, among-from (suc a) n p (omega arith), or-true)
 
 -- ---- a step
 
@@ -128,7 +120,7 @@ module _ (c : Circuit) where
         let outs : set (set (w .outs) a (compute c w g)) b (compute c (recompute c w g) h) ≡ set (set (w .outs) b (compute c w h)) a (compute c (recompute c w h) g) =
         rw (other-compute w g h d k, other-compute w h g k d) (set-comm (w .outs) a b (compute c w g) (compute c w h) apart) in
         let dirty = set-comm (w .dirty) g h false false n in
-        λ j. record { outs = outs j; dirty = dirty j; to-check = w .to-check; queued = w .queued; dt = w .dt; uptime = w .uptime }
+        λ j. dirty≔ (outs≔ w (outs j)) (dirty j)
 
   module _ (order : Heights c) where
     -- ---- a row of steps, at gates lower than m

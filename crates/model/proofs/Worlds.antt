@@ -13,8 +13,9 @@ use Rattle.model.specs.Unit.{World, state≔, raises-in, finish-chain}
 use Rattle.model.specs.Record.{write, close}
 use Rattle.model.specs.Run.{opening, body, closing, machine, world-at-start, ticks-of}
 use Rattle.model.proofs.Lists.{if-both, map-all}
+use Rattle.model.proofs.Laid.{Laid}
 use Rattle.model.proofs.Sized.{Sized}
-use Rattle.model.proofs.Kept.{Raises-sized, settle-sized, publish-writes-sized, start-sized, open-tick-sized, run-unit-sized, read-outputs-sized}
+use Rattle.model.proofs.Kept.{wires-sized, Raises-sized, settle-sized, publish-writes-sized, start-sized, open-tick-sized, run-unit-sized, read-outputs-sized}
 
 module _ (c : Circuit) where
   abbrev pub World-sized : World → Type 0
@@ -28,13 +29,13 @@ module _ (c : Circuit) where
   pub finish-chain-sized : (w : World) (r : Chained) → Sized c (r .state) → Did-keep World-sized (finish-chain c w r)
   unfolding finish-chain state≔
   finish-chain-sized w r z =
-      let y = settle-sized c _ (publish-writes-sized c (r .state) z) in
+      let y = settle-sized c _ (wires-sized c z (publish-writes-sized c (r .state .wires) (z .wires))) in
       if-both (Did-keep World-sized) _ (record { world = y .state; raises = raises-in-sized w (r .left) _ (y .raises) }) (record { world = z; raises = [·] })
 
   module _ (limit : ℕ) where
-    opening-sized : (w : World) (given : Given) → World-sized w → Did-keep World-sized (opening c limit w given)
+    opening-sized : Laid c → (w : World) (given : Given) → World-sized w → Did-keep World-sized (opening c limit w given)
     unfolding opening state≔
-    opening-sized w given z = let y = open-tick-sized c (w .state) given z in record { world = y .state; raises = raises-in-sized w limit _ (y .raises) }
+    opening-sized laid w given z = let y = open-tick-sized c laid (w .state) given z in record { world = y .state; raises = raises-in-sized w limit _ (y .raises) }
 
     body-sized : (w : World) (a : Act) → World-sized w → Did-keep World-sized (body c limit w a)
     unfolding body
@@ -47,6 +48,6 @@ module _ (c : Circuit) where
         if-both (λ (k : Closed World). World-sized (k .world)) _ y y
 
     -- in every world of a run, of any script and with a log of any size
-    pub run-sized : (room : ℕ) (given : List Given) → All (Tick-keeps (plain (machine c limit)) World-sized) (ticks-of c limit room given)
+    pub run-sized : Laid c → (room : ℕ) (given : List Given) → All (Tick-keeps (plain (machine c limit)) World-sized) (ticks-of c limit room given)
     unfolding ticks-of world-at-start
-    run-sized room given = run-keeps (plain (machine c limit)) World-sized opening-sized body-sized closing-sized given _ (start-sized c)
+    run-sized laid room given = run-keeps (plain (machine c limit)) World-sized (opening-sized laid) body-sized closing-sized given _ (start-sized c)

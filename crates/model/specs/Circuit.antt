@@ -9,7 +9,15 @@ use Rattle.model.specs.declared.Value.{Value}
 use Rattle.model.specs.declared.Value.the-variants.{Nothing}
 use Rattle.model.specs.Base.{if_then_else_, keep, joined, both, from, starts, owners}
 use Rattle.model.specs.Value.{value-of}
-use Rattle.model.specs.Kinds.{In, never, if-driven, always, Out, kind-at}
+use Rattle.model.specs.Kinds.{In, never, if-driven, always, Out, kind-at, time-source, buffering, receiving}
+
+-- the gates that a circuit has at the most
+abbrev pub most-gates : ℕ
+most-gates = 64
+
+-- and the inputs
+abbrev pub most-inputs : ℕ
+most-inputs = 640
 
 -- a call from an output: to an input, at once or remote, which waits for the chain's end
 pub record Call : Type 0 where
@@ -36,6 +44,12 @@ pub record Circuit : Type 0 where
   pub gate-of-output : List ℕ
   pub readers : List (List ℕ)
   pub calls : List (List Call)
+  -- the gates of some kinds, ascending: time sources, buffers and Queues, Clocks, Stopwatches, receivers of events
+  pub time-sources : List ℕ
+  pub buffers : List ℕ
+  pub clocks : List ℕ
+  pub stopwatches : List ℕ
+  pub receivers : List ℕ
 
 -- ---- from words
 
@@ -81,6 +95,10 @@ listed-call o t = record { out = o; call = record { to = t / 2; remote = eqb (t 
 unfoldable pub calls-from : ℕ → List Listed → List Call
 calls-from o ls = map (λ l. l .call) (keep (λ l. eqb (l .out) o) ls)
 
+-- the gates whose kind passes the test, ascending
+unfoldable pub gates-such : (ℕ → Bool) → List ℕ → List ℕ
+gates-such p kinds = keep (λ g. p (getD kinds g 0)) (from 0 (length kinds))
+
 -- Sizes G K I C, then pairs of parallel arrays: constants, gates, inputs, calls.
 unfoldable pub circuit : List ℕ → Circuit
 circuit ws =
@@ -114,6 +132,11 @@ circuit ws =
       gate-of-output = owners 0 out-counts;
       readers = map (λ o. keep (reads o sources) (from 0 I)) (from 0 (length outputs));
       calls = map (λ o. calls-from o listed) (from 0 (length outputs));
+      time-sources = gates-such time-source kinds;
+      buffers = gates-such buffering kinds;
+      clocks = gates-such (λ k. eqb k 14) kinds;
+      stopwatches = gates-such (λ k. eqb k 15) kinds;
+      receivers = gates-such receiving kinds;
     }
 
 -- ---- looking things up
@@ -177,8 +200,8 @@ module _ (c : Circuit) where
 
   -- those whose kind passes the test, ascending
   unfoldable pub gates-of : (ℕ → Bool) → List ℕ
-  gates-of p = keep (λ g. p (kind-of-gate g)) gates
+  gates-of p = gates-such p (c .kinds)
 
   unfoldable pub circuit-opened : ℕ
-  unfolding part word-at source-of has-source is-watched reads listed-call calls-from circuit kind-of-gate rank-of-gate input output inputs-of gate-at-input source stored-in setting gate-at-output readers-of calls-of watching gates gates-of
+  unfolding part word-at source-of has-source is-watched reads listed-call calls-from gates-such circuit kind-of-gate rank-of-gate input output inputs-of gate-at-input source stored-in setting gate-at-output readers-of calls-of watching gates gates-of
   circuit-opened = 0

@@ -10,8 +10,8 @@ use Rattle.model.specs.declared.Value.{Value}
 use Rattle.model.specs.declared.Value.the-variants.{Int, Float, Bool as Truth}
 use Rattle.model.specs.Base.{if_then_else_, each, snoc, among, from}
 use Rattle.model.specs.Value.{truthy, as-int, as-float}
-use Rattle.model.specs.Circuit.{Circuit, kind-of-gate, input, output, gate-at-input, setting}
-use Rattle.model.specs.State.{Countdown, Delay, idle, fires≔, State, wires≔, delays≔, written≔, unions-passed≔, outbox≔}
+use Rattle.model.specs.Circuit.{Circuit, most-gates, kind-of-gate, input, output, gate-at-input, setting}
+use Rattle.model.specs.State.{Wires, Countdown, Delay, idle, fires≔, State, written≔, unions-passed≔, wires≔, delays≔, outbox≔}
 use Rattle.model.specs.Wires.{shown, show, look, ready, set-out}
 use Rattle.model.specs.Delays.{nat, in-ticks, in-seconds, countdown-ticks, countdown-seconds, queue-record, pressed}
 
@@ -104,15 +104,16 @@ module _ (c : Circuit) where
   unfoldable pub exec-VarGet : State → ℕ → Stepped
   exec-VarGet s g = fires-next (set-output s (output c g 1) (shown (s .wires) (var g))) (output c g 0)
 
-  -- a Var written, once; what reads it is marked when its write is published
-  unfoldable pub record-write : State → ℕ → State
-  record-write s o = if among o (s .written) then s else written≔ s (snoc (s .written) o)
+  -- A Var written, once; what reads it is marked when its write is published. A circuit has at most 64 gates, so a unit writes as many Vars at the most: that
+  -- test is never met (`roomy`).
+  unfoldable pub record-write : Wires → ℕ → Wires
+  record-write w o = if among o (w .written) || leb most-gates (length (w .written)) then w else written≔ w (snoc (w .written) o)
 
   -- Value, as it reads, to the Var, with no conversion; direct readers see it at once
   unfoldable pub exec-VarSet : State → ℕ → Stepped
   exec-VarSet s₀ g =
       let s = readied s₀ g 2 1 in
-      fires-next (record-write (wires≔ s (show (s .wires) (var g) (read s g 2))) (var g)) (output c g 0)
+      fires-next (wires≔ s (record-write (show (s .wires) (var g) (read s g 2)) (var g))) (output c g 0)
 
   -- a condition that is true to ExecOutA, else to ExecOutB
   unfoldable pub exec-Branch : State → ℕ → Stepped
@@ -120,7 +121,9 @@ module _ (c : Circuit) where
 
   -- a Union passes once a tick
   unfoldable pub exec-Union : State → ℕ → Stepped
-  exec-Union s g = if among g (s .unions-passed) then ends s else fires-next (unions-passed≔ s (g ∷ s .unions-passed)) (output c g 0)
+  exec-Union s g =
+      if getD (s .wires .unions-passed) g false then ends s
+      else fires-next (wires≔ s (unions-passed≔ (s .wires) (set (s .wires .unions-passed) g true))) (output c g 0)
 
   -- what is true becomes false, anything else true
   unfoldable pub exec-Toggle : State → ℕ → Stepped
@@ -133,12 +136,13 @@ module _ (c : Circuit) where
       let now = as-int (pos 0) (shown (s .wires) (output c g 2)) in
       fires-next (set-output s (output c g 2) (Int (cycle-next (eqb p 1) (as-int (pos 0) (read s g 2)) now))) (output c g p)
 
-  -- the eight values are read, also for a second send of the gate in this tick, which is ignored
+  -- The eight values are read, also for a second send of the gate in this tick, which is ignored. So at most 64 events are sent in a tick, one by each gate:
+  -- the other test is never met (`roomy`).
   unfoldable pub exec-SendEvent : State → ℕ → Stepped
   exec-SendEvent s₀ g =
       let s = readied s₀ g 2 8 in
       fires-next
-      (if among g (map (λ m. m .gate) (s .outbox)) then s else outbox≔ s (snoc (s .outbox) (record { gate = g; row = read-row s g 2 8 })))
+      (if among g (map (λ m. m .gate) (s .outbox)) || leb most-gates (length (s .outbox)) then s else outbox≔ s (snoc (s .outbox) (record { gate = g; row = read-row s g 2 8 })))
       (output c g 0)
 
   -- by the kind k of gate g

@@ -1,8 +1,8 @@
 -- The 28 kinds of gates: what each input and each output is.
 use Prim.Native.Nat.{ℕ, zero, suc}
-use mathlib.Core.Bool.{Bool, true, false, _&&_}
+use mathlib.Core.Bool.{Bool, true, false, _&&_, _||_}
 use mathlib.Core.List.{List, [], _∷_}
-use lib.Dec.{leb}
+use lib.Dec.{leb, eqb}
 use lib.ListN.{getD, replicate}
 
 -- what the constant of a setting has to be
@@ -100,6 +100,18 @@ kind-at (suc k) = getD table k (record { ins = []; outs = [] })
 unfoldable pub pure : ℕ → Bool
 pure k = leb 1 k && leb k 4
 
+-- DeltaTime and ServerUptime are the time sources
+unfoldable pub time-source : ℕ → Bool
+time-source k = eqb k 3 || eqb k 4
+
+-- buffers and Queues
+unfoldable pub buffering : ℕ → Bool
+buffering k = (leb 10 k && leb k 13) || (leb 16 k && leb k 17)
+
+-- EventCustom, local and global, receives events
+unfoldable pub receiving : ℕ → Bool
+receiving k = eqb k 26 || eqb k 27
+
 unfoldable pub kinds-opened : ℕ
-unfolding exec exec-only value watched route set-to kind table kind-at pure
+unfolding exec exec-only value watched route set-to kind table kind-at pure time-source buffering receiving
 kinds-opened = 0

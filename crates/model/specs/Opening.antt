@@ -13,40 +13,40 @@ use Rattle.model.specs.Value.{truthy, as-float, same, narrow, plus64, on
 use Rattle.model.specs.Kinds.{pure}
 use Rattle.model.specs.Circuit.{Circuit, kind-of-gate, output, setting, watching, gates, gates-of}
 use Rattle.model.specs.Script.{Given}
-use Rattle.model.specs.State.{Wires, idle, Act, Send, State, times≔, wires≔, pulses≔}
-use Rattle.model.specs.Wires.{look, invalidate, refresh-all, set-outs}
+use Rattle.model.specs.State.{Wires, idle, Act, Send, State, times≔, last≔, pulses≔, unions-passed≔, wires≔, outbox≔}
+use Rattle.model.specs.Wires.{look, invalidate, refresh-all, set-out, set-outs}
 use Rattle.model.specs.Delays.{Moved, advance-flight, advance-fires, advance-records, advance-elapsed, advance-time}
-use Rattle.model.specs.Exec.{delay, delay≔, set-output, readied, read, countdown}
+use Rattle.model.specs.Exec.{delay, delay≔, readied, read, countdown}
 use Rattle.model.specs.Settle.{settle}
 
 -- ---- the start
 
--- tick length and uptime 0.0, each Var its initial, other outputs nothing, then pure gates fresh
-unfoldable pub wires-at-start : Circuit → Wires
-wires-at-start c =
+-- tick length and uptime 0.0, each Var its initial, other outputs nothing, then pure gates fresh; nothing waiting
+unfoldable pub wires-fresh : Circuit → Wires
+wires-fresh c =
     refresh-all c (record {
+      tick = 0;
+      dt = 0;
+      uptime = 0;
       outs = each (λ vs g. set vs (output c g 0) (setting c g 0)) (replicate (length (c .outputs)) Nothing) (gates-of c (λ k. eqb k 5));
       dirty = map pure (c .kinds);
       to-check = [];
       queued = replicate (length (c .pins)) false;
-      dt = 0;
-      uptime = 0;
+      last = replicate (length (c .pins)) none;
+      pulses = replicate (length (c .outputs)) 0;
+      written = [];
+      unions-passed = replicate (length (c .kinds)) false;
     })
 
--- Clocks and Stopwatches at 0.0, Stopwatches stopped, nothing waiting, `last` the value that each watched input reads
+-- `last` is the value that each watched input reads
+unfoldable pub wires-at-start : Circuit → Wires
+wires-at-start c =
+    let w = wires-fresh c in
+    last≔ w (map (λ i. if watching c i then some (look c w i) else none) (from 0 (length (c .pins))))
+
+-- Clocks and Stopwatches at 0.0, Stopwatches stopped
 unfoldable pub start : Circuit → State
-start c =
-    let w = wires-at-start c in
-    record {
-      tick = 0;
-      wires = w;
-      last = map (λ i. if watching c i then some (look c w i) else none) (from 0 (length (c .pins)));
-      pulses = replicate (length (c .outputs)) 0;
-      delays = replicate (length (c .kinds)) idle;
-      written = [];
-      unions-passed = [];
-      outbox = [];
-    }
+start c = record { wires = wires-at-start c; delays = replicate (length (c .kinds)) idle; outbox = [] }
 
 -- ---- the opening of a tick
 
@@ -63,19 +63,14 @@ raised-to p s acts = map (λ a. record { at = s; act = a; place = p }) acts
 unfoldable pub fire : ℕ → ℕ → List Act
 fire n g = replicate n (record { gate = g; form = 0; row = [] })
 
--- the next tick begins: its number, its length, the uptime; no Union has passed, and the outbox is emptied
+-- the next tick begins: its number, its length, the uptime; no Union has passed
+unfoldable pub next-tick : Wires → ℕ → Wires
+next-tick w dt =
+    unions-passed≔ (times≔ w (suc (w .tick)) dt (plus64 (w .uptime) dt)) (map (λ _. false) (w .unions-passed))
+
+-- and the outbox is emptied
 unfoldable pub begin-tick : State → ℕ → State
-begin-tick s dt =
-    record {
-      tick = suc (s .tick);
-      wires = times≔ (s .wires) dt (plus64 (s .wires .uptime) dt);
-      last = s.last;
-      pulses = s.pulses;
-      delays = s.delays;
-      written = s.written;
-      unions-passed = [];
-      outbox = [];
-    }
+begin-tick s dt = outbox≔ (wires≔ s (next-tick (s .wires) dt)) []
 
 -- `bEnabled` of nothing means enabled
 unfoldable pub enabled : Value → Bool
@@ -91,13 +86,13 @@ module _ (c : Circuit) where
 
   -- what an event raises
   unfoldable pub delivered : Send → List Act
-  delivered m = map (λ r. record { gate = r; form = 1; row = m .row }) (keep (receives (m .gate)) (gates c))
+  delivered m = map (λ r. record { gate = r; form = 1; row = m .row }) (keep (receives (m .gate)) (c .receivers))
 
   -- a pulse falls when raised-at + 2 ≤ tick
-  unfoldable pub lower : State → ℕ → State
-  lower s o =
-      let at = getD (s .pulses) o 0 in
-      if ltb 0 at && leb (at + 2) (s .tick) then set-output c (pulses≔ s (set (s .pulses) o 0)) o (Truth false) else s
+  unfoldable pub lower : Wires → ℕ → Wires
+  lower w o =
+      let at = getD (w .pulses) o 0 in
+      if ltb 0 at && leb (at + 2) (w .tick) then set-out c (pulses≔ w (set (w .pulses) o 0)) o (Truth false) else w
 
   -- gate g has moved on: its row goes to its outputs from p on, then its Fires are raised
   unfoldable pub advanced : Opened → State → Place → ℕ → ℕ → Moved → Opened
@@ -135,14 +130,14 @@ module _ (c : Circuit) where
   open-tick s given =
       let s₁ = begin-tick s (given .dt) in
       let came = raised-to to-delivered s₁ (joined (map delivered (s .outbox))) ++ raised-to to-late s₁ (given .stimuli) in
-      let s₂ = each lower s₁ (from 0 (length (c .outputs))) in
-      let b = each (advance-buffer (narrow (given .dt))) (record { state = s₂; raises = came }) (gates c) in
-      let k = each advance-clock b (gates-of c (λ k. eqb k 14)) in
-      let t = each advance-timer k (gates-of c (λ k. eqb k 15)) in
-      let w = each (invalidate c) (t .state .wires) (gates-of c (λ k. eqb k 3 || eqb k 4)) in
+      let s₂ = wires≔ s₁ (each lower (s₁ .wires) (from 0 (length (c .outputs)))) in
+      let b = each (advance-buffer (narrow (given .dt))) (record { state = s₂; raises = came }) (c .buffers) in
+      let k = each advance-clock b (c .clocks) in
+      let t = each advance-timer k (c .stopwatches) in
+      let w = each (invalidate c) (t .state .wires) (c .time-sources) in
       let z = settle c (wires≔ (t .state) w) in
       record { state = z .state; raises = t .raises ++ map (λ r. record { at = r .at; act = r .act; place = to-pending }) (z .raises) }
 
   unfoldable pub opening-opened : ℕ
-  unfolding wires-at-start start raised-to fire begin-tick enabled receives delivered lower advanced advance-buffer advance-clock advance-timer open-tick
+  unfolding wires-fresh wires-at-start start raised-to fire next-tick begin-tick enabled receives delivered lower advanced advance-buffer advance-clock advance-timer open-tick
   opening-opened = 0

@@ -23,7 +23,7 @@ steps limit w stop = limit - w .left + (if eqb stop runaway then 1 else 0)
 
 -- tick, steps, late units, main units, carried, stop
 unfoldable pub head : ℕ → World → Outcome Act → List ℕ
-head limit w o = w .state .tick ∷ steps limit w (o .stop) ∷ length (o .late) ∷ length (o .main) ∷ length (o .carried) ∷ o .stop ∷ []
+head limit w o = w .state .wires .tick ∷ steps limit w (o .stop) ∷ length (o .late) ∷ length (o .main) ∷ length (o .carried) ∷ o .stop ∷ []
 
 -- gates and forms of the units begun
 unfoldable pub units-begun : Outcome Act → List ℕ

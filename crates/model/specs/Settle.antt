@@ -12,10 +12,10 @@ use Rattle.model.specs.declared.Value.the-variants.{Nothing, Bool as Tru
 use Rattle.model.specs.Base.{if_then_else_, each}
 use Rattle.model.specs.Value.{truthy, as-float, same, lt64}
 use Rattle.model.specs.Circuit.{Circuit, kind-of-gate, input, output, gate-at-input}
-use Rattle.model.specs.State.{Act, State, to-check≔, wires≔, last≔, pulses≔, written≔}
-use Rattle.model.specs.Wires.{look, ready, refresh-all, mark-readers}
+use Rattle.model.specs.State.{Wires, Act, State, to-check≔, last≔, pulses≔, written≔, wires≔}
+use Rattle.model.specs.Wires.{look, ready, refresh-all, mark-readers, set-out}
 use Rattle.model.specs.Delays.{buffer-input}
-use Rattle.model.specs.Exec.{delay, delay≔, set-output, countdown}
+use Rattle.model.specs.Exec.{delay, delay≔, countdown}
 
 -- a state, and what was raised on the way to it, in order, each with the state at that moment
 pub record Settled : Type 0 where
@@ -42,12 +42,12 @@ unchanged (some u) v = same u v
 
 module _ (c : Circuit) where
   -- the Vars written reach what reads them, in the order of their first write, also where the value did not change
-  unfoldable pub publish-writes : State → State
-  publish-writes s = written≔ (wires≔ s (each (mark-readers c) (s .wires) (s .written))) []
+  unfoldable pub publish-writes : Wires → Wires
+  publish-writes w = written≔ (each (mark-readers c) w (w .written)) []
 
   -- a detector's output goes up, or stays up, from this tick on
-  unfoldable pub pulse : State → ℕ → State
-  pulse s o = let t = set-output c s o (Truth true) in pulses≔ t (set (t .pulses) o (t .tick))
+  unfoldable pub pulse : Wires → ℕ → Wires
+  pulse w o = let u = set-out c w o (Truth true) in pulses≔ u (set (u .pulses) o (u .tick))
 
   -- kinds 7 and 9 compare as Floats, nothing as 0.0: rising is output 0, falling output 1
   unfoldable pub edge : State → Value → Value → (State → ℕ → Settled) → Settled
@@ -58,8 +58,8 @@ module _ (c : Circuit) where
   unfoldable pub detect : ℕ → State → ℕ → ℕ → Value → Value → Settled
   detect k s g p was now =
       if eqb k 6 then raise s g 0
-      else if eqb k 7 then edge s was now (λ t o. calm (pulse t (output c g o)))
-      else if eqb k 8 then calm (pulse s (output c g 0))
+      else if eqb k 7 then edge s was now (λ t o. calm (wires≔ t (pulse (t .wires) (output c g o))))
+      else if eqb k 8 then calm (wires≔ s (pulse (s .wires) (output c g 0)))
       else if eqb k 9 then edge s was now (λ t o. raise t g (32 + o))
       else if eqb k 10 || eqb k 12 then calm (delay≔ c s g (buffer-input (delay c s g) now (countdown c g (truthy now))))
       else if truthy now then raise s g (16 + p)
@@ -68,12 +68,12 @@ module _ (c : Circuit) where
   -- `last` is replaced at every check, and acted on is only a change
   unfoldable pub compared : State → ℕ → Option Value → Value → Settled
   compared s i was now =
-      let t = last≔ s (set (s .last) i (some now)) in
+      let t = wires≔ s (last≔ (s .wires) (set (s .wires .last) i (some now))) in
       if unchanged was now then calm t else detect (kind-of-gate c (gate-at-input c i)) t (gate-at-input c i) (i - input c (gate-at-input c i) 0) (last-value was) now
 
   -- a watched input is read again
   unfoldable pub check : State → ℕ → Settled
-  check s i = let t = wires≔ s (ready c (s .wires) i) in compared t i (getD (s .last) i none) (look c (t .wires) i)
+  check s i = let t = wires≔ s (ready c (s .wires) i) in compared t i (getD (s .wires .last) i none) (look c (t .wires) i)
 
   -- first in, first out; an input taken may be queued again
   unfoldable pub check-on : ℕ → Settled → Settled

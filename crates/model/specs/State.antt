@@ -5,15 +5,23 @@ use mathlib.Core.List.{List, []}
 use mathlib.Core.Option.{Option, none}
 use Rattle.model.specs.declared.Value.{Value}
 
--- What wires show. `outs` has a value for each output; a Var's storage is its Value. `dirty` has a mark for each gate: a pure gate that is stale. `to-check` has
--- the watched inputs that wait to be checked, the oldest first, and `queued` a mark for each input that does. `dt` and `uptime` are f64 bits.
+-- What wires show and what is remembered of them. `dt` and `uptime` are f64 bits. `outs` has a value for each output; a Var's storage is its Value. `dirty` has a
+-- mark for each gate: a pure gate that is stale. `to-check` has the watched inputs that wait to be checked, the oldest first, and `queued` a mark for each
+-- input that does. `last` has for each watched input what its last check read, or none; `pulses` for each output the tick in which its pulse was last
+-- raised, 0 for none; `written` the Vars written by this unit, each once, in the order of its first write; `unions-passed` a mark for each gate: a Union
+-- that has passed in this tick.
 pub record Wires : Type 0 where
+  pub tick : ℕ
+  pub dt : ℕ
+  pub uptime : ℕ
   pub outs : List Value
   pub dirty : List Bool
   pub to-check : List ℕ
   pub queued : List Bool
-  pub dt : ℕ
-  pub uptime : ℕ
+  pub last : List (Option Value)
+  pub pulses : List ℕ
+  pub written : List ℕ
+  pub unions-passed : List Bool
 
 -- ticks left, 0 when it is due; or seconds to wait and seconds so far, as f32 bits
 pub data Countdown : Type 0 where
@@ -52,23 +60,17 @@ pub record Send : Type 0 where
   pub gate : ℕ
   pub row : List Value
 
--- `last` has for each watched input what its last check read, or none; `pulses` for each output the tick in which its pulse was last raised, 0 for none;
--- `written` the Vars written by this unit, each once, in the order of its first write; `unions-passed` the Unions that have passed in this tick.
+-- the wires, the small state of each gate, and the events sent in this tick
 pub record State : Type 0 where
-  pub tick : ℕ
   pub wires : Wires
-  pub last : List (Option Value)
-  pub pulses : List ℕ
   pub delays : List Delay
-  pub written : List ℕ
-  pub unions-passed : List ℕ
   pub outbox : List Send
 
 -- nothing under way
 unfoldable pub idle : Delay
 idle = record { flight = none; later = none; fires = []; elapsed = 0; running = false; records = [] }
 
--- ---- one field changed, or two
+-- ---- one field changed, or a few
 
 unfoldable pub flight≔ : Delay → Option Flight → Option Value → Delay
 flight≔ d f l = record { flight = f; later = l; fires = d.fires; elapsed = d.elapsed; running = d.running; records = d.records }
@@ -82,39 +84,47 @@ elapsed≔ d t r = record { flight = d.flight; later = d.later; fires = d.fires;
 unfoldable pub records≔ : Delay → List Queued → Delay
 records≔ d qs = record { flight = d.flight; later = d.later; fires = d.fires; elapsed = d.elapsed; running = d.running; records = qs }
 
+unfoldable pub times≔ : Wires → ℕ → ℕ → ℕ → Wires
+times≔ w x y z =
+    record { tick = x; dt = y; uptime = z; outs = w.outs; dirty = w.dirty; to-check = w.to-check; queued = w.queued; last = w.last; pulses = w.pulses; written = w.written; unions-passed = w.unions-passed }
+
 unfoldable pub outs≔ : Wires → List Value → Wires
-outs≔ w x = record { outs = x; dirty = w.dirty; to-check = w.to-check; queued = w.queued; dt = w.dt; uptime = w.uptime }
+outs≔ w x =
+    record { tick = w.tick; dt = w.dt; uptime = w.uptime; outs = x; dirty = w.dirty; to-check = w.to-check; queued = w.queued; last = w.last; pulses = w.pulses; written = w.written; unions-passed = w.unions-passed }
 
 unfoldable pub dirty≔ : Wires → List Bool → Wires
-dirty≔ w x = record { outs = w.outs; dirty = x; to-check = w.to-check; queued = w.queued; dt = w.dt; uptime = w.uptime }
+dirty≔ w x =
+    record { tick = w.tick; dt = w.dt; uptime = w.uptime; outs = w.outs; dirty = x; to-check = w.to-check; queued = w.queued; last = w.last; pulses = w.pulses; written = w.written; unions-passed = w.unions-passed }
 
 unfoldable pub to-check≔ : Wires → List ℕ → List Bool → Wires
-to-check≔ w x y = record { outs = w.outs; dirty = w.dirty; to-check = x; queued = y; dt = w.dt; uptime = w.uptime }
+to-check≔ w x y =
+    record { tick = w.tick; dt = w.dt; uptime = w.uptime; outs = w.outs; dirty = w.dirty; to-check = x; queued = y; last = w.last; pulses = w.pulses; written = w.written; unions-passed = w.unions-passed }
 
-unfoldable pub times≔ : Wires → ℕ → ℕ → Wires
-times≔ w x y = record { outs = w.outs; dirty = w.dirty; to-check = w.to-check; queued = w.queued; dt = x; uptime = y }
+unfoldable pub last≔ : Wires → List (Option Value) → Wires
+last≔ w x =
+    record { tick = w.tick; dt = w.dt; uptime = w.uptime; outs = w.outs; dirty = w.dirty; to-check = w.to-check; queued = w.queued; last = x; pulses = w.pulses; written = w.written; unions-passed = w.unions-passed }
+
+unfoldable pub pulses≔ : Wires → List ℕ → Wires
+pulses≔ w x =
+    record { tick = w.tick; dt = w.dt; uptime = w.uptime; outs = w.outs; dirty = w.dirty; to-check = w.to-check; queued = w.queued; last = w.last; pulses = x; written = w.written; unions-passed = w.unions-passed }
+
+unfoldable pub written≔ : Wires → List ℕ → Wires
+written≔ w x =
+    record { tick = w.tick; dt = w.dt; uptime = w.uptime; outs = w.outs; dirty = w.dirty; to-check = w.to-check; queued = w.queued; last = w.last; pulses = w.pulses; written = x; unions-passed = w.unions-passed }
+
+unfoldable pub unions-passed≔ : Wires → List Bool → Wires
+unions-passed≔ w x =
+    record { tick = w.tick; dt = w.dt; uptime = w.uptime; outs = w.outs; dirty = w.dirty; to-check = w.to-check; queued = w.queued; last = w.last; pulses = w.pulses; written = w.written; unions-passed = x }
 
 unfoldable pub wires≔ : State → Wires → State
-wires≔ s x = record { tick = s.tick; wires = x; last = s.last; pulses = s.pulses; delays = s.delays; written = s.written; unions-passed = s.unions-passed; outbox = s.outbox }
-
-unfoldable pub last≔ : State → List (Option Value) → State
-last≔ s x = record { tick = s.tick; wires = s.wires; last = x; pulses = s.pulses; delays = s.delays; written = s.written; unions-passed = s.unions-passed; outbox = s.outbox }
-
-unfoldable pub pulses≔ : State → List ℕ → State
-pulses≔ s x = record { tick = s.tick; wires = s.wires; last = s.last; pulses = x; delays = s.delays; written = s.written; unions-passed = s.unions-passed; outbox = s.outbox }
+wires≔ s x = record { wires = x; delays = s.delays; outbox = s.outbox }
 
 unfoldable pub delays≔ : State → List Delay → State
-delays≔ s x = record { tick = s.tick; wires = s.wires; last = s.last; pulses = s.pulses; delays = x; written = s.written; unions-passed = s.unions-passed; outbox = s.outbox }
-
-unfoldable pub written≔ : State → List ℕ → State
-written≔ s x = record { tick = s.tick; wires = s.wires; last = s.last; pulses = s.pulses; delays = s.delays; written = x; unions-passed = s.unions-passed; outbox = s.outbox }
-
-unfoldable pub unions-passed≔ : State → List ℕ → State
-unions-passed≔ s x = record { tick = s.tick; wires = s.wires; last = s.last; pulses = s.pulses; delays = s.delays; written = s.written; unions-passed = x; outbox = s.outbox }
+delays≔ s x = record { wires = s.wires; delays = x; outbox = s.outbox }
 
 unfoldable pub outbox≔ : State → List Send → State
-outbox≔ s x = record { tick = s.tick; wires = s.wires; last = s.last; pulses = s.pulses; delays = s.delays; written = s.written; unions-passed = s.unions-passed; outbox = x }
+outbox≔ s x = record { wires = s.wires; delays = s.delays; outbox = x }
 
 unfoldable pub state-opened : ℕ
-unfolding idle flight≔ fires≔ elapsed≔ records≔ outs≔ dirty≔ to-check≔ times≔ wires≔ last≔ pulses≔ delays≔ written≔ unions-passed≔ outbox≔
+unfolding idle flight≔ fires≔ elapsed≔ records≔ times≔ outs≔ dirty≔ to-check≔ last≔ pulses≔ written≔ unions-passed≔ wires≔ delays≔ outbox≔
 state-opened = 0

@@ -51,7 +51,7 @@ module _ (c : Circuit) where
   unfoldable pub finish-chain : World → Chained → Did World Act (Unit {0})
   finish-chain w r =
       if eqb (r .stop) 0 then
-      (let z = settle c (publish-writes c (r .state)) in
+      (let z = settle c (wires≔ (r .state) (publish-writes c (r .state .wires))) in
       record { world = state≔ w (r .left) (z .state); raises = raises-in w (r .left) (z .raises); stop = 0 })
       else record { world = state≔ w (r .left) (r .state); raises = []; stop = r .stop }
 

@@ -45,6 +45,14 @@ nearest32 (fin s m e) = round binary32 s (m * up e) (down e)
 unfoldable pub narrow : ℕ → ℕ
 narrow b = toBits binary32 (nearest32 (ofBits binary64 b))
 
+-- the f64 nearest to an Int, ties to even
+unfoldable pub of-int : ℤ → ℕ
+of-int z = toBits binary64 (ofInt binary64 z)
+
+-- an f64 without its fraction; one beyond the 64-bit range becomes the nearer end
+unfoldable pub to-int : ℕ → ℤ
+to-int b = toSigned 63 (ofBits binary64 b)
+
 -- 1.0
 abbrev pub one-point-zero : ℕ
 one-point-zero = 0x3FF0000000000000
@@ -71,15 +79,15 @@ bit true = 1
 unfoldable pub as-int : ℤ → Value → ℤ
 as-int d Nothing = d
 as-int d (Int b) = signed b
-as-int d (Float b) = toSigned 63 (ofBits binary64 b)
+as-int d (Float b) = to-int b
 as-int d (Truth t) = pos (bit t)
 
 -- As a Float: an Int becomes the nearest one. Nothing gives `d`.
 unfoldable pub as-float : ℕ → Value → ℕ
 as-float d Nothing = d
-as-float d (Int b) = toBits binary64 (ofInt binary64 (signed b))
+as-float d (Int b) = of-int (signed b)
 as-float d (Float b) = b
-as-float d (Truth t) = toBits binary64 (ofInt binary64 (pos (bit t)))
+as-float d (Truth t) = of-int (pos (bit t))
 
 -- Equal: of one kind, and equal in it. 0.0 and -0.0 are equal; Int 1, Float 1.0 and Bool true are not.
 unfoldable pub same : Value → Value → Bool
@@ -124,5 +132,5 @@ value-of (suc (suc zero)) b = Float b
 value-of (suc (suc (suc k))) b = Truth (not (eqb b 0))
 
 unfoldable pub value-opened : ℕ
-unfolding ofBits toBits add lt le eq round ofInt toSigned plus64 le64 lt64 eq64 plus32 le32 nearest32 narrow truthy bit as-int as-float same kind-of content-of value-of
+unfolding ofBits toBits add lt le eq round ofInt toSigned plus64 le64 lt64 eq64 plus32 le32 nearest32 narrow of-int to-int truthy bit as-int as-float same kind-of content-of value-of
 value-opened = 0

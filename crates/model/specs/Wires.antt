@@ -1,16 +1,16 @@
 -- Reading values, refreshing pure gates, and marking what a change reaches.
 use Prim.Native.Nat.{ℕ, zero, suc}
-use mathlib.Core.Bool.{Bool, true, false, not}
+use mathlib.Core.Bool.{Bool, true, false, not, _||_}
 use mathlib.Core.List.{List, [], _∷_}
 use mathlib.Core.Option.{none, some}
-use lib.Dec.{eqb}
+use lib.Dec.{leb, eqb}
 use lib.ListN.{length, getD, set}
 use Rattle.model.specs.declared.Value.{Value}
 use Rattle.model.specs.declared.Value.the-variants.{Nothing, Float}
 use Rattle.model.specs.Base.{if_then_else_, each, snoc}
 use Rattle.model.specs.Value.{truthy, same}
 use Rattle.model.specs.Kinds.{pure}
-use Rattle.model.specs.Circuit.{Circuit, kind-of-gate, input, output, inputs-of, gate-at-input, source, stored-in, gate-at-output, readers-of, watching, gates}
+use Rattle.model.specs.Circuit.{Circuit, most-inputs, kind-of-gate, input, output, inputs-of, gate-at-input, source, stored-in, gate-at-output, readers-of, watching, gates}
 use Rattle.model.specs.State.{Wires, outs≔, dirty≔, to-check≔}
 
 -- ---- what is shown, what is stale, what waits
@@ -39,9 +39,11 @@ soil w g = dirty≔ w (set (w .dirty) g true)
 unfoldable pub clean : Wires → ℕ → Wires
 clean w g = dirty≔ w (set (w .dirty) g false)
 
--- a watched input waits to be checked; one that waits already keeps its place
+-- A watched input waits to be checked; one that waits already keeps its place. A circuit has at most 640 inputs, so as many wait at the most: that test is
+-- never met (`roomy`).
 unfoldable pub watch : Wires → ℕ → Wires
-watch w i = if getD (w .queued) i true then w else to-check≔ w (snoc (w .to-check) i) (set (w .queued) i true)
+watch w i =
+    if getD (w .queued) i true || leb most-inputs (length (w .to-check)) then w else to-check≔ w (snoc (w .to-check) i) (set (w .queued) i true)
 
 -- marking under way: the wires, and the outputs whose readers are still to be marked, the newest first
 pub record Marking : Type 0 where

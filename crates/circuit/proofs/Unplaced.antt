@@ -1,0 +1,194 @@
+-- Question 6 by words of gates: a round of the code leaves the gates that a round of the definition does not place.
+use Prim.Native.Nat.{ℕ, zero, suc, _+_, _*_, _%_, _^_, _≤_, _<_}
+use mathlib.Core.Path.{_≡_, refl, sym, ap, _∙_}
+use mathlib.Core.Bool.{Bool, true, false, not, _&&_, _||_}
+use mathlib.Core.List.{List, [], _∷_, map}
+use mathlib.Core.Option.{Option, none, some}
+use native.Mathlib.Nat.{zero-add, add-zero}
+use native.Mathlib.Numerals.{add-one}
+use native.Mathlib.Omega.{arith}
+use lib.Bits.{bitAnd, bitOr}
+use lib.Dec.{ltb, eqb}
+use lib.ListN.{length, getD, length-map, List·getD-eq-default}
+use lib.Pow.{shl-exact}
+use borrow.Author.Tests.{ltb-false, lt-ltb, le-ltb, not-true, not-false}
+use Rattle.model.specs.Base.{if_then_else_, all, each, from}
+use Rattle.model.specs.Kinds.{kind-at, pure}
+use Rattle.model.specs.Circuit.{Circuit, kind-of-gate, input, inputs-of, source, gate-at-output, gates}
+use Rattle.model.specs.Questions.{yes-all, source-placed, place, place-on, question-6}
+use Rattle.model.proofs.Lists.{from-length}
+use Rattle.links.specs.declared.Read.{Read}
+use Rattle.links.specs.declared.Read.the-variants.{Output, Nothing as NoOutput}
+use Rattle.links.specs.Links.{output-read}
+use Rattle.circuit.specs.Gates.{word-of-bits, gates-where, gate-bit, source-bit, with-source, awaited, waits}
+use Rattle.circuit.proofs.Digits.{apart-or, word-most, word-none, word-apart}
+
+-- ---- lists
+
+and-both : (a b d : Bool) → ((a && b) && d) ≡ (a && (b && d))
+and-both true b d = refl
+and-both false b d = refl
+
+and-yes : (a : Bool) → a ≡ (a && true)
+and-yes true = refl
+and-yes false = refl
+
+-- two lists that are given place by place
+row-same :
+    {A : Type 0} (f g : ℕ → A) (k n : ℕ) → ((i : ℕ) → k ≤ i → i < k + n → f i ≡ g i) → map f (from k n) ≡ map g (from k n)
+unfolding from
+row-same f g k zero h = refl
+row-same f g k (suc n) h = λ j. h k (omega arith) (omega arith) j ∷ row-same f g (suc k) n (λ i l m. h i (omega arith) (omega arith)) j
+
+row-not : (f : ℕ → Bool) (k n : ℕ) → map (λ i. not (f i)) (from k n) ≡ map not (map f (from k n))
+unfolding from
+row-not f k zero = refl
+row-not f k (suc n) = ap (λ (l : List Bool). not (f k) ∷ l) (row-not f (suc k) n)
+
+-- a list, by its places
+row-places :
+    {A : Type 0} (f : ℕ → A) (ks : List ℕ) (F : ℕ → A) (k : ℕ) → ((i : ℕ) → F (k + i) ≡ f (getD ks i 0)) → map F (from k (length ks)) ≡ map f ks
+unfolding from
+row-places f [] F k h = refl
+row-places f (x ∷ ks) F k h =
+    λ j. (ap F (sym (add-zero k)) ∙ h 0) j
+    ∷ row-places f ks F (suc k) (λ i. let e : suc k + i ≡ k + suc i = omega arith in ap F e ∙ h (suc i)) j
+
+-- ---- one gate
+
+pub gate-in : (g : ℕ) → g < 64 → 1 * 2 ^ g % 2 ^ 64 ≡ gate-bit g
+unfolding gate-bit if_then_else_
+gate-in g h = rw (lt-ltb g 64 h) (shl-exact 1 g 64 (omega arith) (omega arith) ∙ omega arith)
+
+pub gate-out : (g : ℕ) → 64 ≤ g → 0 ≡ gate-bit g
+unfolding gate-bit if_then_else_
+gate-out g h = rw (le-ltb g 64 h)
+
+module _ (c : Circuit) where
+  -- ---- the word of a gate's sources, beside the word of the gates that are not placed
+
+  bits-apart :
+      (k u w : ℕ) (is : List ℕ) → u < 2 ^ k →
+      eqb (bitAnd (each (with-source c) w is) u) 0 ≡ (eqb (bitAnd w u) 0 && all (λ i. eqb (bitAnd (source-bit c i) u) 0) is)
+  unfolding with-source each all
+  bits-apart k u w [] h = and-yes (eqb (bitAnd w u) 0)
+  bits-apart k u w (i ∷ is) h =
+      bits-apart k u (bitOr w (source-bit c i)) is h
+      ∙ ap (λ (b : Bool). b && all (λ i. eqb (bitAnd (source-bit c i) u) 0) is) (apart-or k w (source-bit c i) u h)
+      ∙ and-both (eqb (bitAnd w u) 0) (eqb (bitAnd (source-bit c i) u) 0) (all (λ i. eqb (bitAnd (source-bit c i) u) 0) is)
+
+  gate-apart : (bs : List Bool) (g : ℕ) → length bs ≤ 64 → eqb (bitAnd (gate-bit g) (word-of-bits (map not bs))) 0 ≡ getD bs g true
+  unfolding gate-bit if_then_else_
+  gate-apart bs g h = go (ltb g 64) refl
+    where
+      go : (b : Bool) → ltb g 64 ≡ b → eqb (bitAnd (if b then 2 ^ g else 0) (word-of-bits (map not bs))) 0 ≡ getD bs g true
+      go true e = word-apart bs g
+      go false e = sym (List·getD-eq-default bs true (omega (arith, ltb-false g 64 e)))
+
+  source-apart : (bs : List Bool) (i : ℕ) → length bs ≤ 64 → eqb (bitAnd (source-bit c i) (word-of-bits (map not bs))) 0 ≡ source-placed c bs i
+  unfolding source-bit source-placed
+  source-apart bs i h = go (source c i) refl
+    where
+      go : (s : Option ℕ) → source c i ≡ s → eqb (bitAnd (source-bit c i) (word-of-bits (map not bs))) 0 ≡ source-placed c bs i
+      go none e = rw (e, source-bit, source-placed)
+      go (some o) e = rw (e, source-bit, source-placed) (gate-apart bs (gate-at-output c o) h)
+
+  -- whether gate g waits
+  waits-is :
+      (words : List ℕ) (bs : List Bool) (g : ℕ) → length bs ≤ 64 → getD words g 0 ≡ awaited c g →
+      waits words (word-of-bits (map not bs)) g ≡ not (not (pure (kind-of-gate c g)) || all (source-placed c bs) (inputs-of c g))
+  unfolding waits awaited if_then_else_
+  waits-is words bs g h e = rw e (go (pure (kind-of-gate c g)))
+    where
+      go :
+          (b : Bool) →
+          not (eqb (bitAnd (if b then each (with-source c) 0 (inputs-of c g) else 0) (word-of-bits (map not bs))) 0)
+          ≡ not (not b || all (source-placed c bs) (inputs-of c g))
+      go false = refl
+      go true =
+          ap not (bits-apart (length (map not bs)) (word-of-bits (map not bs)) 0 (inputs-of c g) (word-most (map not bs))
+          ∙ ap (λ (p : ℕ → Bool). all p (inputs-of c g)) (λ j i. source-apart bs i h j))
+
+  -- ---- the code's ways to these words
+
+  pub source-some :
+      (i o h b : ℕ) (r : Read) → output-read r ≡ source c i → r ≡ Output o → h ≡ gate-at-output c o → b ≡ gate-bit h → b ≡ source-bit c i
+  unfolding source-bit output-read
+  source-some i o h b r e er eh eb =
+      let q : source c i ≡ some o = sym e ∙ ap output-read er in
+      rw (q, source-bit) (eb ∙ ap gate-bit eh)
+
+  pub source-none : (i : ℕ) (r : Read) → output-read r ≡ source c i → r ≡ NoOutput → 0 ≡ source-bit c i
+  unfolding source-bit output-read
+  source-none i r e er =
+      let q : source c i ≡ none = sym e ∙ ap output-read er in
+      rw (q, source-bit)
+
+  pub awaited-none : (g k : ℕ) (t : Bool) → k ≡ kind-of-gate c g → t ≡ pure k → not t ≡ true → 0 ≡ awaited c g
+  unfolding awaited if_then_else_
+  awaited-none g k t ek et h =
+      let q : pure (kind-of-gate c g) ≡ false = ap pure (sym ek) ∙ sym et ∙ not-true t h in
+      rw q
+
+  pub awaited-some :
+      (g k a n w : ℕ) (t : Bool) → k ≡ kind-of-gate c g → t ≡ pure k → not t ≡ false → a ≡ input c g 0 → n ≡ length (kind-at k .ins) →
+      w ≡ each (with-source c) 0 (from a n) → w ≡ awaited c g
+  unfolding awaited if_then_else_ inputs-of
+  awaited-some g k a n w t ek et h ea en ew =
+      let q : pure (kind-of-gate c g) ≡ true = ap pure (sym ek) ∙ sym et ∙ not-false t h in
+      rw (q, ← ek, ← ea, ← en) ew
+
+  -- ---- the rounds
+
+  -- the gates that are placed after k rounds, one by one
+  unfoldable pub placed-after : ℕ → List Bool
+  placed-after k = place-on c k (map (λ k. not (pure k)) (c .kinds))
+
+  -- the word of those that are not
+  unfoldable pub unplaced-after : ℕ → ℕ
+  unplaced-after k = word-of-bits (map not (placed-after k))
+
+  one-more : (k : ℕ) (bs : List Bool) → place-on c (suc k) bs ≡ place c (place-on c k bs)
+  unfolding place-on
+  one-more zero bs = refl
+  one-more (suc k) bs = one-more k (place c bs)
+
+  placed-length : (k : ℕ) → length (placed-after k) ≡ length (c .kinds)
+  unfolding placed-after place-on place gates
+  placed-length zero = length-map (c .kinds) (λ k. not (pure k))
+  placed-length (suc k) =
+      rw (one-more k (map (λ k. not (pure k)) (c .kinds))) (length-map (from 0 (length (c .kinds))) _ ∙ from-length 0 (length (c .kinds)))
+
+  -- before the first round: the pure gates
+  pub rounds-first : (n w : ℕ) → n ≡ length (c .kinds) → w ≡ gates-where (λ g. pure (kind-of-gate c g)) n → w ≡ unplaced-after 0
+  unfolding unplaced-after placed-after place-on gates-where kind-of-gate
+  rounds-first n w en e =
+      rw (e, en)
+      (ap word-of-bits (row-places pure (c .kinds) (λ g. pure (getD (c .kinds) g 0)) 0 (λ i. ap (λ g. pure (getD (c .kinds) g 0)) (zero-add i)) ∙ twice (c .kinds)))
+    where
+      twice : (ks : List ℕ) → map pure ks ≡ map not (map (λ k. not (pure k)) ks)
+      twice [] = refl
+      twice (k ∷ ks) = λ j. same (pure k) j ∷ twice ks j
+        where
+          same : (b : Bool) → b ≡ not (not b)
+          same true = refl
+          same false = refl
+
+  -- one round, where `words` has the word of each gate
+  pub rounds-next :
+      (n k w v : ℕ) (words : List ℕ) → n ≡ length (c .kinds) → n ≤ 64 → ((g : ℕ) → g < n → getD words g 0 ≡ awaited c g) →
+      w ≡ unplaced-after k → v ≡ gates-where (waits words w) n → v ≡ unplaced-after (k + 1)
+  unfolding unplaced-after placed-after gates-where place gates
+  rounds-next n k w v words en l a ew ev =
+      let b : length (placed-after k) ≤ 64 = omega (arith, placed-length k) in
+      rw (ev, ew, en, add-one, one-more k (map (λ k. not (pure k)) (c .kinds)))
+      (ap word-of-bits
+      (row-same _ _ 0 (length (c .kinds)) (λ g o m. waits-is words (placed-after k) g b (a g (omega arith)))
+      ∙ row-not _ 0 (length (c .kinds))))
+
+  -- after all
+  pub rounds-last : (n k w : ℕ) → n ≡ length (c .kinds) → k ≤ n → n ≤ k → w ≡ unplaced-after k → eqb w 0 ≡ question-6 c
+  unfolding unplaced-after placed-after question-6 yes-all
+  rounds-last n k w en l m e =
+      let q : k ≡ length (c .kinds) = omega arith in
+      rw (e, q) (word-none (place-on c (length (c .kinds)) (map (λ k. not (pure k)) (c .kinds))))

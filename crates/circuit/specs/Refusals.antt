@@ -1,0 +1,30 @@
+-- The questions about a circuit in two groups, as they are asked: of its words alone, then of its links, which are made in between.
+use Prim.Native.Nat.{ℕ, zero, suc}
+use mathlib.Core.Bool.{Bool, not}
+use mathlib.Core.List.{List}
+use mathlib.Core.Option.{none}
+use Rattle.words.specs.Words.{words}
+use Rattle.model.specs.Base.{if_then_else_}
+use Rattle.model.specs.Circuit.{Circuit, circuit}
+use Rattle.model.specs.Questions.{question-1, question-2, question-3, question-4, question-5, question-6, question-7}
+use Rattle.links.specs.Links.{cells}
+
+-- the first of questions 1 to 3 whose answer is no, or 0
+unfoldable pub words-refusal : List ℕ → ℕ
+words-refusal bytes =
+    let ws = words bytes in
+    if not (question-1 bytes ws) then 1 else if not (question-2 ws) then 2 else if not (question-3 ws (circuit ws)) then 3 else 0
+
+-- the first of questions 4 to 6 and the first half of 7 whose answer is no, or 0
+unfoldable pub links-refusal : List ℕ → Circuit → ℕ
+links-refusal ws c =
+    if not (question-4 ws c) then 4 else if not (question-5 ws c) then 5 else if not (question-6 c) then 6 else if not (question-7 none c) then 7 else 0
+
+-- by the number of the question that refuses its words: the links are made where none does
+unfoldable pub made-by : ℕ → List ℕ → List ℕ → List ℕ
+made-by zero bytes links = cells (circuit (words bytes))
+made-by (suc n) bytes links = links
+
+-- the links after the questions about a circuit, where they were `links` before
+unfoldable pub links-after : List ℕ → List ℕ → List ℕ
+links-after bytes links = made-by (words-refusal bytes) bytes links

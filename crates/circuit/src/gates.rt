@@ -1,0 +1,46 @@
+// Question 3: are kinds 1 to 28, ranks 0 to 65,535, and are the inputs as many as these kinds have?
+ghost use mathlib.Core.Path.{_≡_};
+ghost use mathlib.Core.Bool.{true, _&&_};
+ghost use mathlib.Core.List.{map};
+ghost use Prim.Native.Nat.{_+_, _*_, _≤_};
+ghost use lib.Dec.{eqb};
+ghost use lib.ListN.{length};
+ghost use Rattle.words.specs.Words.{words};
+ghost use Rattle.model.specs.Base.{all, sum};
+ghost use Rattle.model.specs.Kinds.{kind-at};
+ghost use Rattle.model.specs.Circuit.{part, circuit as circuit-of};
+ghost use Rattle.model.specs.Questions.{question-1, question-3, within};
+use super::columns::all_within;
+use super::columns::within;
+use words::get;
+
+// Whether the `count` kinds from word `first` on are each 1 to 28, and have as many inputs together as there are.
+fn good_kinds(circuit: &[u8], first: usize, count: usize, inputs: u64) -> bool
+    requires { ⌜ (count ≤ 64) × ((first + count) * 8 ≤ length (now circuit)) ⌝ }
+    ensures { λ r. ⌜ r ≡ (all (within 1 28) (part (words (now (circuit .entry))) first count)
+        && eqb (sum (map (λ k. length (kind-at k .ins)) (part (words (now (circuit .entry))) first count))) inputs) ⌝ }
+{
+    let mut total: usize = 0;
+    let mut i = 0;
+    while i < count {
+        let kind = get(circuit, first + i);
+        if within(1, 28, kind) {
+            total += kinds::inputs(kind);
+            i += 1;
+        } else {
+            return false;
+        }
+    }
+    total as u64 == inputs
+}
+
+// Whether all gates of a circuit are good.
+pub fn gates(circuit: &[u8]) -> bool
+    requires { ⌜ question-1 (now circuit) (words (now circuit)) ≡ true ⌝ }
+    ensures { λ r. ⌜ r ≡ question-3 (words (now (circuit .entry))) (circuit-of (words (now (circuit .entry)))) ⌝ }
+{
+    let count = get(circuit, 0) as usize;
+    let first = 4 + 2 * get(circuit, 1) as usize;
+    let inputs = get(circuit, 2);
+    good_kinds(circuit, first, count, inputs) && all_within(circuit, first + count, count, 0, 65535)
+}

@@ -1,0 +1,127 @@
+// The questions asked of a circuit and of a script before anything is played, in order. Each file asks what it is named for.
+ghost use mathlib.Core.Path.{_≡_};
+ghost use mathlib.Core.Bool.{true};
+ghost use mathlib.Core.Option.{none, some};
+ghost use lib.ListN.{length};
+ghost use Rattle.words.specs.Words.{words};
+ghost use Rattle.model.specs.Circuit.{circuit as circuit-of};
+ghost use Rattle.model.specs.Questions.{Areas, question-1, question-2, question-3, circuit-refusal, script-refusal, refusal};
+ghost use Rattle.links.specs.Links.{cells, net};
+ghost use Rattle.circuit.specs.Refusals.{words-refusal, links-refusal, links-after};
+use linking::link;
+
+mod areas;
+mod calls;
+mod columns;
+mod constants;
+mod gates;
+mod inputs;
+mod rings;
+mod script;
+mod sizes;
+
+// The cells of the links.
+const CELLS: usize = 4816;
+
+// Questions 1 to 3, of a circuit's words.
+fn words_refusal(circuit: &[u8]) -> u64
+    ensures { λ r. ⌜ r ≡ words-refusal (now (circuit .entry)) ⌝ }
+{
+    if !sizes::sizes(circuit) {
+        return 1;
+    }
+    if !constants::constants(circuit) {
+        return 2;
+    }
+    if !gates::gates(circuit) {
+        return 3;
+    }
+    0
+}
+
+// Questions 4 to 7, of the links of a circuit whose words passed; no areas are lent.
+fn links_refusal(circuit: &[u8], links: &[usize]) -> u64
+    requires { ⌜ words-refusal (now circuit) ≡ 0 ⌝ }
+    requires { ⌜ length (now links) ≡ 4816 ⌝ }
+    requires { ⌜ now links ≡ cells (circuit-of (words (now circuit))) ⌝ }
+    ensures { λ r. ⌜ r ≡ links-refusal (words (now (circuit .entry))) (circuit-of (words (now (circuit .entry)))) ⌝ }
+{
+    if !inputs::inputs_good(circuit, links) {
+        return 4;
+    }
+    if !calls::calls_good(circuit, links) {
+        return 5;
+    }
+    if !rings::ordered(links) {
+        return 6;
+    }
+    if !areas::few_queues(areas::queues(circuit)) {
+        return 7;
+    }
+    0
+}
+
+// The number of the first question about a circuit whose answer is no, where no areas are lent; 0 where all are yes. The links are made where its words pass.
+pub fn circuit_refusal(circuit: &[u8], links: &mut [usize]) -> u64
+    requires { ⌜ length (now links) ≡ 4816 ⌝ }
+    ensures { λ r. ⌜ (r ≡ circuit-refusal none (now (circuit .entry))) × (now (links .exit) ≡ links-after (now (circuit .entry)) (now (links .entry))) ⌝ }
+{
+    let first = words_refusal(circuit);
+    if first != 0 {
+        return first;
+    }
+    link(circuit, links);
+    links_refusal(circuit, links)
+}
+
+// The same of a script, for a circuit whose sizes are good.
+pub fn script_refusal(circuit: &[u8], script: &[u8]) -> u64
+    requires { ⌜ question-1 (now circuit) (words (now circuit)) ≡ true ⌝ }
+    ensures { λ r. ⌜ r ≡ script-refusal (circuit-of (words (now (circuit .entry)))) (now (script .entry)) ⌝ }
+{
+    if !script::script_sizes(script) {
+        return 8;
+    }
+    if !script::ticks(script) {
+        return 9;
+    }
+    if !script::stimuli(circuit, script) {
+        return 10;
+    }
+    0
+}
+
+// The number that a call with this circuit and script is refused with, or 0, where areas of these lengths are lent.
+pub fn refusal(
+    circuit: &[u8],
+    script: &[u8],
+    links: &mut [usize],
+    values: usize,
+    units: usize,
+    delays: usize,
+) -> u64
+    requires { ⌜ length (now links) ≡ 4816 ⌝ }
+    ensures { λ r. ⌜ (r ≡ refusal (some (record { values = values; units = units; delays = delays })) (now (circuit .entry)) (now (script .entry)))
+        × (now (links .exit) ≡ links-after (now (circuit .entry)) (now (links .entry))) ⌝ }
+{
+    let first = circuit_refusal(circuit, links);
+    if first != 0 {
+        return first;
+    }
+    if !areas::enough(areas::queues(circuit), values, units, delays) {
+        return 7;
+    }
+    script_refusal(circuit, script)
+}
+
+// The number that a call with this circuit and script is refused with, or 0, where no areas are lent: it only checks.
+pub fn check(circuit: &[u8], script: &[u8]) -> u64
+    ensures { λ r. ⌜ r ≡ refusal none (now (circuit .entry)) (now (script .entry)) ⌝ }
+{
+    let mut links = [0usize; CELLS];
+    let first = circuit_refusal(circuit, &mut links);
+    if first != 0 {
+        return first;
+    }
+    script_refusal(circuit, script)
+}

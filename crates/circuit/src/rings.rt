@@ -1,0 +1,115 @@
+// Question 6: is there an order in which each pure gate comes after its pure sources?
+// Sets of gates are words: gate g is bit g.
+ghost use mathlib.Core.Path.{_≡_};
+ghost use Prim.Native.Nat.{ℕ, _+_, _*_, _<_, _≤_, _^_};
+ghost use lib.ListN.{length, getD};
+ghost use Rattle.model.specs.Value.{bit};
+ghost use Rattle.model.specs.Kinds.{pure};
+ghost use Rattle.model.specs.Circuit.{kind-of-gate};
+ghost use Rattle.model.specs.Questions.{question-6};
+ghost use Rattle.links.specs.Links.{net};
+ghost use Rattle.circuit.specs.Gates.{gates-where, gate-bit, source-bit, awaited, waits};
+use links::Read;
+
+// The word of gate g alone; 0 for a number above 63, for which a word has no bit.
+fn gate_bit(g: usize) -> u64
+    ensures { λ r. ⌜ r ≡ gate-bit g ⌝ }
+{
+    if g < 64 { 1 << g } else { 0 }
+}
+
+// The word of the gate that input i reads; 0 where it reads none.
+fn source_bit(links: &[usize], i: usize) -> u64
+    requires { ⌜ length (now links) ≡ 4816 ⌝ }
+    ensures { λ r. ⌜ r ≡ source-bit (net (now (links .entry))) i ⌝ }
+{
+    match links::source(links, i) {
+        Read::Output(o) => gate_bit(links::gate_at_output(links, o)),
+        Read::Nothing => 0,
+    }
+}
+
+// The gates that gate g waits for: those that it reads, if it is pure.
+fn awaited(links: &[usize], g: usize) -> u64
+    requires { ⌜ length (now links) ≡ 4816 ⌝ }
+    ensures { λ r. ⌜ r ≡ awaited (net (now (links .entry))) g ⌝ }
+{
+    let kind = links::kind_of_gate(links, g);
+    if !kinds::is_pure(kind) {
+        return 0;
+    }
+    let first = links::input(links, g, 0);
+    let n = kinds::inputs(kind);
+    let mut word: u64 = 0;
+    let mut p = 0;
+    while p < n {
+        word = word | source_bit(links, first + p);
+        p += 1;
+    }
+    word
+}
+
+// `words` gets what each of n gates waits for.
+fn fill(links: &[usize], words: &mut [u64], n: usize)
+    requires { ⌜ (length (now links) ≡ 4816) × (n ≤ length (now words)) ⌝ }
+    ensures { λ _. ⌜ ((g : ℕ) → g < n → getD (now (words .exit)) g 0 ≡ awaited (net (now (links .entry))) g) ⌝ }
+{
+    let mut g = 0;
+    while g < n {
+        words[g] = awaited(links, g);
+        g += 1;
+    }
+}
+
+// A word moved up by one bit, with b below it.
+fn with_bit(word: u64, b: bool) -> u64
+    requires { ⌜ word < 2 ^ 63 ⌝ }
+    ensures { λ r. ⌜ r ≡ word * 2 + bit b ⌝ }
+{
+    if b { word * 2 + 1 } else { word * 2 }
+}
+
+// The pure ones of n gates.
+fn pure_gates(links: &[usize], n: usize) -> u64
+    requires { ⌜ (length (now links) ≡ 4816) × (n ≤ 64) ⌝ }
+    ensures { λ r. ⌜ r ≡ gates-where (λ g. pure (kind-of-gate (net (now (links .entry))) g)) n ⌝ }
+{
+    let mut word: u64 = 0;
+    let mut g = n;
+    while 0 < g {
+        g -= 1;
+        word = with_bit(word, kinds::is_pure(links::kind_of_gate(links, g)));
+    }
+    word
+}
+
+// One round: of n gates those that wait for one of `unplaced`, where `words` has what each waits for.
+fn round(words: &[u64], n: usize, unplaced: u64) -> u64
+    requires { ⌜ (n ≤ 64) × (n ≤ length (now words)) ⌝ }
+    ensures { λ r. ⌜ r ≡ gates-where (waits (now (words .entry)) unplaced) n ⌝ }
+{
+    let mut word: u64 = 0;
+    let mut g = n;
+    while 0 < g {
+        g -= 1;
+        word = with_bit(word, words[g] & unplaced != 0);
+    }
+    word
+}
+
+// As many rounds as there are gates: what is unplaced at the end stands in a ring, or behind one.
+pub fn ordered(links: &[usize]) -> bool
+    requires { ⌜ length (now links) ≡ 4816 ⌝ }
+    ensures { λ r. ⌜ r ≡ question-6 (net (now (links .entry))) ⌝ }
+{
+    let n = links::gates(links);
+    let mut words: [u64; 64] = [0; 64];
+    fill(links, &mut words, n);
+    let mut unplaced = pure_gates(links, n);
+    let mut k = 0;
+    while k < n {
+        unplaced = round(&words, n, unplaced);
+        k += 1;
+    }
+    unplaced == 0
+}

@@ -1,0 +1,60 @@
+// Cycle's step: the next number, up or down, by Count.
+ghost use mathlib.Core.Path.{_≡_};
+ghost use Prim.Native.Nat.{suc, _-_, _%_, _<_};
+ghost use Rattle.model.specs.Exec.{cycle-next};
+ghost use Rattle.cycle.specs.Step.{step};
+use words::unsigned;
+
+// The words of negative numbers begin here.
+const SIGN: u64 = 0x8000_0000_0000_0000;
+
+// The remainder of a by n; it divides only where a is not below n.
+fn wrapped(a: u64, n: u64) -> u64
+    requires { ⌜ 0 < n ⌝ }
+    ensures { λ r. ⌜ (r ≡ a % n) × (r < n) ⌝ }
+{
+    if a < n { a } else { a % n }
+}
+
+// The number that is as far from the last of 0 to n - 1 as r is from 0.
+fn from_end(n: u64, r: u64) -> u64
+    requires { ⌜ r < n ⌝ }
+    ensures { λ s. ⌜ s ≡ n - suc r ⌝ }
+{
+    n - 1 - r
+}
+
+// One further among the numbers below n, or one back; at the ends it wraps.
+fn step(down: bool, n: u64, r: u64) -> u64
+    requires { ⌜ r < n ⌝ }
+    ensures { λ s. ⌜ s ≡ step down n r ⌝ }
+{
+    if down {
+        if r == 0 {
+            return n - 1;
+        }
+        return r - 1;
+    }
+    if r + 1 == n {
+        return 0;
+    }
+    r + 1
+}
+
+// Cycle's next number from `now`: 0 for a Count of 0 or less.
+pub fn cycle_next(down: bool, count: i64, now: i64) -> u64
+    ensures { λ r. ⌜ r ≡ cycle-next down count now ⌝ }
+{
+    let n = unsigned(count);
+    if SIGN <= n {
+        return 0;
+    }
+    if n == 0 {
+        return 0;
+    }
+    let w = unsigned(now);
+    if w < SIGN {
+        return step(down, n, wrapped(w, n));
+    }
+    step(down, n, from_end(n, wrapped(!w, n)))
+}

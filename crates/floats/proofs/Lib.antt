@@ -1,0 +1,4 @@
+pub mod Bits
+pub mod Ints
+pub mod Rounding
+pub mod Narrow

@@ -1,0 +1,2 @@
+pub mod Narrowing
+pub mod Examples

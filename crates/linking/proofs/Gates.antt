@@ -1,0 +1,166 @@
+-- What the functions that go gate by gate cite.
+use Prim.Native.Nat.{ℕ, zero, suc, _+_, _*_, _≤_, _<_}
+use mathlib.Core.Path.{_≡_, refl, sym, ap, _∙_}
+use mathlib.Core.Bool.{Bool, true, false, not}
+use mathlib.Core.List.{List, [], _∷_}
+use mathlib.Core.Option.{none, some}
+use native.Mathlib.Omega.{arith}
+use borrow.Author.Tests.{leb-true}
+use denote.Enum.Declared.{tagOf}
+use types.Run.{OneOf, miss}
+use lib.Dec.{eqb, leb}
+use lib.ListN.{length, getD}
+use lib.Seq.{sets}
+use Rattle.model.specs.Base.{if_then_else_, all}
+use Rattle.model.specs.Value.{bit}
+use Rattle.model.specs.Kinds.{In, Kind, value, kind-at, table, kinds-opened}
+use Rattle.model.specs.Circuit.{minus-one, source-of, has-source, is-watched}
+use Rattle.model.proofs.Lists.{both-true}
+use Rattle.kinds.specs.declared.Pin.{Pin}
+use Rattle.kinds.specs.declared.Pin.the-variants.{Exec, ExecOnly, Value, Watched, Route, Anything, Ticks, Seconds, Variable, Channel}
+use Rattle.kinds.specs.Pins.{in-of}
+use Rattle.kinds.proofs.Pin.{the-type}
+use Rattle.links.specs.Links.{packed}
+use Rattle.linking.specs.Building.{written, below, Small, ins-at, outs-at, gate-cell, input-cell, input-cells, output-cells}
+use Rattle.linking.proofs.Loops.{below-most}
+use Rattle.linking.proofs.Lists.{listed-length}
+
+-- ---- how many inputs and outputs a gate has
+
+pub all-get : {A : Type 0} (p : A → Bool) (xs : List A) (i : ℕ) (d : A) → all p xs ≡ true → p d ≡ true → p (getD xs i d) ≡ true
+unfolding all
+all-get p [] i d h e = e
+all-get p (x ∷ xs) zero d h e = both-true (p x) (all p xs) h .0
+all-get p (x ∷ xs) (suc i) d h e = all-get p xs i d (both-true (p x) (all p xs) h .1) e
+
+pub ins-most : (k : ℕ) → length (kind-at k .ins) ≤ 10
+unfolding kinds-opened all
+ins-most zero = omega arith
+ins-most (suc k) = leb-true _ 10 (all-get (λ (x : Kind). leb (length (x .ins)) 10) table k (record { ins = []; outs = [] }) refl refl)
+
+pub outs-most : (k : ℕ) → length (kind-at k .outs) ≤ 9
+unfolding kinds-opened all
+outs-most zero = omega arith
+outs-most (suc k) = leb-true _ 9 (all-get (λ (x : Kind). leb (length (x .outs)) 9) table k (record { ins = []; outs = [] }) refl refl)
+
+module _ (ws : List ℕ) (kinds : ℕ) where
+  pub ins-of : (g k n : ℕ) → k ≡ getD ws (kinds + g) 0 → n ≡ length (kind-at k .ins) → n ≡ ins-at ws kinds g
+  unfolding ins-at
+  ins-of g k n e d = d ∙ ap (λ (j : ℕ). length (kind-at j .ins)) e
+
+  pub outs-of : (g k n : ℕ) → k ≡ getD ws (kinds + g) 0 → n ≡ length (kind-at k .outs) → n ≡ outs-at ws kinds g
+  unfolding outs-at
+  outs-of g k n e d = d ∙ ap (λ (j : ℕ). length (kind-at j .outs)) e
+
+  pub ins-at-most : (g : ℕ) → ins-at ws kinds g ≤ 10
+  unfolding ins-at
+  ins-at-most g = ins-most (getD ws (kinds + g) 0)
+
+  pub outs-at-most : (g : ℕ) → outs-at ws kinds g ≤ 9
+  unfolding outs-at
+  outs-at-most g = outs-most (getD ws (kinds + g) 0)
+
+  pub ins-below : (g x : ℕ) → x ≡ below (ins-at ws kinds) g → x ≤ 10 * g
+  ins-below g x e = omega (arith, below-most (ins-at ws kinds) 10 ins-at-most g)
+
+  pub outs-below : (g x : ℕ) → x ≡ below (outs-at ws kinds) g → x ≤ 9 * g
+  outs-below g x e = omega (arith, below-most (outs-at ws kinds) 9 outs-at-most g)
+
+  pub ins-small : (g n : ℕ) → n ≡ ins-at ws kinds g → n ≤ 10
+  ins-small g n e = omega (arith, ins-at-most g)
+
+  pub outs-small : (g n : ℕ) → n ≡ outs-at ws kinds g → n ≤ 9
+  outs-small g n e = omega (arith, outs-at-most g)
+
+  -- ---- the cell of a gate
+
+  pub kind-small : (g n v : ℕ) → Small ws kinds (2 * n) → g < n → v ≡ getD ws (kinds + g) 0 → v < 65536
+  kind-small g n v s l e = let q = s g (omega arith) in omega arith
+
+  pub rank-small : (g n v : ℕ) → Small ws kinds (2 * n) → g < n → v ≡ getD ws (kinds + n + g) 0 → v < 65536
+  rank-small g n v s l e =
+      let a : kinds + (n + g) ≡ kinds + n + g = omega arith in
+      let q : getD ws (kinds + n + g) 0 < 65536 = rw a at (s (n + g) (omega arith)) in
+      omega arith
+
+  pub gate-is : (n g k r i o v : ℕ) → i ≡ below (ins-at ws kinds) g → o ≡ below (outs-at ws kinds) g → k ≡ getD ws (kinds + g) 0 → r ≡ getD ws (kinds + n + g) 0 → v ≡ packed k r i o →
+      v ≡ gate-cell ws kinds n g
+  unfolding gate-cell
+  gate-is n g k r i o v ei eo ek er e = rw (e, ei, eo, ek, er)
+
+  -- ---- the cells of a gate's inputs and outputs
+
+  pub outputs-size : (g n : ℕ) → n ≡ outs-at ws kinds g → n ≡ length (output-cells ws kinds g)
+  unfolding output-cells
+  outputs-size g n e = e ∙ sym (listed-length (outs-at ws kinds g) (λ p. g))
+
+  pub outputs-are : (l l₁ : List ℕ) (base g n : ℕ) → n ≡ outs-at ws kinds g → l₁ ≡ written l base n (λ p. g) → l₁ ≡ sets l base (output-cells ws kinds g)
+  unfolding output-cells
+  outputs-are l l₁ base g n e q = q ∙ ap (λ (m : ℕ). written l base m (λ p. g)) e
+
+  pub inputs-size : (sources g n : ℕ) → n ≡ ins-at ws kinds g → n ≡ length (input-cells ws kinds sources g)
+  unfolding input-cells
+  inputs-size sources g n e = e ∙ sym (listed-length (ins-at ws kinds g) (λ p. input-cell (getD ws (kinds + g) 0) g (getD ws (sources + below (ins-at ws kinds) g + p) 0) p))
+
+  pub inputs-are : (l l₁ : List ℕ) (base sources g k i : ℕ) → i ≡ below (ins-at ws kinds) g → k ≡ getD ws (kinds + g) 0 →
+      l₁ ≡ written l base (length (kind-at k .ins)) (λ p. input-cell k g (getD ws (sources + i + p) 0) p) → l₁ ≡ sets l base (input-cells ws kinds sources g)
+  unfolding input-cells ins-at
+  inputs-are l l₁ base sources g k i ei ek e =
+      e ∙ (λ j. written l base (length (kind-at (ek j) .ins)) (λ p. input-cell (ek j) g (getD ws (sources + ei j + p) 0) p))
+
+-- ---- the cell of an input
+
+driven : (w : ℕ) → not (eqb w minus-one) ≡ has-source (source-of w)
+unfolding source-of has-source if_then_else_
+driven w = go (eqb w minus-one)
+  where
+    go : (b : Bool) → not b ≡ has-source (if b then none else some w)
+    go true = refl
+    go false = refl
+
+abbrev tag : Pin → ℕ
+tag p = tagOf the-type p
+
+pub watched-exec : (p : Pin) (i : In) (w : ℕ) → in-of p ≡ i → tag p ≡ 0 → not (eqb w minus-one) ≡ is-watched i (source-of w)
+unfolding in-of is-watched kinds-opened
+watched-exec Exec i w e t = rw (← e) (driven w)
+watched-exec ExecOnly i w e t = absurd (omega arith)
+watched-exec Value i w e t = absurd (omega arith)
+watched-exec Watched i w e t = absurd (omega arith)
+watched-exec Route i w e t = absurd (omega arith)
+watched-exec Anything i w e t = absurd (omega arith)
+watched-exec Ticks i w e t = absurd (omega arith)
+watched-exec Seconds i w e t = absurd (omega arith)
+watched-exec Variable i w e t = absurd (omega arith)
+watched-exec Channel i w e t = absurd (omega arith)
+
+pub watched-always : (p : Pin) (i : In) (w : ℕ) → in-of p ≡ i → tag p ≡ 3 → true ≡ is-watched i (source-of w)
+unfolding in-of is-watched kinds-opened
+watched-always Exec i w e t = absurd (omega arith)
+watched-always ExecOnly i w e t = absurd (omega arith)
+watched-always Value i w e t = absurd (omega arith)
+watched-always Watched i w e t = rw (← e)
+watched-always Route i w e t = absurd (omega arith)
+watched-always Anything i w e t = absurd (omega arith)
+watched-always Ticks i w e t = absurd (omega arith)
+watched-always Seconds i w e t = absurd (omega arith)
+watched-always Variable i w e t = absurd (omega arith)
+watched-always Channel i w e t = absurd (omega arith)
+
+pub watched-never : (p : Pin) (i : In) (w : ℕ) → in-of p ≡ i → OneOf (1 ∷ 2 ∷ 4 ∷ 5 ∷ 6 ∷ 7 ∷ 8 ∷ 9 ∷ []) (tag p) → false ≡ is-watched i (source-of w)
+unfolding in-of is-watched kinds-opened
+watched-never Exec i w e t = absurd (miss (1 ∷ 2 ∷ 4 ∷ 5 ∷ 6 ∷ 7 ∷ 8 ∷ 9 ∷ []) 0 tt t)
+watched-never ExecOnly i w e t = rw (← e)
+watched-never Value i w e t = rw (← e)
+watched-never Watched i w e t = absurd (miss (1 ∷ 2 ∷ 4 ∷ 5 ∷ 6 ∷ 7 ∷ 8 ∷ 9 ∷ []) 3 tt t)
+watched-never Route i w e t = rw (← e)
+watched-never Anything i w e t = rw (← e)
+watched-never Ticks i w e t = rw (← e)
+watched-never Seconds i w e t = rw (← e)
+watched-never Variable i w e t = rw (← e)
+watched-never Channel i w e t = rw (← e)
+
+pub input-is : (kind g source p v n : ℕ) (t b : Bool) → t ≡ is-watched (getD (kind-at kind .ins) p value) (source-of source) → t ≡ b → n ≡ bit b → v ≡ packed g n 0 0 → v ≡ input-cell kind g source p
+unfolding input-cell
+input-is kind g source p v n t b e d m q =
+    q ∙ ap (λ (x : ℕ). packed g x 0 0) (m ∙ ap (λ (x : Bool). bit x) (sym d ∙ e))

@@ -1,0 +1,20 @@
+-- loops that fill cells one after the other, or part after part
+pub mod Loops
+-- functions without a loop
+pub mod Leaves
+-- lists by their elements
+pub mod Lists
+-- chains
+pub mod Chains
+-- the members of chains: `chain-members`, `members-most`
+pub mod Members
+-- tables one behind the other: `cleared`, `table-put`
+pub mod Tables
+-- gate by gate
+pub mod Gates
+-- the tables of the definition, as they are written
+pub mod Cells
+-- the inputs' cells, and the lists of readers and calls
+pub mod Pins
+-- all tables together are `cells`: `built`
+pub mod Whole

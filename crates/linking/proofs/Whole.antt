@@ -1,0 +1,358 @@
+-- The builder's theorem: what it writes is `cells` of the circuit.
+use Prim.Native.Nat.{ℕ, _+_, _-_, _*_, _%_, _≤_, _<_}
+use mathlib.Core.Path.{_≡_, refl, sym, ap, _∙_}
+use mathlib.Core.Bool.{Bool, true, false, _&&_, _||_, true≢false}
+use mathlib.Core.List.{List, [], _∷_, map}
+use mathlib.Core.Option.{Option}
+use native.Mathlib.Omega.{arith}
+use borrow.Author.Tests.{leb-true, eqb-true, ltb-true, ltb-false}
+use lib.Dec.{eqb, ltb, leb}
+use lib.ListN.{length, getD, length-map}
+use Rattle.model.specs.declared.Value.{Value}
+use Rattle.model.specs.declared.Value.the-variants.{Nothing}
+use Rattle.model.specs.Base.{keep, all, joined, both, from, sum}
+use Rattle.model.specs.Value.{value-of, kind-of, content-of, bit}
+use Rattle.model.specs.Kinds.{Out, kind-at, time-source, buffering, receiving}
+use Rattle.model.specs.Circuit.{Call, part, word-at, source-of, reads, listed-call, calls-from, circuit}
+use Rattle.model.specs.Questions.{within, good-constant, yes-all, question-1, question-2, question-3}
+use Rattle.model.proofs.Lists.{both-true}
+use Rattle.model.proofs.Laid.{filled}
+use Rattle.links.specs.Links.{total, table-of, source-cell, call-cell, gate-cells, row-cells, named, count-cells, cells, listed, packed}
+use Rattle.linking.specs.Building.{written, below, named-word, Small, row-of, members, lists-written, ins-at, outs-at, gate-cell, input-cells, output-cells, word-cells, gates-written, inputs-written, constants-written, all-written}
+use Rattle.linking.proofs.Loops.{below-same}
+use Rattle.linking.proofs.Lists.{listed-length, listed-get, map-listed, both-listed, part-listed, joined-length}
+use Rattle.linking.proofs.Members.{members-most}
+use Rattle.linking.proofs.Tables.{tables, cleared, table-put}
+use Rattle.linking.proofs.Gates.{all-get, ins-below, outs-below, inputs-size, outputs-size}
+use Rattle.linking.proofs.Cells.{gate-table, output-table, word-within, word-within-two, one-kind, two-kinds, source-table, kind-back, content-back, constant-table, stored-table}
+use Rattle.linking.proofs.Pins.{input-table, reader-lists, call-at, call-lists, call-table, row-table}
+
+-- the sizes of the tables
+abbrev table-sizes : List ℕ
+table-sizes = 16 ∷ 64 ∷ 640 ∷ 640 ∷ 640 ∷ 640 ∷ 576 ∷ 576 ∷ 640 ∷ 256 ∷ 64 ∷ 64 ∷ []
+
+-- ---- what the questions say
+
+-- the sizes
+pub record Sizes (ws : List ℕ) : Type 0 where
+  pub gates : getD ws 0 0 ≤ 64
+  pub constants : getD ws 1 0 ≤ 64
+  pub inputs : getD ws 2 0 ≤ 640
+  pub calls : getD ws 3 0 ≤ 256
+  pub counted : length ws ≡ 4 + 2 * (getD ws 0 0 + getD ws 1 0 + getD ws 2 0 + getD ws 3 0)
+
+seven : (a b c d e f g : Bool) → (a && b && c && d && e && f && g) ≡ true → (c ≡ true) × (d ≡ true) × (e ≡ true) × (f ≡ true) × (g ≡ true)
+seven false b c d e f g h = absurd (true≢false (sym h))
+seven true false c d e f g h = absurd (true≢false (sym h))
+seven true true false d e f g h = absurd (true≢false (sym h))
+seven true true true false e f g h = absurd (true≢false (sym h))
+seven true true true true false f g h = absurd (true≢false (sym h))
+seven true true true true true false g h = absurd (true≢false (sym h))
+seven true true true true true true g h = (refl, refl, refl, refl, h)
+
+most : (low high w : ℕ) → within low high w ≡ true → w ≤ high
+unfolding within
+most low high w h = leb-true w high (both-true (leb low w) (leb w high) h .1)
+
+pub sizes : (bytes ws : List ℕ) → question-1 bytes ws ≡ true → Sizes ws
+unfolding question-1 word-at
+sizes bytes ws q =
+    let s =
+    seven (eqb (length bytes % 8) 0) (leb 4 (length ws)) (within 1 64 (getD ws 0 0)) (within 0 64 (getD ws 1 0)) (within 0 640 (getD ws 2 0)) (within 0 256 (getD ws 3 0))
+    (eqb (length ws) (4 + 2 * (getD ws 0 0 + getD ws 1 0 + getD ws 2 0 + getD ws 3 0))) q in
+    record {
+      gates = most 1 64 (getD ws 0 0) (s .0);
+      constants = most 0 64 (getD ws 1 0) (s .1);
+      inputs = most 0 640 (getD ws 2 0) (s .2);
+      calls = most 0 256 (getD ws 3 0) (s .3);
+      counted = eqb-true (length ws) (4 + 2 * (getD ws 0 0 + getD ws 1 0 + getD ws 2 0 + getD ws 3 0)) (s .4);
+    }
+
+-- ---- the tests of kinds, as ranges
+
+time-within : (k : ℕ) → time-source k ≡ within 3 4 k
+unfolding time-source
+time-within k = two-kinds 3 k
+
+receive-within : (k : ℕ) → receiving k ≡ within 26 27 k
+unfolding receiving
+receive-within k = two-kinds 26 k
+
+buffer-within : (k : ℕ) → buffering k ≡ (within 10 13 k || within 16 17 k)
+unfolding buffering within
+buffer-within k = refl
+
+-- ---- the lists of a circuit, by their elements
+
+module _ (ws : List ℕ) (z : Sizes ws) where
+  abbrev G : ℕ
+  G = getD ws 0 0
+
+  abbrev K : ℕ
+  K = getD ws 1 0
+
+  abbrev I : ℕ
+  I = getD ws 2 0
+
+  abbrev C : ℕ
+  C = getD ws 3 0
+
+  abbrev kinds : ℕ
+  kinds = 4 + 2 * K
+
+  abbrev sources : ℕ
+  sources = kinds + 2 * G
+
+  abbrev callers : ℕ
+  callers = sources + 2 * I
+
+  abbrev O : ℕ
+  O = below (outs-at ws kinds) G
+
+  kinds-are : circuit ws .kinds ≡ listed G (λ g. getD ws (kinds + g) 0)
+  unfolding circuit word-at
+  kinds-are = part-listed ws kinds G (omega (arith, z .counted))
+
+  ranks-are : circuit ws .ranks ≡ listed G (λ g. getD ws (kinds + G + g) 0)
+  unfolding circuit word-at
+  ranks-are = part-listed ws (kinds + G) G (omega (arith, z .counted))
+
+  sources-are : circuit ws .sources ≡ listed I (λ i. source-of (getD ws (sources + i) 0))
+  unfolding circuit word-at
+  sources-are =
+      ap (λ (r : List ℕ). map source-of r) (part-listed ws sources I (omega (arith, z .counted))) ∙ map-listed source-of I (λ i. getD ws (sources + i) 0)
+
+  outputs-are : length (circuit ws .outputs) ≡ O
+  unfolding circuit word-at outs-at
+  outputs-are =
+      ap (λ (r : List ℕ). length (joined (map (λ k. kind-at k .outs) r))) kinds-are
+      ∙ ap (λ (r : List (List Out)). length (joined r)) (map-listed (λ k. kind-at k .outs) G (λ g. getD ws (kinds + g) 0))
+      ∙ joined-length G (λ g. kind-at (getD ws (kinds + g) 0) .outs)
+
+  abbrev constant-kind : ℕ → ℕ
+  constant-kind k = getD ws (4 + k) 0
+
+  abbrev constant-content : ℕ → ℕ
+  constant-content k = getD ws (4 + K + k) 0
+
+  constants-are : circuit ws .constants ≡ Nothing ∷ both value-of (listed K constant-kind) (listed K constant-content)
+  unfolding circuit word-at
+  constants-are =
+      λ j. Nothing ∷ both value-of (part-listed ws 4 K (omega (arith, z .counted)) j) (part-listed ws (4 + K) K (omega (arith, z .counted)) j)
+
+  stored-are : circuit ws .stored ≡ map (λ k. getD (Nothing ∷ both value-of (listed K constant-kind) (listed K constant-content)) k Nothing) (listed I (λ i. getD ws (sources + I + i) 0))
+  unfolding circuit word-at
+  stored-are = λ j. map (λ k. getD (constants-are j) k Nothing) (part-listed ws (sources + I) I (omega (arith, z .counted)) j)
+
+  readers-are : circuit ws .readers ≡ listed O (members (λ i. getD ws (sources + i) 0) I)
+  unfolding circuit word-at
+  readers-are =
+      let o : O ≤ 9 * G = outs-below ws kinds G O refl in
+      ap (λ (n : ℕ). map (λ o. keep (reads o (circuit ws .sources)) (from 0 I)) (from 0 n)) outputs-are
+      ∙ reader-lists I O (λ i. getD ws (sources + i) 0) (circuit ws .sources) (omega (arith, z .gates)) sources-are
+
+  abbrev caller : ℕ → ℕ
+  caller i = getD ws (callers + i) 0
+
+  abbrev target : ℕ → ℕ
+  target i = getD ws (callers + C + i) 0
+
+  calls-are : circuit ws .calls ≡ listed O (λ o. map (call-at target) (members caller C o))
+  unfolding circuit word-at
+  calls-are =
+      let e : both listed-call (part ws callers C) (part ws (callers + C) C) ≡ listed C (λ i. listed-call (caller i) (target i))
+      = (λ j. both listed-call (part-listed ws callers C (omega (arith, z .counted)) j) (part-listed ws (callers + C) C (omega (arith, z .counted)) j))
+      ∙ both-listed listed-call C caller target in
+      ap (λ (n : ℕ). map (λ o. calls-from o (both listed-call (part ws callers C) (part ws (callers + C) C))) (from 0 n)) outputs-are
+      ∙ call-lists C O caller target (both listed-call (part ws callers C) (part ws (callers + C) C)) e
+
+  -- ---- the tables that ask no more than the sizes
+
+  gates-table : gate-cells (circuit ws .kinds) (circuit ws .ranks) (circuit ws .first-input) (circuit ws .first-output) ≡ listed G (gate-cell ws kinds G)
+  unfolding circuit
+  gates-table = gate-table ws kinds G (circuit ws .kinds) (circuit ws .ranks) kinds-are ranks-are
+
+  outputs-table : circuit ws .gate-of-output ≡ joined (listed G (output-cells ws kinds))
+  unfolding circuit
+  outputs-table = output-table ws kinds G (circuit ws .kinds) kinds-are
+
+  sources-table : map source-cell (circuit ws .sources) ≡ listed I (λ i. getD ws (sources + i) 0)
+  unfolding circuit word-at
+  sources-table =
+      ap (λ (r : List ℕ). map source-cell (map source-of r)) (part-listed ws sources I (omega (arith, z .counted))) ∙ source-table I (λ i. getD ws (sources + i) 0)
+
+  rows-table : row-cells (circuit ws .readers) (circuit ws .calls)
+      ≡ listed O (row-of (λ o. length (members (λ i. getD ws (sources + i) 0) I o)) (λ o. length (members caller C o)))
+  unfolding row-cells
+  rows-table =
+      (λ j. row-cells (readers-are j) (calls-are j))
+      ∙ row-table O (members (λ i. getD ws (sources + i) 0) I) (λ o. map (call-at target) (members caller C o))
+      (λ o. length (members (λ i. getD ws (sources + i) 0) I o)) (λ o. length (members caller C o)) (λ o. refl) (λ o. length-map (members caller C o) (call-at target))
+
+  calls-table : map call-cell (joined (circuit ws .calls)) ≡ joined (listed O (λ o. map target (members caller C o)))
+  calls-table = ap (λ (r : List (List Call)). map call-cell (joined r)) calls-are ∙ call-table C O caller target
+
+  -- ---- those of values: each constant is good
+
+  module _ (good : (k : ℕ) → k < K → good-constant (constant-kind k) (constant-content k) ≡ true) where
+    constant-kinds-table : map kind-of (named (circuit ws .constants)) ≡ listed K constant-kind
+    unfolding named kind-of
+    constant-kinds-table =
+        ap (λ (r : List Value). map kind-of (named r)) constants-are
+        ∙ constant-table K constant-kind constant-content kind-of refl constant-kind (λ k l. kind-back (constant-kind k) (constant-content k) (good k l))
+
+    constant-contents-table : map content-of (named (circuit ws .constants)) ≡ listed K constant-content
+    unfolding named content-of
+    constant-contents-table =
+        ap (λ (r : List Value). map content-of (named r)) constants-are
+        ∙ constant-table K constant-kind constant-content content-of refl constant-content (λ k l. content-back (constant-kind k) (constant-content k) (good k l))
+
+    stored-kinds-table : map kind-of (circuit ws .stored) ≡ listed I (λ i. named-word ws 4 K (getD ws (sources + I + i) 0))
+    unfolding kind-of
+    stored-kinds-table =
+        ap (λ (r : List Value). map kind-of r) stored-are
+        ∙ stored-table K constant-kind constant-content kind-of refl constant-kind (λ k l. kind-back (constant-kind k) (constant-content k) (good k l)) ws 4 (λ k. refl) I (λ i. getD ws (sources + I + i) 0)
+
+    stored-contents-table : map content-of (circuit ws .stored) ≡ listed I (λ i. named-word ws (4 + K) K (getD ws (sources + I + i) 0))
+    unfolding content-of
+    stored-contents-table =
+        ap (λ (r : List Value). map content-of r) stored-are
+        ∙ stored-table K constant-kind constant-content content-of refl constant-content (λ k l. content-back (constant-kind k) (constant-content k) (good k l)) ws (4 + K) (λ k. refl) I (λ i. getD ws (sources + I + i) 0)
+
+  -- ---- those of inputs: there are as many as the gates have
+
+  module _ (full : length (circuit ws .pins) ≡ I) where
+    inputs-table : both (λ g w. packed g (bit w) 0 0) (circuit ws .gate-of-input) (circuit ws .watched) ≡ joined (listed G (input-cells ws kinds sources))
+    unfolding circuit
+    inputs-table = input-table ws kinds G sources I (circuit ws .kinds) (circuit ws .sources) kinds-are sources-are full
+
+    counts-table : count-cells (circuit ws) ≡ G ∷ K ∷ I ∷ O ∷ word-cells ws kinds G
+    unfolding circuit count-cells word-cells named
+    counts-table =
+        let ks = circuit ws .kinds in
+        let a : length ks ≡ G = ap (λ (r : List ℕ). length r) kinds-are ∙ listed-length G (λ g. getD ws (kinds + g) 0) in
+        let b : length (named (circuit ws .constants)) ≡ K
+        = ap (λ (r : List Value). length (named r)) constants-are
+        ∙ ap (λ (r : List Value). length r) (both-listed value-of K constant-kind constant-content) ∙ listed-length K (λ k. value-of (constant-kind k) (constant-content k)) in
+        let t = word-within ws kinds G ks kinds-are time-source 3 4 time-within in
+        let u = word-within-two ws kinds G ks kinds-are buffering 10 13 16 17 (omega arith) buffer-within in
+        let v = word-within ws kinds G ks kinds-are (λ k. eqb k 14) 14 14 (one-kind 14) in
+        let w = word-within ws kinds G ks kinds-are (λ k. eqb k 15) 15 15 (one-kind 15) in
+        let x = word-within ws kinds G ks kinds-are receiving 26 27 receive-within in
+        λ j. a j ∷ b j ∷ full j ∷ outputs-are j ∷ t j ∷ u j ∷ v j ∷ w j ∷ x j ∷ []
+
+  -- ---- how long the tables are that are made part after part
+
+  outputs-length : length (joined (listed G (output-cells ws kinds))) ≤ 576
+  outputs-length =
+      let e = below-same (λ g. length (output-cells ws kinds g)) (outs-at ws kinds) G (λ g l. sym (outputs-size ws kinds g (outs-at ws kinds g) refl)) in
+      let o = outs-below ws kinds G O refl in
+      omega (arith, z .gates, joined-length G (output-cells ws kinds))
+
+  inputs-length : length (joined (listed G (input-cells ws kinds sources))) ≤ 640
+  inputs-length =
+      let e = below-same (λ g. length (input-cells ws kinds sources g)) (ins-at ws kinds) G (λ g l. sym (inputs-size ws kinds sources g (ins-at ws kinds g) refl)) in
+      let i = ins-below ws kinds G (below (ins-at ws kinds) G) refl in
+      omega (arith, z .gates, joined-length G (input-cells ws kinds sources))
+
+  readers-length : length (joined (listed O (members (λ i. getD ws (sources + i) 0) I))) ≤ 640
+  readers-length =
+      omega (arith, z .inputs, joined-length O (members (λ i. getD ws (sources + i) 0) I), members-most (λ i. getD ws (sources + i) 0) I O)
+
+  calls-length : length (joined (listed O (λ o. map target (members caller C o)))) ≤ 256
+  calls-length =
+      let e = below-same (λ o. length (map target (members caller C o))) (λ o. length (members caller C o)) O (λ o l. length-map (members caller C o) target) in
+      omega (arith, z .calls, joined-length O (λ o. map target (members caller C o)), members-most caller C O)
+
+  -- ---- all tables, one after the other
+
+  module _ (good : (k : ℕ) → k < K → good-constant (constant-kind k) (constant-content k) ≡ true) (full : length (circuit ws .pins) ≡ I) (l : List ℕ) (long : length l ≡ 4816) where
+    all-tables : all-written ws G K I C l ≡ cells (circuit ws)
+    unfolding all-written constants-written lists-written inputs-written gates-written word-cells sum tables cells joined both
+    all-tables =
+        let readers : ℕ → List ℕ = members (λ i. getD ws (sources + i) 0) I in
+        let made : ℕ → List ℕ = members caller C in
+        let name : ℕ → ℕ = λ i. getD ws (sources + I + i) 0 in
+        let row : ℕ → ℕ = row-of (λ o. length (readers o)) (λ o. length (made o)) in
+        let o : O ≤ 9 * G = outs-below ws kinds G O refl in
+        let h = cleared table-sizes l (written l 0 total (λ k. 0)) long refl in
+        let h = table-put table-sizes _ 0 (G ∷ K ∷ I ∷ O ∷ word-cells ws kinds G) _ _ (omega arith) refl (omega arith) refl h in
+        let h = table-put table-sizes _ 1 (listed G (gate-cell ws kinds G)) _ _ (omega arith) refl (omega (arith, z .gates, listed-length G (gate-cell ws kinds G))) refl h in
+        let h = table-put table-sizes _ 6 (joined (listed G (output-cells ws kinds))) _ _ (omega arith) refl outputs-length refl h in
+        let h = table-put table-sizes _ 2 (listed I (λ i. getD ws (sources + i) 0)) _ _ (omega arith) refl (omega (arith, z .inputs, listed-length I (λ i. getD ws (sources + i) 0))) refl h in
+        let h = table-put table-sizes _ 3 (listed I (λ i. named-word ws 4 K (name i))) _ _ (omega arith) refl (omega (arith, z .inputs, listed-length I (λ i. named-word ws 4 K (name i)))) refl h in
+        let h = table-put table-sizes _ 4 (listed I (λ i. named-word ws (4 + K) K (name i))) _ _ (omega arith) refl (omega (arith, z .inputs, listed-length I (λ i. named-word ws (4 + K) K (name i)))) refl h in
+        let h = table-put table-sizes _ 5 (joined (listed G (input-cells ws kinds sources))) _ _ (omega arith) refl inputs-length refl h in
+        let h = table-put table-sizes _ 8 (joined (listed O readers)) _ _ (omega arith) refl readers-length refl h in
+        let h = table-put table-sizes _ 9 (joined (listed O (λ o. map target (made o)))) _ _ (omega arith) refl calls-length refl h in
+        let h = table-put table-sizes _ 7 (listed O row) _ _ (omega arith) refl (omega (arith, z .gates, listed-length O row)) refl h in
+        let h = table-put table-sizes _ 10 (listed K constant-kind) _ _ (omega arith) refl (omega (arith, z .constants, listed-length K constant-kind)) refl h in
+        let h = table-put table-sizes _ 11 (listed K constant-content) _ _ (omega arith) refl (omega (arith, z .constants, listed-length K constant-content)) refl h in
+        h .cells
+        ∙ sym
+        (λ j. joined (
+        table-of 16 (counts-table full j)
+        ∷ table-of 64 (gates-table j)
+        ∷ table-of 640 (sources-table j)
+        ∷ table-of 640 (stored-kinds-table good j)
+        ∷ table-of 640 (stored-contents-table good j)
+        ∷ table-of 640 (inputs-table full j)
+        ∷ table-of 576 (outputs-table j)
+        ∷ table-of 576 (rows-table j)
+        ∷ table-of 640 (joined (readers-are j))
+        ∷ table-of 256 (calls-table j)
+        ∷ table-of 64 (constant-kinds-table good j)
+        ∷ table-of 64 (constant-contents-table good j)
+        ∷ []))
+
+-- ---- where questions 1 to 3 are answered yes
+
+each-most : (n low high d : ℕ) (f : ℕ → ℕ) (xs : List ℕ) → xs ≡ listed n f → all (within low high) xs ≡ true → within low high d ≡ true → (i : ℕ) → i < n → f i ≤ high
+each-most n low high d f xs e h s i l =
+    most low high (f i)
+    (ap (λ (x : ℕ). within low high x) (sym (listed-get n f i d l)) ∙ all-get (within low high) (listed n f) i d (ap (λ (r : List ℕ). all (within low high) r) (sym e) ∙ h) s)
+
+module _ (bytes ws : List ℕ) (q₁ : question-1 bytes ws ≡ true) (q₃ : question-3 ws (circuit ws) ≡ true) where
+  -- kinds and ranks are below 65,536
+  pub small : (g k : ℕ) → g ≡ getD ws 0 0 → k ≡ getD ws 1 0 → Small ws (4 + 2 * k) (2 * g)
+  unfolding question-3 within
+  small g k eg ek i h = rw ek (go (ltb i (getD ws 0 0)) refl)
+    where
+      z : Sizes ws
+      z = sizes bytes ws q₁
+
+      p : (all (within 1 28) (circuit ws .kinds) ≡ true) × (all (within 0 65535) (circuit ws .ranks) ≡ true)
+      p =
+          both-true (all (within 1 28) (circuit ws .kinds)) (all (within 0 65535) (circuit ws .ranks))
+          (both-true (all (within 1 28) (circuit ws .kinds) && all (within 0 65535) (circuit ws .ranks)) _ q₃ .0)
+
+      go : (b : Bool) → ltb i (getD ws 0 0) ≡ b → getD ws (4 + 2 * getD ws 1 0 + i) 0 < 65536
+      go true e =
+          let l = ltb-true i (getD ws 0 0) e in
+          let m = each-most (G ws z) 1 28 1 (λ g. getD ws (kinds ws z + g) 0) (circuit ws .kinds) (kinds-are ws z) (p .0) refl i l in
+          omega arith
+      go false e =
+          let l = ltb-false i (getD ws 0 0) e in
+          let j : ℕ = i - getD ws 0 0 in
+          let a : 4 + 2 * getD ws 1 0 + getD ws 0 0 + j ≡ 4 + 2 * getD ws 1 0 + i = omega arith in
+          let m = each-most (G ws z) 0 65535 0 (λ g. getD ws (kinds ws z + G ws z + g) 0) (circuit ws .ranks) (ranks-are ws z) (p .1) refl j (omega arith) in
+          let n : getD ws (4 + 2 * getD ws 1 0 + i) 0 ≤ 65535 = rw a at m in
+          omega arith
+
+  -- what the builder writes is `cells` of the circuit
+  pub built : (l l₁ : List ℕ) (g k i n : ℕ) → question-2 ws ≡ true → length l ≡ 4816 → g ≡ getD ws 0 0 → k ≡ getD ws 1 0 → i ≡ getD ws 2 0 → n ≡ getD ws 3 0 →
+      l₁ ≡ all-written ws g k i n l → l₁ ≡ cells (circuit ws)
+  unfolding question-2 yes-all word-at
+  built l l₁ g k i n q₂ long eg ek ei en e =
+      let z = sizes bytes ws q₁ in
+      let f = filled bytes ws q₁ q₃ in
+      let full : length (circuit ws .pins) ≡ getD ws 2 0
+      = sym (f .sources) ∙ ap (λ (r : List (Option ℕ)). length r) (sources-are ws z) ∙ listed-length (getD ws 2 0) (λ i. source-of (getD ws (sources ws z + i) 0)) in
+      let t : ℕ → Bool = λ j. good-constant (constant-kind ws z j) (constant-content ws z j) in
+      let bs : both good-constant (part ws 4 (getD ws 1 0)) (part ws (4 + getD ws 1 0) (getD ws 1 0)) ≡ listed (getD ws 1 0) t
+      = (λ j. both good-constant (part-listed ws 4 (getD ws 1 0) (omega (arith, z .counted)) j) (part-listed ws (4 + getD ws 1 0) (getD ws 1 0) (omega (arith, z .counted)) j))
+      ∙ both-listed good-constant (getD ws 1 0) (constant-kind ws z) (constant-content ws z) in
+      let good : (j : ℕ) → j < getD ws 1 0 → t j ≡ true
+      = λ j h. sym (listed-get (getD ws 1 0) t j true h)
+      ∙ all-get (λ b. b) (listed (getD ws 1 0) t) j true (ap (λ (r : List Bool). all (λ b. b) r) (sym bs) ∙ q₂) refl in
+      e ∙ (λ j. all-written ws (eg j) (ek j) (ei j) (en j) l) ∙ all-tables ws z good full l long

@@ -1,0 +1,536 @@
+-- The links that are written for a circuit show that circuit again: `net-cells`.
+use Prim.Native.Nat.{ℕ, zero, suc, _+_, _-_, _*_, _/_, _%_, _≤_, _<_, min}
+use mathlib.Core.Path.{_≡_, refl, sym, ap, ap₂, _∙_}
+use mathlib.Core.Bool.{Bool, true, false, true≢false, _&&_}
+use mathlib.Core.List.{List, [], _∷_, map}
+use mathlib.Core.Option.{Option, none, some}
+use native.Mathlib.Nat.{zero-add}
+use native.Mathlib.Omega.{arith}
+use lib.Dec.{eqb, leb}
+use lib.ListN.{length, getD, drop, length-take, length-map, List·getD-map}
+use borrow.Author.Tests.{eqb-true, leb-true}
+use Rattle.words.specs.Words.{words}
+use Rattle.model.specs.declared.Value.the-variants.{Nothing}
+use Rattle.model.specs.Base.{if_then_else_, keep, all, joined, both, from, sum, starts}
+use Rattle.model.specs.Value.{value-of, kind-of, content-of, bit}
+use Rattle.model.specs.Kinds.{value, fires, kind, table, kind-at, time-source, buffering, receiving}
+use Rattle.model.specs.Circuit.{Call, Circuit, circuit, part, word-at, minus-one, source-of, reads, listed-call, calls-from, gates-such, kind-of-gate, input, output, gate-at-input, gate-at-output}
+use Rattle.model.specs.Questions.{within, question-1, question-3}
+use Rattle.model.proofs.Lists.{both-true, bit-most, from-length}
+use Rattle.model.proofs.Laid.{Laid, laid, Full, filled}
+use Rattle.values.proofs.Laws.{made-again}
+use Rattle.links.specs.Links.{gates-at, sources-at, stored-kinds-at, stored-contents-at, inputs-at, outputs-at, rows-at, readers-at, calls-at, constant-kinds-at, constant-contents-at, packed, digit, word-of-gates, gates-of-word, source-cell, call-cell, gate-cells, row-cells, named, count-cells, cells, listed, call-of, cell, gate-digit, input-digit, row-digit, kind-in, net}
+use Rattle.links.proofs.Tables.{listed-is, both-at, both-length, both-most, map-at, base, Room, [·], _∷·_, table-read, digit-0, digit-1, Small, gate-cells-length, Four, four, rows-read, starts-length, sum-lengths, starts-small, counts-small, sizes-of, firsts-small, by-owner, bit-read, word-read, shares, joined-map}
+
+-- ---- what makes a circuit come back: no table is overfull, and each digit is below 65,536
+
+-- each place belongs to a part, of which it is the element that its distance from the part's first place tells
+abbrev Placed : {A : Type 0} → (ℕ → List A) → A → List ℕ → List ℕ → List ℕ → List A → Type 0
+Placed f d ks owners firsts xs =
+    (i : ℕ) → i < length xs →
+    (getD owners i 0 < length ks) × (getD (f (getD ks (getD owners i 0) 0)) (i - getD firsts (getD owners i 0) 0) d ≡ getD xs i d)
+
+-- the facts of a circuit that its links show it again by
+pub record Fitting (c : Circuit) : Type 0 where
+  pub gates : length (c .kinds) ≤ 64
+  pub constants : c .constants ≡ Nothing ∷ named (c .constants)
+  pub names : length (named (c .constants)) ≤ 64
+  pub inputs : length (c .pins) ≤ 640
+  pub outputs : length (c .outputs) ≤ 576
+  pub kinds : Small (c .kinds)
+  pub ranks : Small (c .ranks)
+  pub first-inputs : Small (c .first-input)
+  pub first-outputs : Small (c .first-output)
+  pub pins : Placed (λ k. kind-at k .ins) value (c .kinds) (c .gate-of-input) (c .first-input) (c .pins)
+  pub outs : Placed (λ k. kind-at k .outs) fires (c .kinds) (c .gate-of-output) (c .first-output) (c .outputs)
+  pub sources : (i : ℕ) → source-of (source-cell (getD (c .sources) i none)) ≡ getD (c .sources) i none
+  pub readers : length (joined (c .readers)) ≤ 640
+  pub calls : length (joined (c .calls)) ≤ 256
+  pub time-sources : gates-of-word (word-of-gates (c .time-sources)) ≡ c .time-sources
+  pub buffers : gates-of-word (word-of-gates (c .buffers)) ≡ c .buffers
+  pub clocks : gates-of-word (word-of-gates (c .clocks)) ≡ c .clocks
+  pub stopwatches : gates-of-word (word-of-gates (c .stopwatches)) ≡ c .stopwatches
+  pub receivers : gates-of-word (word-of-gates (c .receivers)) ≡ c .receivers
+
+-- a call and its cell
+call-again : (k : Call) → call-of (call-cell k) ≡ k
+unfolding call-cell
+call-again k =
+    let t : (2 * k .to + bit (k .remote)) / 2 ≡ k .to = omega (arith, bit-most (k .remote)) in
+    let r : (2 * k .to + bit (k .remote)) % 2 ≡ bit (k .remote) = omega (arith, bit-most (k .remote)) in
+    λ j. record { to = t j; remote = (ap (λ x. eqb x 1) r ∙ bit-read (k .remote)) j }
+
+at-most : {a b n : ℕ} → a ≡ b → b ≤ n → a ≤ n
+at-most e h = omega arith
+
+-- ---- table by table
+
+-- the sizes of the tables
+sizes : List ℕ
+sizes = 16 ∷ 64 ∷ 640 ∷ 640 ∷ 640 ∷ 640 ∷ 576 ∷ 576 ∷ 640 ∷ 256 ∷ 64 ∷ 64 ∷ []
+
+-- of a circuit whose lists have the lengths that belong to them, and that fits
+module _ (c : Circuit) (L : Laid c) (F : Full c) (T : Fitting c) where
+  -- how many readers and how many calls each output has
+  reader-counts : List ℕ
+  reader-counts = map (λ r. length r) (c .readers)
+
+  call-counts : List ℕ
+  call-counts = map (λ k. length k) (c .calls)
+
+  -- what is written into each table
+  tables : List (List ℕ)
+  tables =
+      count-cells c
+      ∷ gate-cells (c .kinds) (c .ranks) (c .first-input) (c .first-output)
+      ∷ map source-cell (c .sources)
+      ∷ map kind-of (c .stored)
+      ∷ map content-of (c .stored)
+      ∷ both (λ g w. packed g (bit w) 0 0) (c .gate-of-input) (c .watched)
+      ∷ c .gate-of-output
+      ∷ row-cells (c .readers) (c .calls)
+      ∷ joined (c .readers)
+      ∷ map call-cell (joined (c .calls))
+      ∷ map kind-of (named (c .constants))
+      ∷ map content-of (named (c .constants))
+      ∷ []
+
+  reader-counts-length : length reader-counts ≡ length (c .outputs)
+  unfolding reader-counts
+  reader-counts-length = length-map (c .readers) (λ r. length r) ∙ L .readers
+
+  call-counts-length : length call-counts ≡ length (c .outputs)
+  unfolding call-counts
+  call-counts-length = length-map (c .calls) (λ k. length k) ∙ L .calls
+
+  reader-starts-length : length (starts 0 reader-counts) ≡ length (c .outputs)
+  reader-starts-length = starts-length 0 reader-counts ∙ reader-counts-length
+
+  call-starts-length : length (starts 0 call-counts) ≡ length (c .outputs)
+  call-starts-length = starts-length 0 call-counts ∙ call-counts-length
+
+  rows-length : length (row-cells (c .readers) (c .calls)) ≡ length (c .outputs)
+  unfolding row-cells reader-counts call-counts
+  rows-length =
+      gate-cells-length (starts 0 reader-counts) reader-counts (starts 0 call-counts) call-counts (reader-counts-length ∙ sym reader-starts-length)
+      (call-starts-length ∙ sym reader-starts-length) (call-counts-length ∙ sym reader-starts-length)
+      ∙ reader-starts-length
+
+  inputs-length : length (both (λ g w. packed g (bit w) 0 0) (c .gate-of-input) (c .watched)) ≡ length (c .pins)
+  inputs-length = both-length (λ g w. packed g (bit w) 0 0) (c .gate-of-input) (c .watched) (F .watched ∙ sym (L .gates-of-inputs)) ∙ L .gates-of-inputs
+
+  gates-length : length (gate-cells (c .kinds) (c .ranks) (c .first-input) (c .first-output)) ≡ length (c .kinds)
+  gates-length = gate-cells-length (c .kinds) (c .ranks) (c .first-input) (c .first-output) (F .ranks) (L .first-inputs) (L .first-outputs)
+
+  few-counts : length (count-cells c) ≤ 16
+  unfolding count-cells
+  few-counts = omega arith
+
+  room : Room sizes tables
+  unfolding sizes tables
+  room =
+      few-counts
+      ∷· at-most gates-length (T .gates)
+      ∷· at-most (length-map (c .sources) source-cell ∙ F .sources) (T .inputs)
+      ∷· at-most (length-map (c .stored) kind-of ∙ F .stored) (T .inputs)
+      ∷· at-most (length-map (c .stored) content-of ∙ F .stored) (T .inputs)
+      ∷· at-most inputs-length (T .inputs)
+      ∷· at-most (L .gates-of-outputs) (T .outputs)
+      ∷· at-most rows-length (T .outputs)
+      ∷· T .readers
+      ∷· at-most (length-map (joined (c .calls)) call-cell) (T .calls)
+      ∷· at-most (length-map (named (c .constants)) kind-of) (T .names)
+      ∷· at-most (length-map (named (c .constants)) content-of) (T .names)
+      ∷· [·]
+
+  -- cell i of table t
+  known : (t i : ℕ) → i < getD sizes t 0 → cell (cells c) (base sizes t + i) ≡ getD (getD tables t []) i 0
+  unfolding cells sizes tables both
+  known t i h = table-read room t i h
+
+  -- the counts
+  gate-count : min (cell (cells c) 0) 64 ≡ length (c .kinds)
+  unfolding sizes tables count-cells
+  gate-count = omega (arith, known 0 0 (omega arith), T .gates)
+
+  name-count : min (cell (cells c) 1) 64 ≡ length (named (c .constants))
+  unfolding sizes tables count-cells
+  name-count = omega (arith, known 0 1 (omega arith), T .names)
+
+  input-count : min (cell (cells c) 2) 640 ≡ length (c .pins)
+  unfolding sizes tables count-cells
+  input-count = omega (arith, known 0 2 (omega arith), T .inputs)
+
+  output-count : min (cell (cells c) 3) 576 ≡ length (c .outputs)
+  unfolding sizes tables count-cells
+  output-count = omega (arith, known 0 3 (omega arith), T .outputs)
+
+  -- a word of gates
+  word-back :
+      (n : ℕ) (gs : List ℕ) → n < 16 → getD (count-cells c) n 0 ≡ word-of-gates gs → gates-of-word (word-of-gates gs) ≡ gs →
+      gates-of-word (cell (cells c) n) ≡ gs
+  unfolding sizes tables
+  word-back n gs h e b = ap gates-of-word (sym (ap (cell (cells c)) (zero-add n)) ∙ known 0 n h ∙ e) ∙ b
+
+  -- the gates
+  gate-known : (g : ℕ) → g < length (c .kinds) → cell (cells c) (gates-at + g) ≡ getD (gate-cells (c .kinds) (c .ranks) (c .first-input) (c .first-output)) g 0
+  unfolding sizes tables
+  gate-known g h = known 1 g (omega (arith, T .gates))
+
+  gates-back : Four (λ g. cell (cells c) (gates-at + g)) (c .kinds) (c .ranks) (c .first-input) (c .first-output)
+  gates-back =
+      four (c .kinds) (c .ranks) (c .first-input) (c .first-output) (F .ranks) (L .first-inputs) (L .first-outputs) (λ g. cell (cells c) (gates-at + g)) gate-known
+      (T .kinds) (T .ranks) (T .first-inputs) (T .first-outputs)
+
+  kinds-back : listed (min (cell (cells c) 0) 64) (gate-digit (cells c) 0) ≡ c .kinds
+  unfolding gate-digit
+  kinds-back = listed-is 0 _ _ (c .kinds) gate-count (gates-back .first)
+
+  ranks-back : listed (min (cell (cells c) 0) 64) (gate-digit (cells c) 1) ≡ c .ranks
+  unfolding gate-digit
+  ranks-back = listed-is 0 _ _ (c .ranks) (gate-count ∙ sym (F .ranks)) (λ g h. gates-back .second g (omega (arith, F .ranks)))
+
+  first-input-back : listed (min (cell (cells c) 0) 64) (gate-digit (cells c) 2) ≡ c .first-input
+  unfolding gate-digit
+  first-input-back = listed-is 0 _ _ (c .first-input) (gate-count ∙ sym (L .first-inputs)) (λ g h. gates-back .third g (omega (arith, L .first-inputs)))
+
+  first-output-back : listed (min (cell (cells c) 0) 64) (gate-digit (cells c) 3) ≡ c .first-output
+  unfolding gate-digit
+  first-output-back = listed-is 0 _ _ (c .first-output) (gate-count ∙ sym (L .first-outputs)) (λ g h. gates-back .fourth g (omega (arith, L .first-outputs)))
+
+  -- the inputs
+  input-known : (i : ℕ) → i < length (c .pins) → cell (cells c) (inputs-at + i) ≡ packed (getD (c .gate-of-input) i 0) (bit (getD (c .watched) i false)) 0 0
+  unfolding sizes tables
+  input-known i h =
+      known 5 i (omega (arith, T .inputs))
+      ∙ both-at (λ g w. packed g (bit w) 0 0) (c .gate-of-input) (c .watched) i 0 false 0 (omega (arith, L .gates-of-inputs)) (omega (arith, F .watched))
+
+  input-gate : (i : ℕ) → i < length (c .pins) → input-digit (cells c) 0 i ≡ getD (c .gate-of-input) i 0
+  unfolding input-digit
+  input-gate i h =
+      ap (digit 0) (input-known i h)
+      ∙ digit-0 (getD (c .gate-of-input) i 0) (bit (getD (c .watched) i false)) 0 0 (omega (arith, T .pins i h .0, T .gates))
+      (omega (arith, bit-most (getD (c .watched) i false))) (omega arith) (omega arith)
+
+  input-mark : (i : ℕ) → i < length (c .pins) → input-digit (cells c) 1 i ≡ bit (getD (c .watched) i false)
+  unfolding input-digit
+  input-mark i h =
+      ap (digit 1) (input-known i h)
+      ∙ digit-1 (getD (c .gate-of-input) i 0) (bit (getD (c .watched) i false)) 0 0 (omega (arith, T .pins i h .0, T .gates))
+      (omega (arith, bit-most (getD (c .watched) i false))) (omega arith) (omega arith)
+
+  gate-of-input-back : listed (min (cell (cells c) 2) 640) (input-digit (cells c) 0) ≡ c .gate-of-input
+  gate-of-input-back = listed-is 0 _ _ (c .gate-of-input) (input-count ∙ sym (L .gates-of-inputs)) (λ i h. input-gate i (omega (arith, L .gates-of-inputs)))
+
+  watched-back : listed (min (cell (cells c) 2) 640) (λ i. eqb (input-digit (cells c) 1 i) 1) ≡ c .watched
+  watched-back =
+      listed-is false _ _ (c .watched) (input-count ∙ sym (F .watched))
+      (λ i h. ap (λ x. eqb x 1) (input-mark i (omega (arith, F .watched))) ∙ bit-read (getD (c .watched) i false))
+
+  pins-back :
+      listed (min (cell (cells c) 2) 640)
+      (λ i. getD (kind-in (cells c) (input-digit (cells c) 0 i) .ins) (i - gate-digit (cells c) 2 (input-digit (cells c) 0 i)) value)
+      ≡ c .pins
+  unfolding kind-in gate-digit
+  pins-back =
+      listed-is value _ _ (c .pins) input-count
+      (λ i h.
+      let p = T .pins i h in
+      ap (λ g. getD (kind-in (cells c) g .ins) (i - gate-digit (cells c) 2 g) value) (input-gate i h)
+      ∙ ap₂ (λ k n. getD (kind-at k .ins) (i - n) value) (gates-back .first _ (p .0)) (gates-back .third _ (p .0))
+      ∙ p .1)
+
+  sources-back : listed (min (cell (cells c) 2) 640) (λ i. source-of (cell (cells c) (sources-at + i))) ≡ c .sources
+  unfolding sizes tables
+  sources-back =
+      listed-is none _ _ (c .sources) (input-count ∙ sym (F .sources))
+      (λ i h.
+      ap source-of (known 2 i (omega (arith, T .inputs, F .sources)) ∙ map-at source-cell (c .sources) i none 0 h) ∙ T .sources i)
+
+  stored-back : listed (min (cell (cells c) 2) 640) (λ i. value-of (cell (cells c) (stored-kinds-at + i)) (cell (cells c) (stored-contents-at + i))) ≡ c .stored
+  unfolding sizes tables
+  stored-back =
+      listed-is Nothing _ _ (c .stored) (input-count ∙ sym (F .stored))
+      (λ i h.
+      ap₂ value-of
+      (known 3 i (omega (arith, T .inputs, F .stored)) ∙ map-at kind-of (c .stored) i Nothing 0 h)
+      (known 4 i (omega (arith, T .inputs, F .stored)) ∙ map-at content-of (c .stored) i Nothing 0 h)
+      ∙ made-again (getD (c .stored) i Nothing))
+
+  constants-back :
+      Nothing ∷ listed (min (cell (cells c) 1) 64) (λ k. value-of (cell (cells c) (constant-kinds-at + k)) (cell (cells c) (constant-contents-at + k)))
+      ≡ c .constants
+  unfolding sizes tables
+  constants-back =
+      ap (λ vs. Nothing ∷ vs)
+      (listed-is Nothing _ _ (named (c .constants)) name-count
+      (λ i h.
+      ap₂ value-of
+      (known 10 i (omega (arith, T .names)) ∙ map-at kind-of (named (c .constants)) i Nothing 0 h)
+      (known 11 i (omega (arith, T .names)) ∙ map-at content-of (named (c .constants)) i Nothing 0 h)
+      ∙ made-again (getD (named (c .constants)) i Nothing)))
+      ∙ sym (T .constants)
+
+  -- the outputs
+  output-gate : (o : ℕ) → o < length (c .outputs) → cell (cells c) (outputs-at + o) ≡ getD (c .gate-of-output) o 0
+  unfolding sizes tables
+  output-gate o h = known 6 o (omega (arith, T .outputs))
+
+  gate-of-output-back : listed (min (cell (cells c) 3) 576) (λ o. cell (cells c) (outputs-at + o)) ≡ c .gate-of-output
+  gate-of-output-back = listed-is 0 _ _ (c .gate-of-output) (output-count ∙ sym (L .gates-of-outputs)) (λ o h. output-gate o (omega (arith, L .gates-of-outputs)))
+
+  outputs-back :
+      listed (min (cell (cells c) 3) 576)
+      (λ o. getD (kind-in (cells c) (cell (cells c) (outputs-at + o)) .outs) (o - gate-digit (cells c) 3 (cell (cells c) (outputs-at + o))) fires)
+      ≡ c .outputs
+  unfolding kind-in gate-digit
+  outputs-back =
+      listed-is fires _ _ (c .outputs) output-count
+      (λ o h.
+      let p = T .outs o h in
+      ap (λ g. getD (kind-in (cells c) g .outs) (o - gate-digit (cells c) 3 g) fires) (output-gate o h)
+      ∙ ap₂ (λ k n. getD (kind-at k .outs) (o - n) fires) (gates-back .first _ (p .0)) (gates-back .fourth _ (p .0))
+      ∙ p .1)
+
+  row-known :
+      (o : ℕ) → o < length (starts 0 reader-counts) →
+      cell (cells c) (rows-at + o) ≡ getD (gate-cells (starts 0 reader-counts) reader-counts (starts 0 call-counts) call-counts) o 0
+  unfolding sizes tables row-cells reader-counts call-counts
+  row-known o h = known 7 o (omega (arith, T .outputs, reader-starts-length))
+
+  rows-back : Four (λ o. cell (cells c) (rows-at + o)) (starts 0 reader-counts) reader-counts (starts 0 call-counts) call-counts
+  unfolding reader-counts call-counts
+  rows-back =
+      let r : length (joined (c .readers)) < 65536 = omega (arith, T .readers) in
+      let k : length (joined (c .calls)) < 65536 = omega (arith, T .calls) in
+      four (starts 0 reader-counts) reader-counts (starts 0 call-counts) call-counts (reader-counts-length ∙ sym reader-starts-length)
+      (call-starts-length ∙ sym reader-starts-length) (call-counts-length ∙ sym reader-starts-length) (λ o. cell (cells c) (rows-at + o)) row-known
+      (starts-small (c .readers) r) (counts-small (c .readers) r) (starts-small (c .calls) k) (counts-small (c .calls) k)
+
+  readers-back :
+      listed (min (cell (cells c) 3) 576)
+      (λ o. listed (row-digit (cells c) 1 o) (λ k. cell (cells c) (readers-at + (row-digit (cells c) 0 o + k)))) ≡ c .readers
+  unfolding row-digit sizes tables reader-counts
+  readers-back =
+      rows-read 0 (c .readers) (λ j. cell (cells c) (readers-at + j)) _ _ _ (output-count ∙ sym (L .readers))
+      (λ o h. rows-back .first o (omega (arith, reader-starts-length, L .readers))) (λ o h. rows-back .second o (omega (arith, reader-starts-length, L .readers)))
+      (λ j h. known 8 j (omega (arith, T .readers)))
+
+  calls-back :
+      listed (min (cell (cells c) 3) 576)
+      (λ o. listed (row-digit (cells c) 3 o) (λ k. call-of (cell (cells c) (calls-at + (row-digit (cells c) 2 o + k))))) ≡ c .calls
+  unfolding row-digit sizes tables call-counts
+  calls-back =
+      rows-read (call-of 0) (c .calls) (λ j. call-of (cell (cells c) (calls-at + j))) _ _ _ (output-count ∙ sym (L .calls))
+      (λ o h. rows-back .third o (omega (arith, reader-starts-length, L .calls))) (λ o h. rows-back .fourth o (omega (arith, reader-starts-length, L .calls)))
+      (λ j h.
+      ap call-of (known 9 j (omega (arith, T .calls)) ∙ map-at call-cell (joined (c .calls)) j (call-of 0) 0 h)
+      ∙ call-again (getD (joined (c .calls)) j (call-of 0)))
+
+  -- a circuit that fits comes back
+  pub back : net (cells c) ≡ c
+  unfolding net count-cells
+  back =
+      λ j.
+      record {
+        constants = constants-back j;
+        kinds = kinds-back j;
+        ranks = ranks-back j;
+        first-input = first-input-back j;
+        first-output = first-output-back j;
+        pins = pins-back j;
+        gate-of-input = gate-of-input-back j;
+        sources = sources-back j;
+        stored = stored-back j;
+        watched = watched-back j;
+        outputs = outputs-back j;
+        gate-of-output = gate-of-output-back j;
+        readers = readers-back j;
+        calls = calls-back j;
+        time-sources = word-back 4 (c .time-sources) (omega arith) refl (T .time-sources) j;
+        buffers = word-back 5 (c .buffers) (omega arith) refl (T .buffers) j;
+        clocks = word-back 6 (c .clocks) (omega arith) refl (T .clocks) j;
+        stopwatches = word-back 7 (c .stopwatches) (omega arith) refl (T .stopwatches) j;
+        receivers = word-back 8 (c .receivers) (omega arith) refl (T .receivers) j;
+      }
+
+-- ---- a circuit that is read from words
+
+-- what is read has no more than it asks for
+part-most : (ws : List ℕ) (k n : ℕ) → length (part ws k n) ≤ n
+unfolding part
+part-most ws k n = omega (arith, length-take n (drop k ws))
+
+within-most : (low high w : ℕ) → within low high w ≡ true → w ≤ high
+unfolding within
+within-most low high w h = leb-true w high (both-true (leb low w) (leb w high) h .1)
+
+all-within : (low high : ℕ) (xs : List ℕ) → all (within low high) xs ≡ true → (i : ℕ) → getD xs i 0 ≤ high
+unfolding all
+all-within low high [] h i = omega arith
+all-within low high (x ∷ xs) h zero = within-most low high x (both-true (within low high x) (all (within low high) xs) h .0)
+all-within low high (x ∷ xs) h (suc i) = all-within low high xs (both-true (within low high x) (all (within low high) xs) h .1) i
+
+all-at : {A : Type 0} (p : A → Bool) (d : A) (xs : List A) → p d ≡ true → all p xs ≡ true → (i : ℕ) → p (getD xs i d) ≡ true
+unfolding all
+all-at p d [] e h i = e
+all-at p d (x ∷ xs) e h zero = both-true (p x) (all p xs) h .0
+all-at p d (x ∷ xs) e h (suc i) = all-at p d xs e (both-true (p x) (all p xs) h .1) i
+
+-- no kind has more than nine outputs
+nine-outputs : all (λ k. leb (length (k .outs)) 9) table ≡ true
+unfolding all table kind
+nine-outputs = refl
+
+outs-most : (k : ℕ) → length (kind-at k .outs) ≤ 9
+unfolding kind-at
+outs-most zero = omega arith
+outs-most (suc k) =
+    leb-true (length (getD table k (record { ins = []; outs = [] }) .outs)) 9
+    (all-at (λ n. leb (length (n .outs)) 9) (record { ins = []; outs = [] }) table refl nine-outputs k)
+
+nine-each : (f : ℕ → ℕ) → ((k : ℕ) → f k ≤ 9) → (ks : List ℕ) → sum (map f ks) ≤ 9 * length ks
+unfolding sum
+nine-each f h [] = omega arith
+nine-each f h (k ∷ ks) = omega (arith, h k, nine-each f h ks)
+
+-- a source and its cell
+source-again : (w : ℕ) → source-of (source-cell (source-of w)) ≡ source-of w
+unfolding source-of source-cell if_then_else_
+source-again w = go (eqb w minus-one) refl
+  where
+    go : (b : Bool) → eqb w minus-one ≡ b → source-of (source-cell (if b then none else some w)) ≡ (if b then none else some w)
+    go true e = refl
+    go false e = rw e refl
+
+-- an input reads one output
+reads-one : (ss : List (Option ℕ)) (i o p : ℕ) → reads o ss i ≡ true → reads p ss i ≡ true → o ≡ p
+unfolding reads
+reads-one ss i o p = go (getD ss i none)
+  where
+    go : (s : Option ℕ) → (elim s [ none ↦ false | some q ↦ eqb o q ]) ≡ true → (elim s [ none ↦ false | some q ↦ eqb p q ]) ≡ true → o ≡ p
+    go none h k = absurd (true≢false (sym h))
+    go (some q) h k = eqb-true o q h ∙ sym (eqb-true p q k)
+
+-- the sizes that question 1 allows
+sizes-asked :
+    (bytes ws : List ℕ) → question-1 bytes ws ≡ true →
+    (word-at ws 1 ≤ 64) × (word-at ws 0 ≤ 64) × (word-at ws 2 ≤ 640) × (word-at ws 3 ≤ 256)
+unfolding question-1
+sizes-asked bytes ws q =
+    let a = eqb (length bytes % 8) 0 && leb 4 (length ws) in
+    let g = within 1 64 (word-at ws 0) in
+    let k = within 0 64 (word-at ws 1) in
+    let i = within 0 640 (word-at ws 2) in
+    let n = within 0 256 (word-at ws 3) in
+    let h₄ = both-true (a && g && k && i && n) _ q .0 in
+    let h₃ = both-true (a && g && k && i) n h₄ in
+    let h₂ = both-true (a && g && k) i (h₃ .0) in
+    let h₁ = both-true (a && g) k (h₂ .0) in
+    let h₀ = both-true a g (h₁ .0) in (
+      within-most 0 64 (word-at ws 1) (h₁ .1),
+      within-most 1 64 (word-at ws 0) (h₀ .1),
+      within-most 0 640 (word-at ws 2) (h₂ .1),
+      within-most 0 256 (word-at ws 3) (h₃ .1),
+    )
+
+module _ (bytes ws : List ℕ) (q : question-1 bytes ws ≡ true) (r : question-3 ws (circuit ws) ≡ true) where
+  few-gates : length (circuit ws .kinds) ≤ 64
+  unfolding circuit
+  few-gates = omega (arith, part-most ws (4 + 2 * word-at ws 1) (word-at ws 0), sizes-asked bytes ws q .1)
+
+  few-inputs : length (circuit ws .pins) ≤ 640
+  unfolding circuit
+  few-inputs =
+      let ss = part ws (4 + 2 * word-at ws 1 + 2 * word-at ws 0) (word-at ws 2) in
+      omega (
+        arith,
+        filled bytes ws q r .sources,
+        length-map ss source-of,
+        part-most ws (4 + 2 * word-at ws 1 + 2 * word-at ws 0) (word-at ws 2),
+        sizes-asked bytes ws q .2,
+      )
+
+  few-outputs : length (circuit ws .outputs) ≤ 576
+  unfolding circuit
+  few-outputs =
+      let ks = circuit ws .kinds in
+      omega (
+        arith,
+        sum-lengths (map (λ k. kind-at k .outs) ks),
+        ap sum (sizes-of (λ k. kind-at k .outs) ks),
+        nine-each (λ k. length (kind-at k .outs)) outs-most ks,
+        few-gates,
+      )
+
+  sources-again : (i : ℕ) → source-of (source-cell (getD (circuit ws .sources) i none)) ≡ getD (circuit ws .sources) i none
+  unfolding circuit source-of if_then_else_
+  sources-again i =
+      let ss = part ws (4 + 2 * word-at ws 1 + 2 * word-at ws 0) (word-at ws 2) in
+      let e : getD (map source-of ss) i none ≡ source-of (getD ss i minus-one) = List·getD-map source-of ss i minus-one in
+      ap (λ s. source-of (source-cell s)) e ∙ source-again (getD ss i minus-one) ∙ sym e
+
+  few-readers : length (joined (circuit ws .readers)) ≤ 640
+  unfolding circuit
+  few-readers =
+      let ss = circuit ws .sources in
+      omega (
+        arith,
+        shares (λ o i. reads o ss i) (reads-one ss) 0 (length (circuit ws .outputs)) (from 0 (word-at ws 2)),
+        from-length 0 (word-at ws 2),
+        sizes-asked bytes ws q .2,
+      )
+
+  few-calls : length (joined (circuit ws .calls)) ≤ 256
+  unfolding circuit calls-from
+  few-calls =
+      let at = 4 + 2 * word-at ws 1 + 2 * word-at ws 0 + 2 * word-at ws 2 in
+      let n = word-at ws 3 in
+      let ls = both listed-call (part ws at n) (part ws (at + n) n) in
+      let O = length (circuit ws .outputs) in
+      omega (
+        arith,
+        joined-map (λ l. l .call) (λ o. keep (λ l. eqb (l .out) o) ls) (from 0 O),
+        shares (λ o l. eqb (l .out) o) (λ l o p h k. sym (eqb-true (l .out) o h) ∙ eqb-true (l .out) p k) 0 O ls,
+        both-most listed-call (part ws at n) (part ws (at + n) n),
+        part-most ws at n,
+        sizes-asked bytes ws q .3,
+      )
+
+  fitting : Fitting (circuit ws)
+  unfolding circuit question-3 gates-such named gate-at-input gate-at-output input output kind-of-gate
+  fitting =
+      let ks = circuit ws .kinds in
+      let K = word-at ws 1 in
+      let small-kinds = all (within 1 28) ks in
+      let small-ranks = all (within 0 65535) (circuit ws .ranks) in
+      let h = both-true small-kinds small-ranks (both-true (small-kinds && small-ranks) _ r .0) in
+      record {
+        gates = few-gates;
+        constants = refl;
+        names = omega (arith, both-most value-of (part ws 4 K) (part ws (4 + K) K), part-most ws 4 K, sizes-asked bytes ws q .0);
+        inputs = few-inputs;
+        outputs = few-outputs;
+        kinds = λ i. omega (arith, all-within 1 28 ks (h .0) i);
+        ranks = λ i. omega (arith, all-within 0 65535 (circuit ws .ranks) (h .1) i);
+        first-inputs = firsts-small (λ k. kind-at k .ins) ks (omega (arith, few-inputs));
+        first-outputs = firsts-small (λ k. kind-at k .outs) ks (omega (arith, few-outputs));
+        pins = by-owner (λ k. kind-at k .ins) value ks (circuit ws .gate-of-input) (circuit ws .first-input) refl (laid ws .input-of);
+        outs = by-owner (λ k. kind-at k .outs) fires ks (circuit ws .gate-of-output) (circuit ws .first-output) refl (laid ws .output-of);
+        sources = sources-again;
+        readers = few-readers;
+        calls = few-calls;
+        time-sources = word-read (λ g. time-source (getD ks g 0)) (length ks) few-gates;
+        buffers = word-read (λ g. buffering (getD ks g 0)) (length ks) few-gates;
+        clocks = word-read (λ g. eqb (getD ks g 0) 14) (length ks) few-gates;
+        stopwatches = word-read (λ g. eqb (getD ks g 0) 15) (length ks) few-gates;
+        receivers = word-read (λ g. receiving (getD ks g 0)) (length ks) few-gates;
+      }
+
+-- the links of every circuit whose bytes questions 1 and 3 let through show that circuit
+pub net-cells :
+    (bytes : List ℕ) → question-1 bytes (words bytes) ≡ true → question-3 (words bytes) (circuit (words bytes)) ≡ true →
+    net (cells (circuit (words bytes))) ≡ circuit (words bytes)
+net-cells bytes q r =
+    let ws = words bytes in
+    back (circuit ws) (laid ws) (filled bytes ws q r) (fitting bytes ws q r)

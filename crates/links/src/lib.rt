@@ -1,0 +1,458 @@
+// The links of a circuit, read. Each function looks one thing up in the array that specs/Links.antt lays out; what the array holds makes no difference.
+ghost use mathlib.Core.Path.{_≡_};
+ghost use Prim.Native.Nat.{_+_, _<_, _≤_, _-_, min};
+ghost use lib.ListN.{length, getD, drop};
+ghost use Rattle.model.specs.Circuit.{kind-of-gate, rank-of-gate, input, output, gate-at-input, gate-at-output, watching, source, stored-in, setting};
+ghost use Rattle.model.specs.declared.Value.the-variants.{Nothing};
+ghost use Rattle.model.specs.Kinds.{value, fires};
+ghost use Rattle.kinds.specs.Pins.{in-of, out-of};
+ghost use Rattle.links.specs.Links.{gates-at, inputs-at, rows-at, entries, call-of, cell, net, first-reader, reader-count, reader-at, first-call, call-count, target, output-read, gates-of-word};
+use model::Value;
+use values::value_of;
+
+// The cells in all.
+const CELLS: usize = 4816;
+
+// The cells that hold counts, and those that hold words of gates.
+const GATE_COUNT: usize = 0;
+
+const CONSTANT_COUNT: usize = 1;
+
+const INPUT_COUNT: usize = 2;
+
+const OUTPUT_COUNT: usize = 3;
+
+const TIME_SOURCES: usize = 4;
+
+const BUFFERS: usize = 5;
+
+const CLOCKS: usize = 6;
+
+const STOPWATCHES: usize = 7;
+
+const RECEIVERS: usize = 8;
+
+// Where the tables begin.
+const GATES: usize = 16;
+
+const SOURCES: usize = 80;
+
+const STORED_KINDS: usize = 720;
+
+const STORED_CONTENTS: usize = 1360;
+
+const INPUTS: usize = 2000;
+
+const OUTPUTS: usize = 2640;
+
+const ROWS: usize = 3216;
+
+const READERS: usize = 3792;
+
+const CALLS: usize = 4432;
+
+const CONSTANT_KINDS: usize = 4688;
+
+const CONSTANT_CONTENTS: usize = 4752;
+
+// How many a table holds at most.
+const MOST_GATES: usize = 64;
+
+const MOST_CONSTANTS: usize = 64;
+
+const MOST_INPUTS: usize = 640;
+
+const MOST_OUTPUTS: usize = 576;
+
+// A digit of a cell is below this.
+const DIGIT: usize = 0x1_0000;
+
+// What one of the second, the third and the fourth digit counts.
+const SECOND: usize = 0x1_0000;
+
+const THIRD: usize = 0x1_0000_0000;
+
+const FOURTH: usize = 0x1_0000_0000_0000;
+
+// The word -1, which stands for no source.
+const MINUS_ONE: usize = 0xFFFF_FFFF_FFFF_FFFF;
+
+// What an input reads.
+pub enum Read {
+    Output(usize),
+    Nothing,
+}
+
+// ---- cells
+
+// Cell at + i, which is 0 past the last.
+fn cell(links: &[usize], at: usize, i: usize) -> usize
+    requires { ⌜ (length (now links) ≡ 4816) × (at ≤ 4816) ⌝ }
+    ensures { λ r. ⌜ r ≡ cell (now (links .entry)) (at + i) ⌝ }
+{
+    if i < CELLS - at {
+        return links[at + i];
+    }
+    0
+}
+
+// The count in cell n, at most `most`.
+fn counted(links: &[usize], n: usize, most: usize) -> usize
+    requires { ⌜ (length (now links) ≡ 4816) × (n < 16) ⌝ }
+    ensures { λ r. ⌜ r ≡ min (cell (now (links .entry)) n) most ⌝ }
+{
+    if links[n] < most {
+        return links[n];
+    }
+    most
+}
+
+// Cell i of the table that begins at `at`, of which cell n says how many are in use, and `missing` past those.
+fn entry(links: &[usize], n: usize, most: usize, at: usize, i: usize, missing: usize) -> usize
+    requires { ⌜ (length (now links) ≡ 4816) × (n < 16) × (at + most ≤ 4816) ⌝ }
+    ensures { λ r. ⌜ r ≡ getD (entries (now (links .entry)) n most at) i missing ⌝ }
+{
+    if i < most {
+        if i < links[n] {
+            return links[at + i];
+        }
+    }
+    missing
+}
+
+// ---- counts
+
+// How many gates there are.
+pub fn gates(links: &[usize]) -> usize
+    requires { ⌜ length (now links) ≡ 4816 ⌝ }
+    ensures { λ r. ⌜ (r ≡ length (net (now (links .entry)) .kinds)) × (r ≤ 64) ⌝ }
+{
+    counted(links, GATE_COUNT, MOST_GATES)
+}
+
+// How many inputs there are.
+pub fn inputs(links: &[usize]) -> usize
+    requires { ⌜ length (now links) ≡ 4816 ⌝ }
+    ensures { λ r. ⌜ (r ≡ length (net (now (links .entry)) .pins)) × (r ≤ 640) ⌝ }
+{
+    counted(links, INPUT_COUNT, MOST_INPUTS)
+}
+
+// How many outputs there are.
+pub fn outputs(links: &[usize]) -> usize
+    requires { ⌜ length (now links) ≡ 4816 ⌝ }
+    ensures { λ r. ⌜ (r ≡ length (net (now (links .entry)) .outputs)) × (r ≤ 576) ⌝ }
+{
+    counted(links, OUTPUT_COUNT, MOST_OUTPUTS)
+}
+
+// How many constants there are, nothing among them.
+pub fn constants(links: &[usize]) -> usize
+    requires { ⌜ length (now links) ≡ 4816 ⌝ }
+    ensures { λ r. ⌜ (r ≡ length (net (now (links .entry)) .constants)) × (r ≤ 65) ⌝ }
+{
+    counted(links, CONSTANT_COUNT, MOST_CONSTANTS) + 1
+}
+
+// The constant named k, which is nothing for 0 and where there is none.
+pub fn constant(links: &[usize], k: usize) -> Value
+    requires { ⌜ length (now links) ≡ 4816 ⌝ }
+    ensures { λ r. ⌜ r ≡ getD (net (now (links .entry)) .constants) k Nothing ⌝ }
+{
+    if k == 0 {
+        return Value::Nothing;
+    }
+    let kind = entry(
+        links,
+        CONSTANT_COUNT,
+        MOST_CONSTANTS,
+        CONSTANT_KINDS,
+        k - 1,
+        0,
+    );
+    let content = entry(
+        links,
+        CONSTANT_COUNT,
+        MOST_CONSTANTS,
+        CONSTANT_CONTENTS,
+        k - 1,
+        0,
+    );
+    value_of(kind as u64, content as u64)
+}
+
+// ---- gates
+
+// What is written of gate g.
+fn gate_entry(links: &[usize], g: usize) -> usize
+    requires { ⌜ length (now links) ≡ 4816 ⌝ }
+    ensures { λ r. ⌜ r ≡ getD (entries (now (links .entry)) 0 64 gates-at) g 0 ⌝ }
+{
+    entry(links, GATE_COUNT, MOST_GATES, GATES, g, 0)
+}
+
+// The kind of gate g, and 0 where there is none.
+pub fn kind_of_gate(links: &[usize], g: usize) -> u64
+    requires { ⌜ length (now links) ≡ 4816 ⌝ }
+    ensures { λ r. ⌜ r ≡ kind-of-gate (net (now (links .entry))) g ⌝ }
+{
+    (gate_entry(links, g) % DIGIT) as u64
+}
+
+// The rank of gate g, and 0 where there is none.
+pub fn rank_of_gate(links: &[usize], g: usize) -> u64
+    requires { ⌜ length (now links) ≡ 4816 ⌝ }
+    ensures { λ r. ⌜ r ≡ rank-of-gate (net (now (links .entry))) g ⌝ }
+{
+    (gate_entry(links, g) / SECOND % DIGIT) as u64
+}
+
+// Input p of gate g.
+pub fn input(links: &[usize], g: usize, p: usize) -> usize
+    requires { ⌜ (length (now links) ≡ 4816) × (p < 65536) ⌝ }
+    ensures { λ r. ⌜ (r ≡ input (net (now (links .entry))) g p) × (r < 131072) ⌝ }
+{
+    gate_entry(links, g) / THIRD % DIGIT + p
+}
+
+// Output p of gate g.
+pub fn output(links: &[usize], g: usize, p: usize) -> usize
+    requires { ⌜ (length (now links) ≡ 4816) × (p < 65536) ⌝ }
+    ensures { λ r. ⌜ (r ≡ output (net (now (links .entry))) g p) × (r < 131072) ⌝ }
+{
+    gate_entry(links, g) / FOURTH % DIGIT + p
+}
+
+// ---- inputs
+
+// What is written of input i.
+fn input_entry(links: &[usize], i: usize) -> usize
+    requires { ⌜ length (now links) ≡ 4816 ⌝ }
+    ensures { λ r. ⌜ r ≡ getD (entries (now (links .entry)) 2 640 inputs-at) i 0 ⌝ }
+{
+    entry(links, INPUT_COUNT, MOST_INPUTS, INPUTS, i, 0)
+}
+
+// How far i is past the first, and 0 where it is before.
+fn past(i: usize, first: usize) -> usize
+    ensures { λ r. ⌜ r ≡ i - first ⌝ }
+{
+    if i < first {
+        return 0;
+    }
+    i - first
+}
+
+// What input i is, and a value where there is none.
+pub fn pin_at(links: &[usize], i: usize) -> kinds::Pin
+    requires { ⌜ length (now links) ≡ 4816 ⌝ }
+    ensures { λ r. ⌜ in-of r ≡ getD (net (now (links .entry)) .pins) i value ⌝ }
+{
+    if inputs(links) <= i {
+        return kinds::Pin::Value;
+    }
+    let g = input_entry(links, i) % DIGIT;
+    let gate = cell(links, GATES, g);
+    let p = past(i, gate / THIRD % DIGIT);
+    kinds::pin_at((gate % DIGIT) as u64, p)
+}
+
+// The gate that has input i, and 0 where there is none.
+pub fn gate_at_input(links: &[usize], i: usize) -> usize
+    requires { ⌜ length (now links) ≡ 4816 ⌝ }
+    ensures { λ r. ⌜ r ≡ gate-at-input (net (now (links .entry))) i ⌝ }
+{
+    input_entry(links, i) % DIGIT
+}
+
+// Whether a change of what input i reads is acted on.
+pub fn watching(links: &[usize], i: usize) -> bool
+    requires { ⌜ length (now links) ≡ 4816 ⌝ }
+    ensures { λ r. ⌜ r ≡ watching (net (now (links .entry))) i ⌝ }
+{
+    input_entry(links, i) / SECOND % DIGIT == 1
+}
+
+// What input i reads.
+pub fn source(links: &[usize], i: usize) -> Read
+    requires { ⌜ length (now links) ≡ 4816 ⌝ }
+    ensures { λ r. ⌜ output-read r ≡ source (net (now (links .entry))) i ⌝ }
+{
+    let o = entry(links, INPUT_COUNT, MOST_INPUTS, SOURCES, i, MINUS_ONE);
+    if o == MINUS_ONE {
+        return Read::Nothing;
+    }
+    Read::Output(o)
+}
+
+// The value stored in input i.
+pub fn stored_in(links: &[usize], i: usize) -> Value
+    requires { ⌜ length (now links) ≡ 4816 ⌝ }
+    ensures { λ r. ⌜ r ≡ stored-in (net (now (links .entry))) i ⌝ }
+{
+    let kind = entry(links, INPUT_COUNT, MOST_INPUTS, STORED_KINDS, i, 0);
+    let content = entry(links, INPUT_COUNT, MOST_INPUTS, STORED_CONTENTS, i, 0);
+    value_of(kind as u64, content as u64)
+}
+
+// Setting p of gate g.
+pub fn setting(links: &[usize], g: usize, p: usize) -> Value
+    requires { ⌜ (length (now links) ≡ 4816) × (p < 65536) ⌝ }
+    ensures { λ r. ⌜ r ≡ setting (net (now (links .entry))) g p ⌝ }
+{
+    stored_in(links, input(links, g, p))
+}
+
+// ---- outputs
+
+// The gate that has output o, and 0 where there is none.
+pub fn gate_at_output(links: &[usize], o: usize) -> usize
+    requires { ⌜ length (now links) ≡ 4816 ⌝ }
+    ensures { λ r. ⌜ r ≡ gate-at-output (net (now (links .entry))) o ⌝ }
+{
+    entry(links, OUTPUT_COUNT, MOST_OUTPUTS, OUTPUTS, o, 0)
+}
+
+// What output o is; it fires where there is none.
+pub fn out_at(links: &[usize], o: usize) -> kinds::Out
+    requires { ⌜ length (now links) ≡ 4816 ⌝ }
+    ensures { λ r. ⌜ out-of r ≡ getD (net (now (links .entry)) .outputs) o fires ⌝ }
+{
+    if outputs(links) <= o {
+        return kinds::Out::Fires;
+    }
+    let g = gate_at_output(links, o);
+    let gate = cell(links, GATES, g);
+    let p = past(o, gate / FOURTH % DIGIT);
+    kinds::out_at((gate % DIGIT) as u64, p)
+}
+
+// The row of output o.
+fn row(links: &[usize], o: usize) -> usize
+    requires { ⌜ length (now links) ≡ 4816 ⌝ }
+    ensures { λ r. ⌜ r ≡ getD (entries (now (links .entry)) 3 576 rows-at) o 0 ⌝ }
+{
+    entry(links, OUTPUT_COUNT, MOST_OUTPUTS, ROWS, o, 0)
+}
+
+// Where the readers of output o begin.
+pub fn first_reader(links: &[usize], o: usize) -> usize
+    requires { ⌜ length (now links) ≡ 4816 ⌝ }
+    ensures { λ r. ⌜ (r ≡ first-reader (now (links .entry)) o) × (r < 65536) ⌝ }
+{
+    row(links, o) % DIGIT
+}
+
+// How many inputs read output o.
+pub fn reader_count(links: &[usize], o: usize) -> usize
+    requires { ⌜ length (now links) ≡ 4816 ⌝ }
+    ensures { λ r. ⌜ (r ≡ reader-count (now (links .entry)) o) × (r < 65536) ⌝ }
+{
+    row(links, o) / SECOND % DIGIT
+}
+
+// Reader k of all, an input.
+pub fn reader(links: &[usize], k: usize) -> usize
+    requires { ⌜ length (now links) ≡ 4816 ⌝ }
+    ensures { λ r. ⌜ r ≡ reader-at (now (links .entry)) k ⌝ }
+{
+    cell(links, READERS, k)
+}
+
+// Where the calls of output o begin.
+pub fn first_call(links: &[usize], o: usize) -> usize
+    requires { ⌜ length (now links) ≡ 4816 ⌝ }
+    ensures { λ r. ⌜ (r ≡ first-call (now (links .entry)) o) × (r < 65536) ⌝ }
+{
+    row(links, o) / THIRD % DIGIT
+}
+
+// How many calls output o makes.
+pub fn call_count(links: &[usize], o: usize) -> usize
+    requires { ⌜ length (now links) ≡ 4816 ⌝ }
+    ensures { λ r. ⌜ (r ≡ call-count (now (links .entry)) o) × (r < 65536) ⌝ }
+{
+    row(links, o) / FOURTH % DIGIT
+}
+
+// The target of call k of all: 2 × input + remote.
+pub fn call(links: &[usize], k: usize) -> usize
+    requires { ⌜ length (now links) ≡ 4816 ⌝ }
+    ensures { λ r. ⌜ r ≡ target (now (links .entry)) k ⌝ }
+{
+    cell(links, CALLS, k)
+}
+
+// The input that a call with this target goes to.
+pub fn called_input(target: usize) -> usize
+    ensures { λ r. ⌜ r ≡ call-of target .to ⌝ }
+{
+    target / 2
+}
+
+// Whether a call with this target is remote.
+pub fn is_remote(target: usize) -> bool
+    ensures { λ r. ⌜ r ≡ call-of target .remote ⌝ }
+{
+    target % 2 == 1
+}
+
+// ---- gates of some kinds, as words
+
+// The time sources.
+pub fn time_sources(links: &[usize]) -> usize
+    requires { ⌜ length (now links) ≡ 4816 ⌝ }
+    ensures { λ r. ⌜ r ≡ cell (now (links .entry)) 4 ⌝ }
+{
+    links[TIME_SOURCES]
+}
+
+// The buffers and Queues.
+pub fn buffers(links: &[usize]) -> usize
+    requires { ⌜ length (now links) ≡ 4816 ⌝ }
+    ensures { λ r. ⌜ r ≡ cell (now (links .entry)) 5 ⌝ }
+{
+    links[BUFFERS]
+}
+
+// The Clocks.
+pub fn clocks(links: &[usize]) -> usize
+    requires { ⌜ length (now links) ≡ 4816 ⌝ }
+    ensures { λ r. ⌜ r ≡ cell (now (links .entry)) 6 ⌝ }
+{
+    links[CLOCKS]
+}
+
+// The Stopwatches.
+pub fn stopwatches(links: &[usize]) -> usize
+    requires { ⌜ length (now links) ≡ 4816 ⌝ }
+    ensures { λ r. ⌜ r ≡ cell (now (links .entry)) 7 ⌝ }
+{
+    links[STOPWATCHES]
+}
+
+// The receivers of events.
+pub fn receivers(links: &[usize]) -> usize
+    requires { ⌜ length (now links) ≡ 4816 ⌝ }
+    ensures { λ r. ⌜ r ≡ cell (now (links .entry)) 8 ⌝ }
+{
+    links[RECEIVERS]
+}
+
+// The first gate of a word, and 64 where it has none.
+pub fn first_gate(word: usize) -> usize
+    ensures { λ r. ⌜ r ≡ getD (gates-of-word word) 0 64 ⌝ }
+{
+    u64::trailing_zeros(word as u64) as usize
+}
+
+// The word without its first gate.
+pub fn later_gates(word: usize) -> usize
+    ensures { λ r. ⌜ gates-of-word r ≡ drop 1 (gates-of-word word) ⌝ }
+{
+    let g = first_gate(word);
+    if g < 64 {
+        return word - (1 << g);
+    }
+    0
+}

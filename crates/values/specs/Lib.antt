@@ -1,0 +1,1 @@
+-- The crate's contracts cite the definition in crate model.

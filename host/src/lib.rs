@@ -1,0 +1,46 @@
+//! The functions of the Rattle crate `leaves`, linked. To compare them with the
+//! hardware: `rt staticlib leaves` in the project's root, then `cargo test
+//! --offline --release` here.
+
+// Each takes and gives numbers, and is proved to have a result for all of them.
+unsafe extern "C" {
+    /// The bits of the f32 nearest to an f64, ties to even.
+    #[link_name = "hazhirun_narrow"]
+    pub safe fn narrow(bits: u64) -> u32;
+
+    /// Whether an f64 is neither an infinity nor a NaN.
+    #[link_name = "hazhirun_is_finite"]
+    pub safe fn is_finite(bits: u64) -> bool;
+
+    /// The bits of the f64 nearest to an Int, ties to even.
+    #[link_name = "hazhirun_of_int"]
+    pub safe fn of_int(z: i64) -> u64;
+
+    /// An f64 without its fraction, or the nearer end of the range of an Int.
+    #[link_name = "hazhirun_to_int"]
+    pub safe fn to_int(bits: u64) -> i64;
+
+    /// The bits of the f64 sum.
+    #[link_name = "hazhirun_plus64"]
+    pub safe fn plus64(a: u64, b: u64) -> u64;
+
+    /// At most, of f64.
+    #[link_name = "hazhirun_le64"]
+    pub safe fn le64(a: u64, b: u64) -> bool;
+
+    /// Below, of f64.
+    #[link_name = "hazhirun_lt64"]
+    pub safe fn lt64(a: u64, b: u64) -> bool;
+
+    /// Equal, of f64.
+    #[link_name = "hazhirun_eq64"]
+    pub safe fn eq64(a: u64, b: u64) -> bool;
+
+    /// The bits of the f32 sum.
+    #[link_name = "hazhirun_plus32"]
+    pub safe fn plus32(a: u32, b: u32) -> u32;
+
+    /// At most, of f32.
+    #[link_name = "hazhirun_le32"]
+    pub safe fn le32(a: u32, b: u32) -> bool;
+}
