@@ -1,6 +1,11 @@
-//! The functions of the Rattle crate `leaves`, linked. To compare them with the
-//! hardware: `rt staticlib leaves` in the project's root, then `cargo test
-//! --offline --release` here.
+//! The functions of the Rattle crates `leaves` and `player`, linked. To compare
+//! them with the hardware and with the oracle: `rt staticlib leaves` and `rt
+//! staticlib player` in the project's root, then `cargo test --offline
+//! --release` here.
+
+mod player;
+
+pub use player::check;
 
 // Each takes and gives numbers, and is proved to have a result for all of them.
 unsafe extern "C" {

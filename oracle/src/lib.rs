@@ -18,10 +18,11 @@ pub mod questions;
 pub mod script;
 pub mod words;
 
-// The stated circuits (build, generate, circuits, vectors):
+// The stated circuits (build, generate, circuits, vectors, pack):
 pub mod build;
 pub mod circuits;
 pub mod generate;
+pub mod pack;
 pub mod vectors;
 
 /// How many bytes are lent for the log and for the three areas.

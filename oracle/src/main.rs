@@ -15,6 +15,7 @@ oracle bench DIR
 oracle circuits [NAME DIR]
 oracle generate FAMILY SEED DIR
 oracle vectors DIR [FIRST LAST]
+oracle pack FILE
 oracle mutants [NAME..]";
 
 fn main() -> ExitCode {
@@ -44,6 +45,10 @@ fn run(words: &[&str]) -> Option<()> {
         ["vectors", dir] => oracle::vectors::write(dir.as_ref()).ok()?,
         ["vectors", dir, first, last] => {
             oracle::vectors::write_random(dir.as_ref(), first.parse().ok()?, last.parse().ok()?).ok()?;
+        }
+        ["pack", file] => {
+            std::fs::write(file, oracle::pack::pack()).ok()?;
+            print!("{}", oracle::pack::printed());
         }
         ["mutants", names @ ..] => mutants::try_mutants(names),
         _ => return None,

@@ -61,6 +61,12 @@ fn answer(case: &Case) -> String {
     }
 }
 
+/// Whether a vector gives these bytes, and not their sum.
+pub fn is_whole(bytes: &[u8]) -> bool {
+    let (whole, rest) = bytes.as_chunks::<8>();
+    !rest.is_empty() || whole.len() <= WHOLE
+}
+
 /// Bytes as words, or in hexadecimal where they are no whole words.
 fn bytes(name: &str, bytes: &[u8]) -> String {
     let (whole, rest) = bytes.as_chunks::<8>();

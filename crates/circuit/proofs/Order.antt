@@ -12,7 +12,7 @@ use Rattle.model.specs.Circuit.{Circuit, circuit}
 use Rattle.model.specs.Questions.{Areas, question-1, question-2, question-3, question-4, question-5, question-6, question-7, queues, circuit-refusal, script-refusal, or-else, refusal}
 use Rattle.links.specs.Links.{cells, net}
 use Rattle.links.proofs.Net.{net-cells}
-use Rattle.circuit.specs.Refusals.{words-refusal, links-refusal, made-by, links-after}
+use Rattle.circuit.specs.Refusals.{words-refusal, links-refusal, areas-refusal, made-by, links-after}
 
 -- ---- questions 1 to 3
 
@@ -141,9 +141,8 @@ asked-all s l l₁ x y e z f g = (later-number x y _ _ e z g ∙ sym (two-groups
 -- ---- the areas
 
 -- question 7 with areas, once it was answered yes without
-areas-later :
-    (A : Areas) (s : List ℕ) → circuit-refusal (some A) s ≡ or-else (circuit-refusal none s) (if question-7 (some A) (circuit (words s)) then 0 else 7)
-unfolding circuit-refusal question-7 or-else if_then_else_
+areas-later : (A : Areas) (s : List ℕ) → circuit-refusal (some A) s ≡ or-else (circuit-refusal none s) (areas-refusal A (circuit (words s)))
+unfolding circuit-refusal question-7 areas-refusal or-else if_then_else_
 areas-later A s =
     let c = circuit (words s) in
     let k = leb (queues c) 8 in
@@ -169,38 +168,31 @@ areas-later A s =
     go true true true true true true true true true false = refl
     go true true true true true true true true true true = refl
 
+module _ (A : Areas) (c : Circuit) (n : ℕ) (q : n ≡ queues c) (t : Bool)
+    (a : t ≡ (leb n 8 && leb 65536 (A .values) && leb 65536 (A .units) && leb (65536 * max 1 n) (A .delays))) where
+  lent : t ≡ question-7 (some A) c
+  unfolding question-7
+  lent = a ∙ ap (λ (m : ℕ). leb m 8 && leb 65536 (A .values) && leb 65536 (A .units) && leb (65536 * max 1 m) (A .delays)) q
+
+  pub areas-enough : t ≡ true → 0 ≡ areas-refusal A c
+  unfolding areas-refusal if_then_else_
+  areas-enough h = rw (← lent, h)
+
+  pub areas-short : t ≡ false → 7 ≡ areas-refusal A c
+  unfolding areas-refusal if_then_else_
+  areas-short h = rw (← lent, h)
+
 module _ (A : Areas) (s p : List ℕ) (x : ℕ) (e : x ≡ circuit-refusal none s) where
   -- refused whatever is lent
   pub refused-before : (x ≡ 0 → ⊥) → x ≡ refusal (some A) s p
   unfolding refusal
   refused-before n = first-number x _ _ (first-number x _ _ e n ∙ sym (areas-later A s)) n
 
-  module _ (z : x ≡ 0) (n : ℕ) (q : n ≡ queues (circuit (words s))) (t : Bool)
-      (a : t ≡ (leb n 8 && leb 65536 (A .values) && leb 65536 (A .units) && leb (65536 * max 1 n) (A .delays))) where
-    lent : t ≡ question-7 (some A) (circuit (words s))
-    unfolding question-7
-    lent = a ∙ ap (λ (m : ℕ). leb m 8 && leb 65536 (A .values) && leb 65536 (A .units) && leb (65536 * max 1 m) (A .delays)) q
-
-    asked : (y : ℕ) → (if t then 0 else 7) ≡ y → y ≡ circuit-refusal (some A) s
-    asked y f = later-number x y _ _ e z (sym f ∙ ap (λ (b : Bool). if b then 0 else 7) lent) ∙ sym (areas-later A s)
-
-    -- refused for its areas
-    pub refused-areas : not t ≡ true → 7 ≡ refusal (some A) s p
-    unfolding refusal if_then_else_
-    refused-areas h = first-number 7 _ _ (asked 7 (go t h)) (λ w. omega (arith, w))
-      where
-        go : (b : Bool) → not b ≡ true → _≡_ {A = ℕ} (if b then 0 else 7) 7
-        go true h = absurd (true≢false (sym h))
-        go false h = refl
-
-    -- then the script is asked
-    pub script-asked : not t ≡ false → (y : ℕ) → y ≡ script-refusal (circuit (words s)) p → y ≡ refusal (some A) s p
-    unfolding refusal if_then_else_
-    script-asked h y f = later-number 0 y _ _ (asked 0 (go t h)) refl f
-      where
-        go : (b : Bool) → not b ≡ false → _≡_ {A = ℕ} (if b then 0 else 7) 0
-        go true h = refl
-        go false h = absurd (true≢false h)
+  -- then the areas, and then the script
+  pub asked-later :
+      (z : x ≡ 0) (m n y : ℕ) → m ≡ areas-refusal A (circuit (words s)) → n ≡ script-refusal (circuit (words s)) p → y ≡ or-else m n → y ≡ refusal (some A) s p
+  unfolding refusal or-else
+  asked-later z m n y f g h = rw (h, f, g, areas-later A s, ← e, z)
 
 -- with no areas
 pub checked-early : (s p : List ℕ) (x : ℕ) → x ≡ circuit-refusal none s → (x ≡ 0 → ⊥) → x ≡ refusal none s p

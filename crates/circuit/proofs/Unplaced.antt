@@ -1,5 +1,5 @@
 -- Question 6 by words of gates: a round of the code leaves the gates that a round of the definition does not place.
-use Prim.Native.Nat.{ℕ, zero, suc, _+_, _*_, _%_, _^_, _≤_, _<_}
+use Prim.Native.Nat.{ℕ, zero, suc, _+_, _-_, _*_, _%_, _^_, _≤_, _<_}
 use mathlib.Core.Path.{_≡_, refl, sym, ap, _∙_}
 use mathlib.Core.Bool.{Bool, true, false, not, _&&_, _||_}
 use mathlib.Core.List.{List, [], _∷_, map}
@@ -16,7 +16,7 @@ use Rattle.model.specs.Base.{if_then_else_, all, each, from}
 use Rattle.model.specs.Kinds.{kind-at, pure}
 use Rattle.model.specs.Circuit.{Circuit, kind-of-gate, input, inputs-of, source, gate-at-output, gates}
 use Rattle.model.specs.Questions.{yes-all, source-placed, place, place-on, question-6}
-use Rattle.model.proofs.Lists.{from-length}
+use Rattle.model.proofs.Lists.{all-places, places-all, from-length}
 use Rattle.links.specs.declared.Read.{Read}
 use Rattle.links.specs.declared.Read.the-variants.{Output, Nothing as NoOutput}
 use Rattle.links.specs.Links.{output-read}
@@ -32,6 +32,20 @@ and-both false b d = refl
 and-yes : (a : Bool) → a ≡ (a && true)
 and-yes true = refl
 and-yes false = refl
+
+either-yes : (a : Bool) {b : Bool} → b ≡ true → (a || b) ≡ true
+either-yes true h = refl
+either-yes false h = h
+
+each-yes : (p : ℕ → Bool) → ((x : ℕ) → p x ≡ true) → (xs : List ℕ) → all p xs ≡ true
+unfolding all
+each-yes p h [] = refl
+each-yes p h (x ∷ xs) = rw (h x) (each-yes p h xs)
+
+map-yes : (f : ℕ → Bool) → ((x : ℕ) → f x ≡ true) → (xs : List ℕ) (i : ℕ) → getD (map f xs) i true ≡ true
+map-yes f h [] i = refl
+map-yes f h (x ∷ xs) zero = h x
+map-yes f h (x ∷ xs) (suc i) = map-yes f h xs i
 
 -- two lists that are given place by place
 row-same :
@@ -185,6 +199,30 @@ module _ (c : Circuit) where
       (ap word-of-bits
       (row-same _ _ 0 (length (c .kinds)) (λ g o m. waits-is words (placed-after k) g b (a g (omega arith)))
       ∙ row-not _ 0 (length (c .kinds))))
+
+  -- Once all gates are placed they stay so: nothing is left to wait for.
+  all-stay : (bs : List Bool) → ((i : ℕ) → getD bs i true ≡ true) → (i : ℕ) → getD (place c bs) i true ≡ true
+  unfolding place source-placed
+  all-stay bs h = map-yes _ (λ g. either-yes (not (pure (kind-of-gate c g))) (each-yes (source-placed c bs) (λ i. go (source c i)) (inputs-of c g))) (gates c)
+    where
+      go : (s : Option ℕ) → (elim s as (λ _. Bool) [ none ↦ true | some o ↦ getD bs (gate-at-output c o) true ]) ≡ true
+      go none = refl
+      go (some o) = h (gate-at-output c o)
+
+  stay-on : (k j : ℕ) → ((i : ℕ) → getD (placed-after k) i true ≡ true) → (i : ℕ) → getD (placed-after (k + j)) i true ≡ true
+  unfolding placed-after
+  stay-on k zero h i = rw (add-zero k) (h i)
+  stay-on k (suc j) h i =
+      let e : k + suc j ≡ suc (k + j) = omega arith in
+      rw (e, one-more (k + j) (map (λ k. not (pure k)) (c .kinds))) (all-stay _ (stay-on k j h) i)
+
+  -- before all, where none is left
+  pub rounds-over : (n k w : ℕ) → n ≡ length (c .kinds) → k < n → w ≡ unplaced-after k → w ≡ 0 → true ≡ question-6 c
+  unfolding unplaced-after question-6 yes-all placed-after
+  rounds-over n k w en l e z =
+      let q : k + (length (c .kinds) - k) ≡ length (c .kinds) = omega arith in
+      let a : all (λ b. b) (placed-after k) ≡ true = sym (word-none (placed-after k)) ∙ ap (λ (x : ℕ). eqb x 0) (sym e ∙ z) in
+      sym (places-all _ (rw q at (stay-on k (length (c .kinds) - k) (all-places (placed-after k) a))))
 
   -- after all
   pub rounds-last : (n k w : ℕ) → n ≡ length (c .kinds) → k ≤ n → n ≤ k → w ≡ unplaced-after k → eqb w 0 ≡ question-6 c

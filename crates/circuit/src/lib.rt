@@ -5,9 +5,9 @@ ghost use mathlib.Core.Option.{none, some};
 ghost use lib.ListN.{length};
 ghost use Rattle.words.specs.Words.{words};
 ghost use Rattle.model.specs.Circuit.{circuit as circuit-of};
-ghost use Rattle.model.specs.Questions.{Areas, question-1, question-2, question-3, circuit-refusal, script-refusal, refusal};
+ghost use Rattle.model.specs.Questions.{Areas, question-1, question-2, question-3, circuit-refusal, script-refusal, or-else, refusal};
 ghost use Rattle.links.specs.Links.{cells, net};
-ghost use Rattle.circuit.specs.Refusals.{words-refusal, links-refusal, links-after};
+ghost use Rattle.circuit.specs.Refusals.{words-refusal, links-refusal, areas-refusal, links-after};
 use linking::link;
 
 mod areas;
@@ -91,6 +91,25 @@ pub fn script_refusal(circuit: &[u8], script: &[u8]) -> u64
     0
 }
 
+// 7 where areas of these lengths are not enough for a circuit whose sizes are good, or 0.
+fn areas_refusal(circuit: &[u8], values: usize, units: usize, delays: usize) -> u64
+    requires { ⌜ question-1 (now circuit) (words (now circuit)) ≡ true ⌝ }
+    ensures { λ r. ⌜ r ≡ areas-refusal (record { values = values; units = units; delays = delays }) (circuit-of (words (now (circuit .entry)))) ⌝ }
+{
+    if areas::enough(areas::queues(circuit), values, units, delays) {
+        0
+    } else {
+        7
+    }
+}
+
+// The number of an earlier question that was answered no, else that of a later one.
+fn earlier(number: u64, later: u64) -> u64
+    ensures { λ r. ⌜ r ≡ or-else number later ⌝ }
+{
+    if number != 0 { number } else { later }
+}
+
 // The number that a call with this circuit and script is refused with, or 0, where areas of these lengths are lent.
 pub fn refusal(
     circuit: &[u8],
@@ -108,10 +127,9 @@ pub fn refusal(
     if first != 0 {
         return first;
     }
-    if !areas::enough(areas::queues(circuit), values, units, delays) {
-        return 7;
-    }
-    script_refusal(circuit, script)
+    let lent = areas_refusal(circuit, values, units, delays);
+    let asked = script_refusal(circuit, script);
+    earlier(lent, asked)
 }
 
 // The number that a call with this circuit and script is refused with, or 0, where no areas are lent: it only checks.

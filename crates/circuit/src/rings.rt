@@ -97,7 +97,7 @@ fn round(words: &[u64], n: usize, unplaced: u64) -> u64
     word
 }
 
-// As many rounds as there are gates: what is unplaced at the end stands in a ring, or behind one.
+// At most as many rounds as there are gates: what is unplaced then stands in a ring, or behind one.
 pub fn ordered(links: &[usize]) -> bool
     requires { ⌜ length (now links) ≡ 4816 ⌝ }
     ensures { λ r. ⌜ r ≡ question-6 (net (now (links .entry))) ⌝ }
@@ -108,6 +108,9 @@ pub fn ordered(links: &[usize]) -> bool
     let mut unplaced = pure_gates(links, n);
     let mut k = 0;
     while k < n {
+        if unplaced == 0 {
+            return true;
+        }
         unplaced = round(&words, n, unplaced);
         k += 1;
     }

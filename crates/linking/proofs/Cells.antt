@@ -47,6 +47,7 @@ module _ (ws : List ℕ) (kinds G : ℕ) where
 
 -- ---- words of gates
 
+-- the word of the gates from a on that pass a test
 word-from : (t : ℕ → Bool) (a n : ℕ) → below (λ g. if t g then 2 ^ g else 0) a + word-of-gates (keep t (from a n)) ≡ below (λ g. if t g then 2 ^ g else 0) (a + n)
 unfolding word-of-gates keep from below if_then_else_
 word-from t a zero = let e : a + 0 ≡ a = omega arith in rw e (omega arith)
@@ -125,6 +126,7 @@ one-kind a k = go (leb a k) refl (leb k a) refl
     go false e true d = let x = leb-false a k e in ne-eqb k a (λ z. omega arith)
     go false e false d = let x = leb-false a k e in ne-eqb k a (λ z. omega arith)
 
+-- the number behind a
 above : (a k : ℕ) → a ≤ k → k ≤ a + 1 → (k ≡ a → ⊥) → k ≡ a + 1
 above a k x y n = go (ltb a k) refl
   where
@@ -160,6 +162,7 @@ source-table n f =
 
 -- ---- constants
 
+-- no constant is of a kind above 3
 no-kind : (k b : ℕ) → 3 < k → good-constant k b ≡ true → ⊥
 unfolding good-constant if_then_else_
 no-kind k b l h = true≢false (sym (rw (ne-eqb k 1 (λ z. omega arith), ne-eqb k 2 (λ z. omega arith), ne-eqb k 3 (λ z. omega arith)) at h))

@@ -110,6 +110,7 @@ module _ (ws : List ℕ) (kinds : ℕ) where
 
 -- ---- the cell of an input
 
+-- there is a source where the word is not -1
 driven : (w : ℕ) → not (eqb w minus-one) ≡ has-source (source-of w)
 unfolding source-of has-source if_then_else_
 driven w = go (eqb w minus-one)
@@ -118,6 +119,7 @@ driven w = go (eqb w minus-one)
     go true = refl
     go false = refl
 
+-- which variant of the enum it is, counted from 0: Exec is 0, Watched 3
 abbrev tag : Pin → ℕ
 tag p = tagOf the-type p
 
@@ -160,6 +162,7 @@ watched-never Seconds i w e t = rw (← e)
 watched-never Variable i w e t = rw (← e)
 watched-never Channel i w e t = rw (← e)
 
+-- the cell, from the answer of `watched`
 pub input-is : (kind g source p v n : ℕ) (t b : Bool) → t ≡ is-watched (getD (kind-at kind .ins) p value) (source-of source) → t ≡ b → n ≡ bit b → v ≡ packed g n 0 0 → v ≡ input-cell kind g source p
 unfolding input-cell
 input-is kind g source p v n t b e d m q =

@@ -55,6 +55,7 @@ bit-in low high kind g h k l =
     let s : 1 * 2 ^ g ≡ 2 ^ g = omega arith in
     rw (le-leb low kind h, le-leb kind high k, s) (mod-eq-of-lt (pow-lt l))
 
+-- one bit at most is set
 bit-most : (low high kind g : ℕ) → gate-bit low high kind g ≤ 2 ^ g
 unfolding gate-bit if_then_else_
 bit-most low high kind g = go (within low high kind)
@@ -103,6 +104,7 @@ pub two-words : (ws : List ℕ) (kinds n low high low₁ high₁ : ℕ) →
 unfolding bits-of
 two-words ws kinds n low high low₁ high₁ = sym (below-add (λ g. gate-bit low high (getD ws (kinds + g) 0) g) (λ g. gate-bit low₁ high₁ (getD ws (kinds + g) 0) g) n)
 
+-- they fit one word, where they are of buffers and of Queues
 pub two-words-fit : (ws : List ℕ) (kinds n a b : ℕ) → n ≤ 64 → a ≡ bits-of ws kinds n 10 13 → b ≡ bits-of ws kinds n 16 17 → a + b < 18446744073709551616
 two-words-fit ws kinds n a b h ea eb =
     let t : 2 ^ n ≤ 2 ^ 64 = pow-mono h in

@@ -1,17 +1,17 @@
--- loops that fill cells one after the other, or part after part
+-- loops that fill cells one after the other, or part after part, and running sums
 pub mod Loops
 -- functions without a loop
 pub mod Leaves
 -- lists by their elements
 pub mod Lists
--- chains
+-- chains: making them, and going along them
 pub mod Chains
 -- the members of chains: `chain-members`, `members-most`
 pub mod Members
--- tables one behind the other: `cleared`, `table-put`
-pub mod Tables
 -- gate by gate
 pub mod Gates
+-- tables one behind the other: `cleared`, `table-put`
+pub mod Tables
 -- the tables of the definition, as they are written
 pub mod Cells
 -- the inputs' cells, and the lists of readers and calls

@@ -33,6 +33,7 @@ unfolding both
 both-maps h f g [] = refl
 both-maps h f g (x ∷ xs) = λ j. h (f x) (g x) ∷ both-maps h f g xs j
 
+-- what `listed` is, where it is not opened
 pub open-listed : {A : Type 0} (f : ℕ → A) (n : ℕ) → listed n f ≡ map f (from 0 n)
 unfolding listed
 open-listed f n = refl

@@ -1,4 +1,4 @@
--- Loops that fill cells one after the other.
+-- Loops that fill cells one after the other, or part after part, and running sums: what holds at the beginning, after one more turn, and at the end.
 use Prim.Native.Nat.{ℕ, zero, suc, _+_, _-_, _*_, _≤_, _<_}
 use mathlib.Core.Path.{_≡_, refl, sym, ap, _∙_}
 use mathlib.Core.Bool.{Bool, true, false}
@@ -78,6 +78,7 @@ below-mono f k (suc n) h = go (leb k n) refl (λ l. below-mono f k n l)
     go true e rec = let q = rec (leb-true k n e) in omega arith
     go false e rec = let l = leb-false k n e in let s : k ≡ suc n = omega arith in rw s (omega arith)
 
+-- sums of nothing, of sums, of equal numbers
 pub below-nothing : (m : ℕ) → below (λ o. 0) m ≡ 0
 unfolding below
 below-nothing zero = refl
@@ -95,6 +96,7 @@ below-same f g (suc m) h = let q = below-same f g m (λ o l. h o (omega arith)) 
 
 -- ---- one part after the other: what is left to write
 
+-- first the one list, then the other behind it
 sets-append : (l : List ℕ) (i : ℕ) (xs ys : List ℕ) → sets l i (xs ++ ys) ≡ sets (sets l i xs) (i + length xs) ys
 sets-append l i [] ys = ap (λ (k : ℕ). sets l k ys) (sym (add-zero i))
 sets-append l i (x ∷ xs) ys =

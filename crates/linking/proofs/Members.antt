@@ -29,6 +29,7 @@ chain-set a v h (done {low = low} {p = p} q) = done {low = low} {p = p} q
 chain-set {next} a v h (link {low = low} {i = i} {l = l} q m t) =
     link {low = low} {i = i} {l = l} q m (rw (getD-set-other next a i v 0 (omega arith)) (chain-set a v (omega arith) t))
 
+-- a chain that ascends from `low` on does so from any number below it
 weaken : {next : List ℕ} {low p : ℕ} {l : List ℕ} (k : ℕ) → k ≤ low → Chain next low p l → Chain next k p l
 weaken k h (done {low = low} {p = p} q) = done {low = k} {p = p} q
 weaken k h (link {low = low} {i = i} {l = l} q m t) = link {low = k} {i = i} {l = l} (omega arith) m t
@@ -99,6 +100,7 @@ turn key n short c j h m =
         rw (getD-set-other hs (key j) o j 0 (λ s. eqb-false (key j) o q (sym s)))
         (weaken j (omega arith) (chain-set j (getD hs (key j) 0) (omega arith) t))
 
+-- all numbers below j more
 made : (key : ℕ → ℕ) (n : ℕ) → n ≤ 640 → (c : Chains) (j : ℕ) → j ≤ n → Made key n c j → Made key n (all-chained key j c) 0
 unfolding all-chained
 made key n short c zero h m = m
@@ -110,6 +112,7 @@ made key n short c (suc j) h m =
 abbrev pub no-chains : Chains
 no-chains = chains (replicate 576 640) (replicate 640 640)
 
+-- before the first
 none-made : (key : ℕ → ℕ) (n : ℕ) → Made key n no-chains n
 unfolding keep
 none-made key n =
@@ -119,6 +122,7 @@ none-made key n =
       each = λ o l. rw (getD-replicate {A = ℕ} 576 o 640 0 l, from-none n n (omega arith)) (done {low = n} {p = 640} (omega arith));
     }
 
+-- so each chain has the numbers whose key it is, ascending
 pub chain-members : (key : ℕ → ℕ) (n : ℕ) → n ≤ 640 → (c : Chains) → c ≡ all-chained key n no-chains → (o : ℕ) → o < 576 → chain-at c o ≡ members key n o
 unfolding chain-at members
 chain-members key n short c e o l =
@@ -140,6 +144,7 @@ below-one k (suc m) = go (eqb k m) refl (below-one k m)
     go true e q = let s = eqb-true k m e in let z = q .1 (omega arith) in (omega arith, λ h. absurd (omega arith))
     go false e q = (let z = q .0 in omega arith, λ h. let z = q .1 (omega arith) in omega arith)
 
+-- one number more in front
 keep-more : (key : ℕ → ℕ) (x : ℕ) (xs : List ℕ) (o : ℕ) → length (keep (λ i. eqb (key i) o) (x ∷ xs)) ≡ bit (eqb (key x) o) + length (keep (λ i. eqb (key i) o) xs)
 unfolding keep if_then_else_ bit
 keep-more key x xs o = go (eqb (key x) o)
@@ -148,6 +153,7 @@ keep-more key x xs o = go (eqb (key x) o)
     go true = omega arith
     go false = omega arith
 
+-- each number is kept for one key at most
 keeps-most : (key : ℕ → ℕ) (xs : List ℕ) (m : ℕ) → below (λ o. length (keep (λ i. eqb (key i) o) xs)) m ≤ length xs
 unfolding keep
 keeps-most key [] m = omega (arith, below-nothing m)

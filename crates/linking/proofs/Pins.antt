@@ -50,6 +50,7 @@ from-shift f a (suc n) = λ j. f (suc a) ∷ from-shift f (suc a) n j
 -- ---- the inputs of one gate
 
 module _ (S : ℕ → Option ℕ) where
+  -- the cell of an input of gate g
   abbrev mark : ℕ → Bool → ℕ
   mark g w = packed g (bit w) 0 0
 
@@ -70,6 +71,7 @@ module _ (S : ℕ → Option ℕ) where
   -- ---- of all gates
 
   module _ (pins : ℕ → List In) where
+    -- how many inputs gate g has
     abbrev size : ℕ → ℕ
     size g = length (pins g)
 
@@ -93,6 +95,7 @@ module _ (S : ℕ → Option ℕ) where
         (both-append mark (replicate k a) (owners (suc a) (map size (from (suc a) n))) (both is-watched (pins a) (map S (from (below size a) k))) (both is-watched rest (map S (from (below size a + k) (length rest)))) lf
         ∙ (λ j. gate-marks a (pins a) (below size a) j ++ all-marks (suc a) n j)))
 
+-- the table of the definition
 pub input-table : (ws : List ℕ) (kinds G s I : ℕ) (ks : List ℕ) (ss : List (Option ℕ)) → ks ≡ listed G (λ g. getD ws (kinds + g) 0) →
     ss ≡ listed I (λ i. source-of (getD ws (s + i) 0)) → length (joined (map (λ k. kind-at k .ins) ks)) ≡ I →
     both (λ g w. packed g (bit w) 0 0) (owners 0 (map (λ k. length (kind-at k .ins)) ks)) (both is-watched (joined (map (λ k. kind-at k .ins) ks)) ss)
@@ -173,6 +176,7 @@ even n h = go (eqb (n % 2) 0) refl
     go true e = let x = eqb-true (n % 2) 0 e in omega arith
     go false e = absurd (h (one (n % 2) (omega arith) (eqb-false (n % 2) 0 e)))
 
+-- its cell is the word that it was read from
 call-back : (to : ℕ → ℕ) (i : ℕ) → call-cell (call-at to i) ≡ to i
 unfolding call-cell bit
 call-back to i = go (eqb (to i % 2) 1) refl

@@ -66,12 +66,14 @@ table-length n xs h =
     let z : length {A = ℕ} (replicate (n - length xs) 0) ≡ n - length xs = length-replicate (n - length xs) 0 in
     omega (arith, length-append xs (replicate (n - length xs) 0))
 
+-- an empty table is all zeros
 open-table : (n : ℕ) → table-of n [] ≡ replicate n 0
 unfolding table-of
 open-table n = ap (λ (k : ℕ). replicate k 0) (sub-zero n)
 
 -- ---- one table
 
+-- a table that is empty is written, and the others stay as they are
 put-table :
     (ns : List ℕ) (ts : List (List ℕ)) (t : ℕ) (xs : List ℕ) → Fit ns ts → t < length ts → getD ts t [] ≡ [] → length xs ≤ getD ns t 0 →
     (sets (tables ns ts) (start ns t) xs ≡ tables ns (set ts t xs)) × Fit ns (set ts t xs)
@@ -113,6 +115,7 @@ empty-fit : (ns : List ℕ) → Fit ns (empty ns)
 empty-fit [] = no-tables
 empty-fit (n ∷ ns) = one-more {n = n} {t = []} (omega arith) (empty-fit ns)
 
+-- after clearing
 pub cleared : (ns l l₁ : List ℕ) → length l ≡ sum ns → l₁ ≡ written l 0 (sum ns) (λ k. 0) → Holds ns (empty ns) l₁
 cleared ns l l₁ h e =
     let n : ℕ = sum ns in
@@ -127,6 +130,7 @@ cleared ns l l₁ h e =
       fit = empty-fit ns;
     }
 
+-- after one table more
 pub table-put :
     (ns : List ℕ) (ts : List (List ℕ)) (t : ℕ) (xs l l₁ : List ℕ) → t < length ts → getD ts t [] ≡ [] → length xs ≤ getD ns t 0 → l₁ ≡ sets l (start ns t) xs →
     Holds ns ts l → Holds ns (set ts t xs) l₁

@@ -41,6 +41,7 @@ pub record Sizes (ws : List ℕ) : Type 0 where
   pub calls : getD ws 3 0 ≤ 256
   pub counted : length ws ≡ 4 + 2 * (getD ws 0 0 + getD ws 1 0 + getD ws 2 0 + getD ws 3 0)
 
+-- seven answers, of which the last five are used
 seven : (a b c d e f g : Bool) → (a && b && c && d && e && f && g) ≡ true → (c ≡ true) × (d ≡ true) × (e ≡ true) × (f ≡ true) × (g ≡ true)
 seven false b c d e f g h = absurd (true≢false (sym h))
 seven true false c d e f g h = absurd (true≢false (sym h))
@@ -85,6 +86,7 @@ buffer-within k = refl
 -- ---- the lists of a circuit, by their elements
 
 module _ (ws : List ℕ) (z : Sizes ws) where
+  -- the sizes, and where the parts of the words begin, as `circuit` reads them
   abbrev G : ℕ
   G = getD ws 0 0
 
@@ -129,6 +131,7 @@ module _ (ws : List ℕ) (z : Sizes ws) where
       ∙ ap (λ (r : List (List Out)). length (joined r)) (map-listed (λ k. kind-at k .outs) G (λ g. getD ws (kinds + g) 0))
       ∙ joined-length G (λ g. kind-at (getD ws (kinds + g) 0) .outs)
 
+  -- the words of a constant
   abbrev constant-kind : ℕ → ℕ
   constant-kind k = getD ws (4 + k) 0
 
@@ -151,6 +154,7 @@ module _ (ws : List ℕ) (z : Sizes ws) where
       ap (λ (n : ℕ). map (λ o. keep (reads o (circuit ws .sources)) (from 0 I)) (from 0 n)) outputs-are
       ∙ reader-lists I O (λ i. getD ws (sources + i) 0) (circuit ws .sources) (omega (arith, z .gates)) sources-are
 
+  -- the words of a call
   abbrev caller : ℕ → ℕ
   caller i = getD ws (callers + i) 0
 
@@ -307,6 +311,7 @@ module _ (ws : List ℕ) (z : Sizes ws) where
 
 -- ---- where questions 1 to 3 are answered yes
 
+-- each number of a list whose members are within a range
 each-most : (n low high d : ℕ) (f : ℕ → ℕ) (xs : List ℕ) → xs ≡ listed n f → all (within low high) xs ≡ true → within low high d ≡ true → (i : ℕ) → i < n → f i ≤ high
 each-most n low high d f xs e h s i l =
     most low high (f i)

@@ -3,35 +3,24 @@ use mathlib.Core.Path.{sym, _∙_}
 use borrow.Author.Needs.{needs}
 use Rattle.circuit.proofs.circuit_refusal.Statement.{statement}
 use Rattle.circuit.proofs.circuit_refusal.Tie as tie
-use Rattle.circuit.proofs.circuit_refusal.Reads as reads
-use Rattle.circuit.proofs.circuit_refusal.Lts as lts
-use Rattle.circuit.proofs.links_refusal.Reads as links-refusal-reads
-use Rattle.circuit.proofs.words_refusal.Reads as words-refusal-reads
-use Rattle.linking.proofs.link.Reads as link-reads
 
--- src/lib.rt:68:9
 words-refusal-requires : tie.Need-words-refusal-requires
 words-refusal-requires c κs = search needs
 
--- src/lib.rt:70:9
 returns : tie.Need-returns
 returns c = refused-early _ _ _ (c .before .words-refusal .ensures) (c .if1 .taken)
 
--- src/lib.rt:72:5
 link-requires : tie.Need-link-requires
 link-requires c κs =
     let w = words-passed _ (sym (c .before .before .words-refusal .ensures) ∙ c .before .if1 .left) in
     (w .sizes, (w .constants, (w .gates, c .before .before .before .before .before .pre)))
 
--- src/lib.rt:73:5
 links-refusal-requires : tie.Need-links-refusal-requires
 links-refusal-requires c κs = (sym (c .before .before .before .before .before .before .words-refusal .ensures) ∙ c .before .before .before .before .before .if1 .left, (search needs, c .before .before .before .link .ensures))
 
--- src/lib.rt:64:1
 same-length : tie.Need-same-length
 same-length c = search needs
 
--- src/lib.rt:64:1
 returns-2 : tie.Need-returns-2
 returns-2 c = asked-all _ _ _ _ _ (c .before .before .before .before .before .before .before .words-refusal .ensures) (c .before .before .before .before .before .before .if1 .left) (c .before .before .before .before .link .ensures) (c .links-refusal .ensures)
 

@@ -2,7 +2,7 @@ use Prim.Native.Nat.{_≤_, _-_}
 use mathlib.Core.Path.{_≡_}
 use borrow.Author.Needs.{needs}
 use Rattle.links.specs.Links.{net}
-use Rattle.circuit.proofs.Unplaced.{unplaced-after, rounds-first, rounds-next, rounds-last}
+use Rattle.circuit.proofs.Unplaced.{unplaced-after, rounds-first, rounds-over, rounds-next, rounds-last}
 use Rattle.circuit.proofs.rings.ordered.Tie as tie
 use Rattle.circuit.proofs.rings.ordered.Statement.{statement}
 
@@ -27,6 +27,9 @@ pure-gates-requires c κs = search needs
 loop-holds : tie.Need-loop-holds Inv-loop μ-loop
 loop-holds c = (search needs, rounds-first _ _ _ (c .before .before .before .before .gates .ensures .0) (c .pure-gates .ensures))
 
+returns : tie.Need-returns Inv-loop μ-loop
+returns c = rounds-over _ _ _ _ (c .before .before .before .before .before .before .before .gates .ensures .0) (c .before .loop-test .taken) (c .before .before .loop .inv .1) (c .if1 .taken)
+
 slice-aggregate-round : tie.Need-slice-aggregate-round Inv-loop μ-loop
 slice-aggregate-round c = search needs
 
@@ -40,10 +43,10 @@ loop-less : tie.Need-loop-less Inv-loop μ-loop
 loop-less c = search needs
 
 loop-again : tie.Need-loop-again Inv-loop μ-loop
-loop-again c = (search needs, rounds-next _ _ _ _ _ _ (c .before .before .before .before .before .before .before .before .gates .ensures .0) (c .before .before .before .before .before .before .before .before .gates .ensures .1) (c .before .before .before .before .before .before .fill .ensures) (c .before .before .before .loop .inv .1) (c .round .ensures))
+loop-again c = (search needs, rounds-next _ _ _ _ _ _ (c .before .before .before .before .before .before .before .before .before .gates .ensures .0) (c .before .before .before .before .before .before .before .before .before .gates .ensures .1) (c .before .before .before .before .before .before .before .fill .ensures) (c .before .before .before .before .loop .inv .1) (c .round .ensures))
 
-returns : tie.Need-returns Inv-loop μ-loop
-returns c = rounds-last _ _ _ _ (c .before .before .before .before .before .before .gates .ensures .0) (c .before .loop .inv .0) (c .loop-test .left) (c .before .loop .inv .1)
+returns-2 : tie.Need-returns-2 Inv-loop μ-loop
+returns-2 c = rounds-last _ _ _ _ (c .before .before .before .before .before .before .gates .ensures .0) (c .before .loop .inv .0) (c .loop-test .left) (c .before .loop .inv .1)
 
 pub ordered-spec : {M : Type 1} → statement M
 ordered-spec =
@@ -56,9 +59,10 @@ ordered-spec =
     fill-requires
     pure-gates-requires
     loop-holds
+    returns
     slice-aggregate-round
     round-requires
     add-k
     loop-less
     loop-again
-    returns)
+    returns-2)

@@ -1,0 +1,75 @@
+//! The packed questions: crates/asked holds what `oracle pack` writes and
+//! prints now, and what is packed can be read back.
+
+use oracle::circuits::{self, Case};
+use oracle::pack::{cases, pack, printed};
+use oracle::questions::ask;
+
+const FILE: &str = concat!(env!("CARGO_MANIFEST_DIR"), "/../crates/asked/data/questions.bin");
+const PRINTED: &str = concat!(env!("CARGO_MANIFEST_DIR"), "/../crates/asked/stdout");
+
+const AGAIN: &str = "oracle pack crates/asked/data/questions.bin > crates/asked/stdout";
+
+/// What the program has room for: a circuit, a script, and the whole.
+const ROOM: usize = 65_536;
+const WHOLE: usize = 1_500_000;
+
+#[test]
+fn the_packed_questions_are_up_to_date() {
+    let file = std::fs::read(FILE).expect("the packed questions");
+    assert!(file == pack(), "write them again: {AGAIN}");
+    assert!(file.len() < WHOLE, "{}", file.len());
+    let text = std::fs::read_to_string(PRINTED).expect("what the program has to print");
+    assert_eq!(text, printed(), "write it again: {AGAIN}");
+}
+
+/// Takes a number from the front.
+fn number(rest: &mut &[u8]) -> usize {
+    let (word, after) = rest.split_first_chunk::<8>().expect("a word");
+    *rest = after;
+    usize::try_from(u64::from_le_bytes(*word)).unwrap()
+}
+
+/// Takes a length and as many bytes from the front.
+fn bytes<'a>(rest: &mut &'a [u8]) -> &'a [u8] {
+    let length = number(rest);
+    let (bytes, after) = rest.split_at(length);
+    *rest = after;
+    bytes
+}
+
+#[test]
+fn every_case_can_be_read_back() {
+    let packed = pack();
+    let mut rest = &packed[..];
+    let cases = cases();
+    assert_eq!(number(&mut rest), cases.len());
+    let (mut checked, mut refused) = ([0; 11], [0; 11]);
+    for case in &cases {
+        checked[number(&mut rest)] += 1;
+        refused[number(&mut rest)] += 1;
+        let lent = [(); 3].map(|()| number(&mut rest));
+        assert_eq!(lent, [case.lent.values, case.lent.units, case.lent.delays], "{}", case.name);
+        let (circuit, script) = (bytes(&mut rest), bytes(&mut rest));
+        assert!(circuit == case.circuit && script == case.script, "{}", case.name);
+        assert!(circuit.len() <= ROOM && script.len() <= ROOM, "{}", case.name);
+    }
+    assert!(rest.is_empty());
+    assert!(refused.iter().all(|&n| n > 20), "{refused:?}");
+    assert_eq!(refused[0], cases.len() / 2, "as many that are not refused");
+    assert!(checked[0] > refused[0], "some are refused by their areas alone");
+}
+
+/// The refused cases that are not packed: the vectors give their sum only.
+#[test]
+fn what_is_left_out() {
+    let packed: Vec<String> = cases().into_iter().map(|case| case.name).collect();
+    let refused = |case: &Case| ask(&case.circuit, &case.script, Some(&case.lent)).is_err();
+    let left: Vec<String> = circuits::all()
+        .into_iter()
+        .filter(refused)
+        .map(|case| case.name)
+        .filter(|name| !packed.contains(name))
+        .collect();
+    assert_eq!(left, ["q8-no-t-100001", "q8-no-s-65536"]);
+}
