@@ -6,9 +6,6 @@ use circuit::check;
 use circuit::refusal;
 use words::read;
 
-// The cells of the links that `refusal` works in.
-const CELLS: usize = 4816;
-
 // The numbers before a case's circuit: what `check` and `refusal` have to answer, the bytes lent, and the circuit's length.
 pub struct Case {
     pub check: u64,
@@ -43,17 +40,9 @@ pub fn numbers(head: &[u8]) -> Case
 pub fn ask(case: Case, circuit: &[u8], script: &[u8]) -> Answers
     ensures { λ r. ⌜ r ≡ answers case (now (circuit .entry)) (now (script .entry)) ⌝ }
 {
-    let mut links = [0usize; CELLS];
     Answers {
         check: check(circuit, script),
-        refusal: refusal(
-            circuit,
-            script,
-            &mut links,
-            case.values,
-            case.units,
-            case.delays,
-        ),
+        refusal: refusal(circuit, script, case.values, case.units, case.delays),
     }
 }
 

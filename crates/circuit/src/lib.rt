@@ -110,8 +110,8 @@ fn earlier(number: u64, later: u64) -> u64
     if number != 0 { number } else { later }
 }
 
-// The number that a call with this circuit and script is refused with, or 0, where areas of these lengths are lent.
-pub fn refusal(
+// The number that a call with this circuit and script is refused with, or 0, where areas of these lengths are lent; and the links, for the call's run.
+pub fn refusal_and_links(
     circuit: &[u8],
     script: &[u8],
     links: &mut [usize],
@@ -130,6 +130,14 @@ pub fn refusal(
     let lent = areas_refusal(circuit, values, units, delays);
     let asked = script_refusal(circuit, script);
     earlier(lent, asked)
+}
+
+// The number that a call with this circuit and script is refused with, or 0, where areas of these lengths are lent.
+pub fn refusal(circuit: &[u8], script: &[u8], values: usize, units: usize, delays: usize) -> u64
+    ensures { λ r. ⌜ r ≡ refusal (some (record { values = values; units = units; delays = delays })) (now (circuit .entry)) (now (script .entry)) ⌝ }
+{
+    let mut links = [0usize; CELLS];
+    refusal_and_links(circuit, script, &mut links, values, units, delays)
 }
 
 // The number that a call with this circuit and script is refused with, or 0, where no areas are lent: it only checks.

@@ -1,7 +1,7 @@
 use Rattle.circuit.proofs.Order.{sizes-good, refused-before, asked-later}
 use borrow.Author.Needs.{needs}
-use Rattle.circuit.proofs.refusal.Statement.{statement}
-use Rattle.circuit.proofs.refusal.Tie as tie
+use Rattle.circuit.proofs.refusal_and_links.Statement.{statement}
+use Rattle.circuit.proofs.refusal_and_links.Tie as tie
 
 circuit-refusal-requires : tie.Need-circuit-refusal-requires
 circuit-refusal-requires c κs = search needs
@@ -27,8 +27,8 @@ same-length-2 c = search needs
 returns-2 : tie.Need-returns-2
 returns-2 c = (asked-later _ _ _ _ (c .before .before .before .before .before .before .circuit-refusal .ensures .0) (c .before .before .before .if1 .left) _ _ _ (c .before .before .areas-refusal .ensures) (c .before .script-refusal .ensures) (c .earlier .ensures), c .before .before .before .before .before .before .circuit-refusal .ensures .1)
 
-pub refusal-spec : {M : Type 1} → statement M
-refusal-spec =
+pub refusal-and-links-spec : {M : Type 1} → statement M
+refusal-and-links-spec =
     tie.close
     (tie.spec
     circuit-refusal-requires
