@@ -4,20 +4,20 @@ use mathlib.Core.Path.{_≡_, refl, sym, ap, _∙_}
 use mathlib.Core.Bool.{Bool, true, false, not, _&&_, _||_}
 use mathlib.Core.List.{List, [], _∷_}
 use native.Mathlib.Omega.{arith}
-use lib.Dec.{leb, ltb, eqb}
+use lib.Dec.{ltb, eqb}
 use lib.ListN.{length, getD, List·getD-eq-default}
-use borrow.Author.Tests.{ltb-false, le-leb, lt-ltb, le-ltb, eq-eqb, ne-eqb, not-true, not-false}
+use borrow.Author.Tests.{ltb-false, lt-ltb, le-ltb, eq-eqb, ne-eqb, not-true, not-false}
 use Rattle.model.specs.declared.Value.{Value}
 use Rattle.model.specs.Base.{if_then_else_}
 use Rattle.model.specs.Kinds.{In, value, Out as Output, fires, shows, passes}
 use Rattle.model.specs.Circuit.{Circuit, minus-one}
-use Rattle.model.specs.Questions.{within, value-output, good-setting, names-constant, good-input, may-call, may-be-called}
+use Rattle.model.specs.Questions.{value-output, good-setting, names-constant, good-input, may-call, may-be-called}
 
 -- a test in the code, `if !t`, where t is what a definition says
-no : (t x : Bool) → t ≡ x → not t ≡ true → x ≡ false
+pub no : (t x : Bool) → t ≡ x → not t ≡ true → x ≡ false
 no t x e h = sym e ∙ not-true t h
 
-yes : (t x : Bool) → t ≡ x → not t ≡ false → x ≡ true
+pub yes : (t x : Bool) → t ≡ x → not t ≡ false → x ≡ true
 yes t x e h = sym e ∙ not-false t h
 
 -- within a list the default does not matter
@@ -63,12 +63,6 @@ input-called c t x b e eb = go (ltb (t / 2) (length (c .pins))) refl
     go : (y : Bool) → ltb (t / 2) (length (c .pins)) ≡ y → b ≡ (y && getD (c .pins) (t / 2) value .called)
     go true q = eb ∙ ap (λ (y : In). y .called) e
     go false q = eb ∙ ap (λ (y : In). y .called) (e ∙ List·getD-eq-default (c .pins) value (ltb-false (t / 2) (length (c .pins)) q))
-
--- ---- a channel
-
-pub up-to : (high w : ℕ) → leb w high ≡ within 0 high w
-unfolding within
-up-to high w = rw (le-leb 0 w (omega arith))
 
 -- ---- an input's source and constant
 

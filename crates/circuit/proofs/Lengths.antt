@@ -1,5 +1,5 @@
 -- Tick lengths. The bits of f64s from 0.0 on are in the order of the f64s, and those from 2^63 on are negative: only -0.0 is not below 0.0.
-use Prim.Native.Nat.{ℕ, zero, suc, _+_, _*_, _/_, _%_, _^_, _≤_, _<_, zero-le}
+use Prim.Native.Nat.{ℕ, zero, suc, _+_, _*_, _%_, _^_, _≤_, _<_, zero-le}
 use mathlib.Core.Path.{_≡_, refl, sym, ap, _∙_, subst}
 use mathlib.Core.Bool.{Bool, true, false, _&&_, and-false, true≢false}
 use mathlib.Core.Logic.{inl, inr}
@@ -13,25 +13,11 @@ use lib.Ieee.Exact.{HasValue, odd-sign}
 use lib.Ieee.Order.{le-of-values}
 use lib.Ieee.Positive.{positive-of-value, values-of-le, first-pos, den-pos}
 use lib.Pow.{pow-pos, pow-mono, pow-add, shl-lt}
-use Rattle.floats.proofs.Bits.{fields-zero, fields-number, finite-is}
+use Rattle.floats.proofs.Bits.{negative, exponent, digits, fields-zero, fields-number, finite-is}
 use Rattle.model.specs.Value.{le64}
 use Rattle.model.specs.Questions.{finite, good-length}
 
 -- The bits 0x8000000000000000 are -0.0's, 0x7FF0000000000000 infinity's, 0x40AC200000000000 those of 3,600.0.
-
--- ---- the fields of an f64
-
--- whether the sign is set
-abbrev negative : ℕ → Bool
-negative b = leb 0x8000000000000000 b
-
--- the field of the exponent: 2047 for infinities and NaNs
-abbrev exponent : ℕ → ℕ
-exponent b = b % 0x8000000000000000 / 0x10000000000000
-
--- the field of the digits
-abbrev digits : ℕ → ℕ
-digits b = b % 0x10000000000000
 
 -- ---- the size of an f64
 

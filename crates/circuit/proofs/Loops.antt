@@ -1,11 +1,11 @@
 -- Loops over columns of words. A loop's invariant says that finishing from here gives the same as finishing from the start.
-use Prim.Native.Nat.{ℕ, zero, suc, _+_, _-_, _*_, _≤_, _<_}
+use Prim.Native.Nat.{ℕ, suc, _+_, _-_, _*_, _≤_, _<_}
 use mathlib.Core.Path.{_≡_, refl, sym, ap, _∙_}
 use mathlib.Core.Bool.{Bool, true, false, _&&_, and-assoc}
-use mathlib.Core.List.{List, [], _∷_, map}
+use mathlib.Core.List.{List, [], _∷_, map, map-id}
 use native.Mathlib.Omega.{arith}
 use lib.Dec.{eqb, leb, leb·zero}
-use lib.ListN.{length, getD, take, drop, List·getD-eq-default}
+use lib.ListN.{length, getD, drop, List·getD-eq-default}
 use lib.Seq.{drop-cons, getD-take, getD-drop}
 use borrow.Author.Tests.{eq-eqb, ne-eqb, le-leb, lt-leb}
 use Rattle.words.specs.Words.{words}
@@ -14,6 +14,7 @@ use Rattle.model.specs.Base.{if_then_else_, all, both, keep, sum}
 use Rattle.model.specs.Value.{bit}
 use Rattle.model.specs.Circuit.{part}
 use Rattle.model.specs.Questions.{within, yes-all}
+use Rattle.model.proofs.Laid.{part-most}
 
 -- ---- a column
 
@@ -40,14 +41,8 @@ pub part-at : (ws : List ℕ) (k n i : ℕ) → i < n → getD ws (k + i) 0 ≡ 
 unfolding part
 part-at ws k n i h = sym (getD-take n (drop k ws) i 0 h ∙ getD-drop k ws i 0)
 
-take-most : (n : ℕ) (xs : List ℕ) → length (take n xs) ≤ n
-take-most zero xs = omega arith
-take-most (suc n) [] = omega arith
-take-most (suc n) (x ∷ xs) = omega (arith, take-most n xs)
-
 pub part-past : (ws : List ℕ) (k n i : ℕ) → n ≤ i → 0 ≡ getD (part ws k n) i 0
-unfolding part
-part-past ws k n i h = sym (List·getD-eq-default (take n (drop k ws)) 0 {n = i} (omega (arith, take-most n (drop k ws))))
+part-past ws k n i h = sym (List·getD-eq-default (part ws k n) 0 {n = i} (omega (arith, part-most ws k n)))
 
 -- ---- tests
 
@@ -160,13 +155,9 @@ module _ (p : ℕ → Bool) (f : ℕ → ℕ) (s : List ℕ) (k n m : ℕ) where
       let z : total + 0 ≡ total = omega arith in
       rw (left-last (words s) k n i l, z) at a
 
-pub map-same : (xs : List ℕ) → map (λ x. x) xs ≡ xs
-map-same [] = refl
-map-same (x ∷ xs) = ap (λ (l : List ℕ). x ∷ l) (map-same xs)
-
 -- the words themselves added up
 pub tally-plain : (p : ℕ → Bool) (s : List ℕ) (k n m : ℕ) → tally p (λ x. x) m 0 (left (words s) k n 0) ≡ (all p (part (words s) k n) && eqb (sum (part (words s) k n)) m)
-tally-plain p s k n m = tally-first p (λ x. x) s k n m ∙ ap (λ (xs : List ℕ). all p (part (words s) k n) && eqb (sum xs) m) (map-same (part (words s) k n))
+tally-plain p s k n m = tally-first p (λ x. x) s k n m ∙ ap (λ (xs : List ℕ). all p (part (words s) k n) && eqb (sum xs) m) (map-id (part (words s) k n))
 
 -- ---- how many words pass a test
 

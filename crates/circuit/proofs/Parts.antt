@@ -1,20 +1,21 @@
 -- Questions 3, 7, 9 and 10 from what is asked of their parts.
-use Prim.Native.Nat.{ℕ, zero, suc, _+_, _*_, _≤_, _<_, max}
+use Prim.Native.Nat.{ℕ, suc, _+_, _*_, _≤_, _<_, max}
 use mathlib.Core.Path.{_≡_, refl, sym, ap, _∙_}
-use mathlib.Core.Bool.{Bool, true, false, not, _&&_, and-assoc, and-comm, true≢false}
+use mathlib.Core.Bool.{Bool, true, false, not, _&&_, and-assoc, and-comm}
 use mathlib.Core.List.{List, [], _∷_, map}
 use mathlib.Core.Option.{none, some}
 use native.Mathlib.Nat.{add-zero}
 use native.Mathlib.Omega.{arith}
 use lib.Dec.{eqb, leb, leb·suc-suc}
-use lib.ListN.{length, getD, drop, length-drop}
-use lib.Seq.{length-take-le}
+use lib.ListN.{length, getD}
 use Rattle.words.specs.Words.{words}
 use Rattle.words.proofs.Laws.{words-long}
-use Rattle.model.specs.Base.{if_then_else_, all, both, keep, from, sum}
+use Rattle.model.specs.Base.{if_then_else_, all, keep, from, sum}
 use Rattle.model.specs.Kinds.{kind-at}
 use Rattle.model.specs.Circuit.{Circuit, part, word-at, circuit, circuit-opened, kind-of-gate}
 use Rattle.model.specs.Questions.{Areas, within, question-1, question-3, question-7, question-8, question-9, question-10, names-constant, queues, good-length, script-refusal}
+use Rattle.model.proofs.Lists.{both-length}
+use Rattle.model.proofs.Laid.{part-length}
 use Rattle.circuit.proofs.Loops.{all-alike, within-zero}
 use Rattle.circuit.proofs.Sized.{sized}
 
@@ -85,18 +86,6 @@ ticks-are ws T S t u et es e₁ e₂ =
 
 -- ---- question 10
 
-part-length : (ws : List ℕ) (k n : ℕ) → k + n ≤ length ws → length (part ws k n) ≡ n
-unfolding part
-part-length ws k n l = length-take-le n (drop k ws) (omega (arith, length-drop k ws))
-
-both-length : {A : Type 0} (f : ℕ → ℕ → A) (n : ℕ) (xs ys : List ℕ) → length xs ≡ n → length ys ≡ n → length (both f xs ys) ≡ n
-unfolding both
-both-length f n [] [] e q = e
-both-length f n [] (y ∷ ys) e q = e
-both-length f n (x ∷ xs) [] e q = q
-both-length f zero (x ∷ xs) (y ∷ ys) e q = absurd (omega arith)
-both-length f (suc n) (x ∷ xs) (y ∷ ys) e q = ap suc (both-length f n xs ys (omega arith) (omega arith))
-
 names : (s : List ℕ) → question-1 s (words s) ≡ true → (k : ℕ) → names-constant (circuit (words s)) k ≡ within 0 (getD (words s) 1 0) k
 unfolding names-constant circuit word-at
 names s h k =
@@ -105,7 +94,7 @@ names s h k =
     let l : 4 + K + K ≤ length (words s) = words-long (4 + K + K) s (omega arith) in
     let a : length (part (words s) 4 K) ≡ K = part-length (words s) 4 K (omega arith) in
     let b : length (part (words s) (4 + K) K) ≡ K = part-length (words s) (4 + K) K l in
-    rw (both-length _ K (part (words s) 4 K) (part (words s) (4 + K) K) a b) (leb·suc-suc k K ∙ sym (within-zero K k))
+    rw (both-length _ (part (words s) 4 K) (part (words s) (4 + K) K) (a ∙ sym b), a) (leb·suc-suc k K ∙ sym (within-zero K k))
 
 pub stimuli-are :
     (s ws : List ℕ) (G K T S : ℕ) (t u : Bool) → question-1 s (words s) ≡ true → G ≡ getD (words s) 0 0 → K ≡ getD (words s) 1 0 → S ≡ getD ws 1 0 → T ≡ getD ws 0 0 →
@@ -120,10 +109,6 @@ stimuli-are s ws G K T S t u h g k es et e₁ e₂ =
     kinds-are ws = unfold circuit in unfold word-at in refl
 
 -- ---- a script's refusal
-
-pub no-refusal : (t q : Bool) → t ≡ q → not t ≡ false → q ≡ true
-no-refusal true q e h = sym e
-no-refusal false q e h = absurd (true≢false h)
 
 module _ (c : Circuit) (s : List ℕ) (t : Bool) (e : t ≡ question-8 s (words s)) where
   pub refused-8 : not t ≡ true → 8 ≡ script-refusal c s

@@ -1,12 +1,10 @@
 -- Questions 4 and 5 as one test of each input and one of each call.
-use Prim.Native.Nat.{ℕ, zero, suc, _+_, _*_, _≤_, _<_}
+use Prim.Native.Nat.{ℕ, _+_, _*_, _≤_}
 use mathlib.Core.Path.{_≡_, refl, sym, ap, ap₂, _∙_}
 use mathlib.Core.Bool.{Bool, true, false, not, _&&_}
 use mathlib.Core.List.{List, [], _∷_}
-use native.Mathlib.Nat.{add-zero, add-suc}
 use native.Mathlib.Omega.{arith}
-use lib.ListN.{length, getD, take, drop}
-use lib.Seq.{drop-cons}
+use lib.ListN.{length, getD}
 use borrow.Author.Tests.{not-true, not-false}
 use Rattle.words.specs.Words.{words}
 use Rattle.words.proofs.Laws.{count-words}
@@ -15,22 +13,15 @@ use Rattle.model.specs.Base.{all, from}
 use Rattle.model.specs.Kinds.{In, value}
 use Rattle.model.specs.Circuit.{Circuit, part, word-at, stored-in}
 use Rattle.model.specs.Questions.{question-1, good-input, question-4, may-call, may-be-called, question-5}
+use Rattle.model.proofs.Lists.{all-map}
+use Rattle.model.proofs.Laid.{part-is}
 use Rattle.circuit.proofs.Sized.{sized}
 
 -- ---- lists of words
 
-part-from :
-    (p : ℕ → Bool) (ws : List ℕ) (k i n : ℕ) → k + i + n ≤ length ws → all p (take n (drop (k + i) ws)) ≡ all (λ j. p (getD ws (k + j) 0)) (from i n)
-unfolding all from
-part-from p ws k i zero h = refl
-part-from p ws k i (suc n) h =
-    let l : k + i < length ws = omega arith in
-    rw (drop-cons ws (k + i) 0 l, ← add-suc k i) (ap (λ (b : Bool). p (getD ws (k + i) 0) && b) (part-from p ws k (suc i) n (omega arith)))
-
 -- a test of n words from place k on
 pub all-part : (p : ℕ → Bool) (ws : List ℕ) (k n : ℕ) → k + n ≤ length ws → all p (part ws k n) ≡ all (λ j. p (getD ws (k + j) 0)) (from 0 n)
-unfolding part
-all-part p ws k n h = ap (λ (m : ℕ). all p (take n (drop m ws))) (sym (add-zero k)) ∙ part-from p ws k 0 n (omega arith)
+all-part p ws k n h = ap (λ (r : List ℕ). all p r) (part-is ws k n h) ∙ all-map p (λ j. getD ws (k + j) 0) (from 0 n)
 
 -- two tests of each at once
 pub all-both : (p q : ℕ → Bool) (xs : List ℕ) → (all p xs && all q xs) ≡ all (λ x. p x && q x) xs

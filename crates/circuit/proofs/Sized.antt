@@ -4,7 +4,7 @@ use mathlib.Core.Path.{_≡_, sym, _∙_}
 use mathlib.Core.Bool.{Bool, true, false, _&&_}
 use mathlib.Core.List.{List}
 use native.Mathlib.Omega.{arith}
-use borrow.Author.Tests.{le-leb, lt-leb, leb-true, eq-eqb, ne-eqb, eqb-true}
+use borrow.Author.Tests.{le-leb, lt-leb, eq-eqb, ne-eqb, eqb-true}
 use lib.Dec.{leb, eqb}
 use lib.ListN.{length, getD}
 use Rattle.words.specs.Words.{words}
@@ -12,10 +12,7 @@ use Rattle.words.proofs.Laws.{lengths, count-words, words-long}
 use Rattle.model.specs.Circuit.{word-at}
 use Rattle.model.specs.Questions.{within, question-1, question-8}
 use Rattle.model.proofs.Lists.{both-true}
-
-pub within-true : (low high w : ℕ) → within low high w ≡ true → (low ≤ w) × (w ≤ high)
-unfolding within
-within-true low high w e = let t = both-true (leb low w) (leb w high) e in (leb-true low w (t .0), leb-true w high (t .1))
+use Rattle.model.proofs.Sizes.{within-true, Sizes, sizes}
 
 -- ---- whole words, and enough of them
 
@@ -63,39 +60,11 @@ module _ (g k i c : ℕ) (t₁ t₂ t₃ t₄ : Bool) (q₁ : t₁ ≡ within 1 
     unfolding question-1 word-at
     unfit-1 f = rw (← eg, ← ek, ← ei, ← ec, is-whole 4 s h l, all-four false f)
 
--- The sizes of a circuit that question 1 lets through.
-pub record Sizes (s : List ℕ) : Type 0 where
-  pub gates : getD (words s) 0 0 ≤ 64
-  pub constants : getD (words s) 1 0 ≤ 64
-  pub inputs : getD (words s) 2 0 ≤ 640
-  pub calls : getD (words s) 3 0 ≤ 256
-  pub bytes : length s ≡ 8 * (4 + 2 * (getD (words s) 0 0 + getD (words s) 1 0 + getD (words s) 2 0 + getD (words s) 3 0))
-
-pub sized : (s : List ℕ) → question-1 s (words s) ≡ true → Sizes s
-unfolding question-1 word-at
-sized s e =
-    let g = within 1 64 (getD (words s) 0 0) in
-    let k = within 0 64 (getD (words s) 1 0) in
-    let i = within 0 640 (getD (words s) 2 0) in
-    let c = within 0 256 (getD (words s) 3 0) in
-    let m = 4 + 2 * (getD (words s) 0 0 + getD (words s) 1 0 + getD (words s) 2 0 + getD (words s) 3 0) in
-    let w = whole 4 s in
-    let h₁ = both-true (w && g && k && i && c) (eqb (length (words s)) m) e in
-    let h₂ = both-true (w && g && k && i) c (h₁ .0) in
-    let h₃ = both-true (w && g && k) i (h₂ .0) in
-    let h₄ = both-true (w && g) k (h₃ .0) in
-    let h₅ = both-true w g (h₄ .0) in
-    let h₆ = both-true (eqb (length s % 8) 0) (leb 4 (length (words s))) (h₅ .0) in
-    let n : length (words s) ≡ m = eqb-true (length (words s)) m (h₁ .1) in
-    let z : length s % 8 ≡ 0 = eqb-true (length s % 8) 0 (h₆ .0) in
-    let q = lengths s in
-    record {
-      gates = within-true 1 64 (getD (words s) 0 0) (h₅ .1) .1;
-      constants = within-true 0 64 (getD (words s) 1 0) (h₄ .1) .1;
-      inputs = within-true 0 640 (getD (words s) 2 0) (h₃ .1) .1;
-      calls = within-true 0 256 (getD (words s) 3 0) (h₂ .1) .1;
-      bytes = omega arith;
-    }
+-- The sizes of a circuit that question 1 lets through, and with them its bytes.
+pub sized :
+    (s : List ℕ) → question-1 s (words s) ≡ true →
+    Sizes s (words s) × (length s ≡ 8 * (4 + 2 * (getD (words s) 0 0 + getD (words s) 1 0 + getD (words s) 2 0 + getD (words s) 3 0)))
+sized s e = let z = sizes s (words s) e in (z, omega (arith, z .whole, z .counted, lengths s))
 
 -- ---- question 8
 

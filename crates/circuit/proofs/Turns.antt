@@ -9,6 +9,7 @@ use lib.ListN.{length, getD, set}
 use lib.Seq.{getD-set-same, getD-set-other}
 use borrow.Author.Tests.{eqb-true, eqb-false}
 use Rattle.model.specs.Base.{all, each, from}
+use Rattle.model.proofs.Lists.{from-first, from-none}
 
 -- ---- a test of each of n numbers from 0 on
 
@@ -22,11 +23,8 @@ module _ (p : ℕ → Bool) (n : ℕ) where
   all-first = let e : n - 0 ≡ n = omega arith in rw e
 
   turn : (i : ℕ) → i < n → all-from i ≡ (p i && all-from (i + 1))
-  unfolding all-from all from
-  turn i h =
-      let e : n - i ≡ suc (n - (i + 1)) = omega arith in
-      let f : i + 1 ≡ suc i = omega arith in
-      rw (e, f)
+  unfolding all-from all
+  turn i h = ap (λ (r : List ℕ). all p r) (from-first i n h)
 
   pub all-next : (i : ℕ) (t x : Bool) → i < n → t ≡ p i → t ≡ true → all-from i ≡ x → all-from (i + 1) ≡ x
   all-next i t x h e y q = sym (turn i h ∙ ap (λ b. b && all-from (i + 1)) (sym e ∙ y)) ∙ q
@@ -35,8 +33,8 @@ module _ (p : ℕ → Bool) (n : ℕ) where
   all-stop i t x h e y q = sym (turn i h ∙ ap (λ b. b && all-from (i + 1)) (sym e ∙ y)) ∙ q
 
   pub all-last : (i : ℕ) (x : Bool) → n ≤ i → all-from i ≡ x → true ≡ x
-  unfolding all-from all from
-  all-last i x h q = let e : n - i ≡ 0 = omega arith in rw e at q
+  unfolding all-from all
+  all-last i x h q = ap (λ (r : List ℕ). all p r) (sym (from-none i n h)) ∙ q
 
 -- ---- a step for each of n numbers from a on
 

@@ -1,22 +1,23 @@
 -- Question 6 by words of gates: a round of the code leaves the gates that a round of the definition does not place.
 use Prim.Native.Nat.{ℕ, zero, suc, _+_, _-_, _*_, _%_, _^_, _≤_, _<_}
 use mathlib.Core.Path.{_≡_, refl, sym, ap, _∙_}
-use mathlib.Core.Bool.{Bool, true, false, not, _&&_, _||_}
-use mathlib.Core.List.{List, [], _∷_, map}
+use mathlib.Core.Bool.{Bool, true, false, not, _&&_, _||_, and-true, and-assoc, Bool·not-not}
+use mathlib.Core.List.{List, [], _∷_, map, map-map}
 use mathlib.Core.Option.{Option, none, some}
 use native.Mathlib.Nat.{zero-add, add-zero}
 use native.Mathlib.Numerals.{add-one}
 use native.Mathlib.Omega.{arith}
 use lib.Bits.{bitAnd, bitOr}
 use lib.Dec.{ltb, eqb}
-use lib.ListN.{length, getD, length-map, List·getD-eq-default}
-use lib.Pow.{shl-exact}
+use lib.ListN.{length, getD, List·getD-eq-default}
 use borrow.Author.Tests.{ltb-false, lt-ltb, le-ltb, not-true, not-false}
+use Rattle.floats.proofs.Bits.{unit-is}
 use Rattle.model.specs.Base.{if_then_else_, all, each, from}
 use Rattle.model.specs.Kinds.{kind-at, pure}
 use Rattle.model.specs.Circuit.{Circuit, kind-of-gate, input, inputs-of, source, gate-at-output, gates}
 use Rattle.model.specs.Questions.{yes-all, source-placed, place, place-on, question-6}
-use Rattle.model.proofs.Lists.{all-places, places-all, from-length}
+use Rattle.model.proofs.Lists.{all-places, places-all, from-same}
+use Rattle.model.proofs.Placing.{placed, place-on-suc, placed-length}
 use Rattle.links.specs.declared.Read.{Read}
 use Rattle.links.specs.declared.Read.the-variants.{Output, Nothing as NoOutput}
 use Rattle.links.specs.Links.{output-read}
@@ -24,14 +25,6 @@ use Rattle.circuit.specs.Gates.{word-of-bits, gates-where, gate-bit, sou
 use Rattle.circuit.proofs.Digits.{apart-or, word-most, word-none, word-apart}
 
 -- ---- lists
-
-and-both : (a b d : Bool) → ((a && b) && d) ≡ (a && (b && d))
-and-both true b d = refl
-and-both false b d = refl
-
-and-yes : (a : Bool) → a ≡ (a && true)
-and-yes true = refl
-and-yes false = refl
 
 either-yes : (a : Bool) {b : Bool} → b ≡ true → (a || b) ≡ true
 either-yes true h = refl
@@ -47,18 +40,6 @@ map-yes f h [] i = refl
 map-yes f h (x ∷ xs) zero = h x
 map-yes f h (x ∷ xs) (suc i) = map-yes f h xs i
 
--- two lists that are given place by place
-row-same :
-    {A : Type 0} (f g : ℕ → A) (k n : ℕ) → ((i : ℕ) → k ≤ i → i < k + n → f i ≡ g i) → map f (from k n) ≡ map g (from k n)
-unfolding from
-row-same f g k zero h = refl
-row-same f g k (suc n) h = λ j. h k (omega arith) (omega arith) j ∷ row-same f g (suc k) n (λ i l m. h i (omega arith) (omega arith)) j
-
-row-not : (f : ℕ → Bool) (k n : ℕ) → map (λ i. not (f i)) (from k n) ≡ map not (map f (from k n))
-unfolding from
-row-not f k zero = refl
-row-not f k (suc n) = ap (λ (l : List Bool). not (f k) ∷ l) (row-not f (suc k) n)
-
 -- a list, by its places
 row-places :
     {A : Type 0} (f : ℕ → A) (ks : List ℕ) (F : ℕ → A) (k : ℕ) → ((i : ℕ) → F (k + i) ≡ f (getD ks i 0)) → map F (from k (length ks)) ≡ map f ks
@@ -72,7 +53,7 @@ row-places f (x ∷ ks) F k h =
 
 pub gate-in : (g : ℕ) → g < 64 → 1 * 2 ^ g % 2 ^ 64 ≡ gate-bit g
 unfolding gate-bit if_then_else_
-gate-in g h = rw (lt-ltb g 64 h) (shl-exact 1 g 64 (omega arith) (omega arith) ∙ omega arith)
+gate-in g h = rw (lt-ltb g 64 h) (unit-is g h)
 
 pub gate-out : (g : ℕ) → 64 ≤ g → 0 ≡ gate-bit g
 unfolding gate-bit if_then_else_
@@ -85,11 +66,11 @@ module _ (c : Circuit) where
       (k u w : ℕ) (is : List ℕ) → u < 2 ^ k →
       eqb (bitAnd (each (with-source c) w is) u) 0 ≡ (eqb (bitAnd w u) 0 && all (λ i. eqb (bitAnd (source-bit c i) u) 0) is)
   unfolding with-source each all
-  bits-apart k u w [] h = and-yes (eqb (bitAnd w u) 0)
+  bits-apart k u w [] h = sym (and-true (eqb (bitAnd w u) 0))
   bits-apart k u w (i ∷ is) h =
       bits-apart k u (bitOr w (source-bit c i)) is h
       ∙ ap (λ (b : Bool). b && all (λ i. eqb (bitAnd (source-bit c i) u) 0) is) (apart-or k w (source-bit c i) u h)
-      ∙ and-both (eqb (bitAnd w u) 0) (eqb (bitAnd (source-bit c i) u) 0) (all (λ i. eqb (bitAnd (source-bit c i) u) 0) is)
+      ∙ and-assoc (eqb (bitAnd w u) 0) (eqb (bitAnd (source-bit c i) u) 0) (all (λ i. eqb (bitAnd (source-bit c i) u) 0) is)
 
   gate-apart : (bs : List Bool) (g : ℕ) → length bs ≤ 64 → eqb (bitAnd (gate-bit g) (word-of-bits (map not bs))) 0 ≡ getD bs g true
   unfolding gate-bit if_then_else_
@@ -154,51 +135,32 @@ module _ (c : Circuit) where
 
   -- ---- the rounds
 
-  -- the gates that are placed after k rounds, one by one
-  unfoldable pub placed-after : ℕ → List Bool
-  placed-after k = place-on c k (map (λ k. not (pure k)) (c .kinds))
-
-  -- the word of those that are not
+  -- the word of the gates that are not placed after k rounds
   unfoldable pub unplaced-after : ℕ → ℕ
-  unplaced-after k = word-of-bits (map not (placed-after k))
-
-  one-more : (k : ℕ) (bs : List Bool) → place-on c (suc k) bs ≡ place c (place-on c k bs)
-  unfolding place-on
-  one-more zero bs = refl
-  one-more (suc k) bs = one-more k (place c bs)
-
-  placed-length : (k : ℕ) → length (placed-after k) ≡ length (c .kinds)
-  unfolding placed-after place-on place gates
-  placed-length zero = length-map (c .kinds) (λ k. not (pure k))
-  placed-length (suc k) =
-      rw (one-more k (map (λ k. not (pure k)) (c .kinds))) (length-map (from 0 (length (c .kinds))) _ ∙ from-length 0 (length (c .kinds)))
+  unplaced-after k = word-of-bits (map not (placed c k))
 
   -- before the first round: the pure gates
   pub rounds-first : (n w : ℕ) → n ≡ length (c .kinds) → w ≡ gates-where (λ g. pure (kind-of-gate c g)) n → w ≡ unplaced-after 0
-  unfolding unplaced-after placed-after place-on gates-where kind-of-gate
+  unfolding unplaced-after placed place-on gates-where kind-of-gate
   rounds-first n w en e =
       rw (e, en)
       (ap word-of-bits (row-places pure (c .kinds) (λ g. pure (getD (c .kinds) g 0)) 0 (λ i. ap (λ g. pure (getD (c .kinds) g 0)) (zero-add i)) ∙ twice (c .kinds)))
     where
       twice : (ks : List ℕ) → map pure ks ≡ map not (map (λ k. not (pure k)) ks)
       twice [] = refl
-      twice (k ∷ ks) = λ j. same (pure k) j ∷ twice ks j
-        where
-          same : (b : Bool) → b ≡ not (not b)
-          same true = refl
-          same false = refl
+      twice (k ∷ ks) = λ j. sym (Bool·not-not (pure k)) j ∷ twice ks j
 
   -- one round, where `words` has the word of each gate
   pub rounds-next :
       (n k w v : ℕ) (words : List ℕ) → n ≡ length (c .kinds) → n ≤ 64 → ((g : ℕ) → g < n → getD words g 0 ≡ awaited c g) →
       w ≡ unplaced-after k → v ≡ gates-where (waits words w) n → v ≡ unplaced-after (k + 1)
-  unfolding unplaced-after placed-after gates-where place gates
+  unfolding unplaced-after placed gates-where place gates
   rounds-next n k w v words en l a ew ev =
-      let b : length (placed-after k) ≤ 64 = omega (arith, placed-length k) in
-      rw (ev, ew, en, add-one, one-more k (map (λ k. not (pure k)) (c .kinds)))
+      let b : length (placed c k) ≤ 64 = omega (arith, placed-length c k) in
+      rw (ev, ew, en, add-one, place-on-suc c k (map (λ k. not (pure k)) (c .kinds)))
       (ap word-of-bits
-      (row-same _ _ 0 (length (c .kinds)) (λ g o m. waits-is words (placed-after k) g b (a g (omega arith)))
-      ∙ row-not _ 0 (length (c .kinds))))
+      (from-same _ _ 0 (length (c .kinds)) (λ g o m. waits-is words (placed c k) g b (a g (omega arith)))
+      ∙ sym (map-map not _ (from 0 (length (c .kinds))))))
 
   -- Once all gates are placed they stay so: nothing is left to wait for.
   all-stay : (bs : List Bool) → ((i : ℕ) → getD bs i true ≡ true) → (i : ℕ) → getD (place c bs) i true ≡ true
@@ -209,24 +171,24 @@ module _ (c : Circuit) where
       go none = refl
       go (some o) = h (gate-at-output c o)
 
-  stay-on : (k j : ℕ) → ((i : ℕ) → getD (placed-after k) i true ≡ true) → (i : ℕ) → getD (placed-after (k + j)) i true ≡ true
-  unfolding placed-after
+  stay-on : (k j : ℕ) → ((i : ℕ) → getD (placed c k) i true ≡ true) → (i : ℕ) → getD (placed c (k + j)) i true ≡ true
+  unfolding placed
   stay-on k zero h i = rw (add-zero k) (h i)
   stay-on k (suc j) h i =
       let e : k + suc j ≡ suc (k + j) = omega arith in
-      rw (e, one-more (k + j) (map (λ k. not (pure k)) (c .kinds))) (all-stay _ (stay-on k j h) i)
+      rw (e, place-on-suc c (k + j) (map (λ k. not (pure k)) (c .kinds))) (all-stay _ (stay-on k j h) i)
 
   -- before all, where none is left
   pub rounds-over : (n k w : ℕ) → n ≡ length (c .kinds) → k < n → w ≡ unplaced-after k → w ≡ 0 → true ≡ question-6 c
-  unfolding unplaced-after question-6 yes-all placed-after
+  unfolding unplaced-after question-6 yes-all placed
   rounds-over n k w en l e z =
       let q : k + (length (c .kinds) - k) ≡ length (c .kinds) = omega arith in
-      let a : all (λ b. b) (placed-after k) ≡ true = sym (word-none (placed-after k)) ∙ ap (λ (x : ℕ). eqb x 0) (sym e ∙ z) in
-      sym (places-all _ (rw q at (stay-on k (length (c .kinds) - k) (all-places (placed-after k) a))))
+      let a : all (λ b. b) (placed c k) ≡ true = sym (word-none (placed c k)) ∙ ap (λ (x : ℕ). eqb x 0) (sym e ∙ z) in
+      sym (places-all _ (rw q at (stay-on k (length (c .kinds) - k) (all-places (placed c k) a))))
 
   -- after all
   pub rounds-last : (n k w : ℕ) → n ≡ length (c .kinds) → k ≤ n → n ≤ k → w ≡ unplaced-after k → eqb w 0 ≡ question-6 c
-  unfolding unplaced-after placed-after question-6 yes-all
+  unfolding unplaced-after placed question-6 yes-all
   rounds-last n k w en l m e =
       let q : k ≡ length (c .kinds) = omega arith in
       rw (e, q) (word-none (place-on c (length (c .kinds)) (map (λ k. not (pure k)) (c .kinds))))

@@ -1,7 +1,7 @@
 -- Laws of a buffer in exec mode: each way out of the functions of fires.rt.
 use Prim.Native.Nat.{ℕ, suc, min, _+_, _-_, _%_, _<_, _≤_}
 use mathlib.Core.Path.{_≡_, refl, sym, ap, _∙_}
-use mathlib.Core.Bool.{Bool, true, false, not}
+use mathlib.Core.Bool.{Bool, true, false, not, Bool·not-not}
 use mathlib.Core.List.{List, [], _∷_, map}
 use native.Mathlib.Omega.{arith}
 use lib.Dec.{leb}
@@ -101,10 +101,6 @@ pub keep-front : (d : Delay) (k : Countdown) (ks : List Countdown) (n : ℕ) →
 unfolding drop-due
 keep-front d k ks n e = rw (e, drop-due)
 
-not-not : (b : Bool) → not (not b) ≡ b
-not-not true = refl
-not-not false = refl
-
 drop-mod : (s : Bool) (n h : ℕ) (ws : List ℕ) → under-way s n (h % 32 + 1) ws ≡ under-way s n (suc h) ws
 drop-mod s n h ws = under-way-same s n (h % 32 + 1) (suc h) ws (omega arith)
 
@@ -114,7 +110,7 @@ module _ (s : Bool) (n h fired : ℕ) (ws : List ℕ) (k : Counting) (over : Boo
   front = let m : n ≡ suc (n - 1) = omega arith in ap (λ (j : ℕ). under-way s j h ws) m ∙ under-way-front s (n - 1) h ws
 
   front-due : (b : Bool) → not over ≡ not b → due (of-word s (getD ws (h % 32) 0)) ≡ b
-  front-due b r = ap due (sym e) ∙ sym o ∙ sym (not-not over) ∙ ap not r ∙ not-not b
+  front-due b r = ap due (sym e) ∙ sym o ∙ sym (Bool·not-not over) ∙ ap not r ∙ Bool·not-not b
 
   pub drop-turn : not over ≡ false → drop-due idle (under-way s (n - 1) (h % 32 + 1) ws) (fired + 1) ≡ x
   drop-turn r =

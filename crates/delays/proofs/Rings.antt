@@ -7,6 +7,7 @@ use native.Mathlib.Nat.{add-zero}
 use native.Mathlib.Omega.{arith}
 use lib.ListN.{length, getD, set, length-map, List·getD-map}
 use lib.Seq.{getD-set-same, getD-set-other}
+use Rattle.schedule.proofs.Erase.{map-append}
 use Rattle.model.specs.Base.{snoc}
 use Rattle.model.specs.State.{Countdown}
 use Rattle.model.specs.Delays.{tick-down}
@@ -78,10 +79,6 @@ map-set f [] i v = refl
 map-set f (x ∷ xs) zero v = refl
 map-set f (x ∷ xs) (suc i) v = ap (λ r. f x ∷ r) (map-set f xs i v)
 
-map-last : {A B : Type 0} (f : A → B) (xs : List A) (x : A) → map f (xs ++ (x ∷ [])) ≡ map f xs ++ (f x ∷ [])
-map-last f [] x = refl
-map-last f (y ∷ ys) x = ap (λ r. f y ∷ r) (map-last f ys x)
-
 pub under-way-length : (s : Bool) (n h : ℕ) (ws : List ℕ) → length (under-way s n h ws) ≡ n
 unfolding under-way
 under-way-length s n h ws = length-map (ring n h ws) (of-word s) ∙ ring-length n h ws
@@ -102,7 +99,7 @@ under-way-set s n h i v ws l m k = ap (map (of-word s)) (ring-set n h i v ws l m
 pub under-way-add : (s : Bool) (n h v : ℕ) (ws : List ℕ) → length ws ≡ 32 → n < 32
     → under-way s (suc n) h (set ws ((h + n) % 32) v) ≡ snoc (under-way s n h ws) (of-word s v)
 unfolding under-way snoc
-under-way-add s n h v ws l m = ap (map (of-word s)) (ring-add n h v ws l m) ∙ map-last (of-word s) (ring n h ws) v
+under-way-add s n h v ws l m = ap (map (of-word s)) (ring-add n h v ws l m) ∙ map-append (of-word s) (ring n h ws) (v ∷ [])
 
 pub under-way-front : (s : Bool) (n h : ℕ) (ws : List ℕ) → under-way s (suc n) h ws ≡ of-word s (getD ws (h % 32) 0) ∷ under-way s n (suc h) ws
 unfolding under-way ring

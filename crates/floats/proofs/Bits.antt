@@ -1,10 +1,12 @@
--- Bit patterns: which are a NaN's, what `0.0 / 0.0` and `x == x` say (of both formats), what the fields of an f64 stand for, and which f64s are finite.
+-- Bit patterns: the word of one bit, which are a NaN's, what `0.0 / 0.0` and `x == x` say (of both formats), what the fields of an f64 stand for, and which f64s are finite.
 use Prim.Native.Nat.{ℕ, zero, suc, _+_, _*_, _/_, _%_, _^_, _≤_, _<_}
+use native.Mathlib.Nat.{one-mul, mod-eq-of-lt}
 use native.Mathlib.Omega.{arith}
 use mathlib.Core.Path.{_≡_, refl, sym, ap, _∙_, subst}
 use mathlib.Core.Bool.{Bool, true, false, not, cond}
 use borrow.Author.Tests.{lt-ltb, le-ltb, ltb-true, ltb-false, ne-eqb}
 use lib.Dec.{T, leb, ltb, eqb}
+use lib.Pow.{pow-lt}
 use lib.Ieee.{Float, Format, nan, inf, fin, binary32, binary64, hid, ones, top, odd, isNan, nanBits, ofBits, ofFields, div, eq, ne}
 use lib.Ieee.Bits.{nanBits-is, nanBits-above}
 use lib.Ieee.Compare.{differs-from-itself}
@@ -43,14 +45,23 @@ pub other-nan : (x : Float) → eq x x ≡ false → x ≡ nan
 unfolding ne
 other-nan x e = differs-from-itself x (rw e tt)
 
+-- ---- one bit
+
+-- The code's `1 << h` is 2^h.
+pub unit-is : (h : ℕ) → h < 64 → 1 * 2 ^ h % 18446744073709551616 ≡ 2 ^ h
+unit-is h l = ap (λ (x : ℕ). x % 18446744073709551616) (one-mul (2 ^ h)) ∙ mod-eq-of-lt (pow-lt l)
+
 -- ---- the fields of an f64
 
+-- whether the sign is set
 abbrev pub negative : ℕ → Bool
 negative b = leb 9223372036854775808 b
 
+-- the field of the exponent: 2047 for infinities and NaNs
 abbrev pub exponent : ℕ → ℕ
 exponent b = b % 9223372036854775808 / 4503599627370496
 
+-- the field of the digits
 abbrev pub digits : ℕ → ℕ
 digits b = b % 4503599627370496
 

@@ -2,41 +2,37 @@
 use mathlib.Core.Path.{_≡_, refl, sym, ap, _∙_, subst}
 use mathlib.Core.Logic.{_⊎_, inl, inr}
 use Prim.Native.Nat.{ℕ, zero, suc, _+_, _-_, _*_, _/_, _%_, _^_, _≤_, _<_}
-use native.Mathlib.Nat.{zero-lt-suc, mul-le-mul, one-mul, mod-le, lt-of-lt-of-le, mod-eq-of-lt, eq-or-lt-of-le}
+use native.Mathlib.Nat.{zero-lt-suc, mul-le-mul, mod-le, lt-of-lt-of-le, eq-or-lt-of-le}
 use native.Mathlib.Omega.{arith}
 use mathlib.Core.Bool.{Bool, true, false, not, cond}
 use lib.Dec.{T, leb→le, nleb→lt, lit≤, lit<}
-use lib.Pow.{pow-pos, pow-mono, pow-lt}
+use lib.Pow.{pow-pos, pow-mono}
 use lib.Ieee.{Float, binary32, binary64, ofBits, ofFields, toBits, units}
 use lib.Ieee.Nearest.{closest}
 use Rattle.floats.specs.Narrowing.{Narrowed}
-use Rattle.floats.proofs.Bits.{negative, exponent, digits, nan-above, fields-zero, fields-number, digits-lt}
+use Rattle.floats.proofs.Bits.{unit-is, negative, exponent, digits, nan-above, fields-zero, fields-number, digits-lt}
 use Rattle.floats.proofs.Rounding.{nearest-below, nearest-tie, nearest-above, closest-most, closest-least, closest-none, units-over, units-normal, narrow-low, narrow-high}
 use Rattle.model.specs.Value.{nearest32, narrow}
 
 -- ---- `nearest`
 
--- The code's `1 << h` is 2^h.
-unit-is : (h : ℕ) → h < 63 → 1 * 2 ^ h % 18446744073709551616 ≡ 2 ^ h
-unit-is h l = ap (λ (x : ℕ). x % 18446744073709551616) (one-mul (2 ^ h)) ∙ mod-eq-of-lt (pow-lt (wider h l))
-  where
-    wider : (h : ℕ) → h < 63 → h < 64
-    wider h l = omega arith
+wider : (h : ℕ) → h < 63 → h < 64
+wider h l = omega arith
 
 pub unit-pos : (h : ℕ) → h < 63 → 0 < 1 * 2 ^ h % 18446744073709551616
-unit-pos h l = subst (λ (x : ℕ). 0 < x) (sym (unit-is h l)) (pow-pos h)
+unit-pos h l = subst (λ (x : ℕ). 0 < x) (sym (unit-is h (wider h l))) (pow-pos h)
 
 pub rest-fits : (q u : ℕ) → q < 9007199254740992 → q % u * 2 < 18446744073709551616
 rest-fits q u l = let m : q % u ≤ q = mod-le q u in omega arith
 
 pub below-half : (q h : ℕ) → h < 63 → q % (1 * 2 ^ h % 18446744073709551616) * 2 < 1 * 2 ^ h % 18446744073709551616 → q / 2 ^ h ≡ closest q (2 ^ h)
-below-half q h l t = sym (nearest-below (q / 2 ^ h) (q % 2 ^ h * 2) (2 ^ h) (subst (λ (u : ℕ). q % u * 2 < u) (unit-is h l) t))
+below-half q h l t = sym (nearest-below (q / 2 ^ h) (q % 2 ^ h * 2) (2 ^ h) (subst (λ (u : ℕ). q % u * 2 < u) (unit-is h (wider h l)) t))
 
 pub at-half : (q h : ℕ) → h < 63 → q % (1 * 2 ^ h % 18446744073709551616) * 2 ≡ 1 * 2 ^ h % 18446744073709551616 → q / 2 ^ h + q / 2 ^ h % 2 ≡ closest q (2 ^ h)
-at-half q h l t = sym (nearest-tie (q / 2 ^ h) (q % 2 ^ h * 2) (2 ^ h) (subst (λ (u : ℕ). q % u * 2 ≡ u) (unit-is h l) t))
+at-half q h l t = sym (nearest-tie (q / 2 ^ h) (q % 2 ^ h * 2) (2 ^ h) (subst (λ (u : ℕ). q % u * 2 ≡ u) (unit-is h (wider h l)) t))
 
 pub above-half : (q h : ℕ) → h < 63 → 1 * 2 ^ h % 18446744073709551616 < q % (1 * 2 ^ h % 18446744073709551616) * 2 → q / 2 ^ h + 1 ≡ closest q (2 ^ h)
-above-half q h l t = sym (nearest-above (q / 2 ^ h) (q % 2 ^ h * 2) (2 ^ h) (subst (λ (u : ℕ). u < q % u * 2) (unit-is h l) t))
+above-half q h l t = sym (nearest-above (q / 2 ^ h) (q % 2 ^ h * 2) (2 ^ h) (subst (λ (u : ℕ). u < q % u * 2) (unit-is h (wider h l)) t))
 
 -- ---- `magnitude`
 

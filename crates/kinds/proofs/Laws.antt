@@ -11,7 +11,7 @@ use borrow.Author.Tests.{ne-eqb, leb-true, leb-false, ltb-true, ltb-false}
 use types.Run.{OneOf}
 use Rattle.model.specs.Base.{if_then_else_, joined, among, from, base-opened}
 use Rattle.model.specs.Kinds.{Kind, value, fires, kind-at, table, kinds-opened}
-use Rattle.model.proofs.Lists.{map-from}
+use Rattle.model.proofs.Lists.{map-from, all-same}
 
 -- ---- keys
 
@@ -43,11 +43,6 @@ no-keys : (arms : List (List ℕ)) (k : ℕ) → Others arms k → among k (join
 unfolding among joined
 no-keys [] k o = refl
 no-keys (keys ∷ arms) k o = no-key keys (joined arms) k (o .1) (no-keys arms k (o .0))
-
-all-same : {A : Type 0} (n i : ℕ) (r : A) → getD (replicate n r) i r ≡ r
-all-same zero i r = refl
-all-same (suc n) zero r = refl
-all-same (suc n) (suc i) r = all-same n i r
 
 -- From a to below b, where each entry is r beside the keys.
 pub ranged :

@@ -3,7 +3,6 @@ use Prim.Native.Nat.{ℕ, zero, suc, _+_, _-_, _^_, _≤_, _<_}
 use mathlib.Core.Path.{_≡_, refl, sym, ap, _∙_}
 use mathlib.Core.Bool.{Bool, true, false, _&&_, _||_, true≢false}
 use mathlib.Core.List.{List, _∷_, map}
-use mathlib.Core.Option.{none, some}
 use native.Mathlib.Omega.{arith}
 use borrow.Author.Tests.{eq-eqb, ne-eqb, leb-true, leb-false, ltb-true, ltb-false, eqb-true, eqb-false}
 use lib.Dec.{eqb, ltb, leb}
@@ -11,15 +10,19 @@ use lib.ListN.{length, getD, List·getD-eq-default}
 use Rattle.model.specs.declared.Value.{Value}
 use Rattle.model.specs.declared.Value.the-variants.{Nothing}
 use Rattle.model.specs.Base.{if_then_else_, keep, joined, both, from, starts, owners}
-use Rattle.model.specs.Value.{value-of, kind-of, content-of, bit}
+use Rattle.model.specs.Value.{value-of, kind-of, content-of}
 use Rattle.model.specs.Kinds.{kind-at}
-use Rattle.model.specs.Circuit.{minus-one, source-of, gates-such}
+use Rattle.model.specs.Circuit.{source-of, gates-such}
 use Rattle.model.specs.Questions.{within, good-constant}
 use Rattle.model.proofs.Lists.{both-true}
+use Rattle.model.proofs.Sizes.{within-true}
+use Rattle.values.proofs.Laws.{taken-apart}
 use Rattle.links.specs.Links.{packed, word-of-gates, source-cell, gate-cells, listed}
+use Rattle.links.proofs.Reading.{listed-length, listed-in}
+use Rattle.links.proofs.Net.{source-back}
 use Rattle.linking.specs.Building.{below, named-word, gate-bit, ins-at, outs-at, bits-of, gate-cell, output-cells}
 use Rattle.linking.proofs.Loops.{below-same}
-use Rattle.linking.proofs.Lists.{listed-length, listed-same, listed-get, map-listed, both-listed, starts-listed, owners-listed, keep-from}
+use Rattle.linking.proofs.Lists.{listed-same, map-listed, both-listed, starts-listed, owners-listed, keep-from}
 use Rattle.linking.proofs.Leaves.{two-words}
 
 -- ---- gates
@@ -75,7 +78,7 @@ words-of p ks G kind e =
     let n : length (listed G kind) ≡ G = listed-length G kind in
     let z : 0 + G ≡ G = omega arith in
     rw (e, n)
-    (ap (λ (r : List ℕ). word-of-gates r) (keep-from (λ g. p (getD (listed G kind) g 0)) (λ g. p (kind g)) 0 G (λ g l. ap p (listed-get G kind g 0 (omega arith))))
+    (ap (λ (r : List ℕ). word-of-gates r) (keep-from (λ g. p (getD (listed G kind) g 0)) (λ g. p (kind g)) 0 G (λ g l. ap p (listed-in G kind g 0 (omega arith))))
     ∙ word-first (λ g. p (kind g)) G)
 
 -- where no kind is in both ranges
@@ -148,14 +151,6 @@ two-kinds a k = go (leb a k) refl (leb k (a + 1)) refl (eqb k a) refl
 
 -- ---- sources
 
-source-back : (w : ℕ) → source-cell (source-of w) ≡ w
-unfolding source-cell source-of if_then_else_
-source-back w = go (eqb w minus-one) refl
-  where
-    go : (b : Bool) → eqb w minus-one ≡ b → source-cell (if b then none else some w) ≡ w
-    go true e = sym (eqb-true w minus-one e)
-    go false e = refl
-
 pub source-table : (n : ℕ) (f : ℕ → ℕ) → map source-cell (map source-of (listed n f)) ≡ listed n f
 source-table n f =
     rw (map-listed source-of n f, map-listed source-cell n (λ i. source-of (f i))) (listed-same n (λ i. source-cell (source-of (f i))) f (λ i l. source-back (f i)))
@@ -167,24 +162,18 @@ no-kind : (k b : ℕ) → 3 < k → good-constant k b ≡ true → ⊥
 unfolding good-constant if_then_else_
 no-kind k b l h = true≢false (sym (rw (ne-eqb k 1 (λ z. omega arith), ne-eqb k 2 (λ z. omega arith), ne-eqb k 3 (λ z. omega arith)) at h))
 
--- a good constant is read back as it was
-pub kind-back : (k b : ℕ) → good-constant k b ≡ true → kind-of (value-of k b) ≡ k
-unfolding good-constant if_then_else_ value-of kind-of
-kind-back zero b h = absurd (true≢false (sym h))
-kind-back (suc zero) b h = refl
-kind-back (suc (suc zero)) b h = refl
-kind-back (suc (suc (suc zero))) b h = refl
-kind-back (suc (suc (suc (suc k)))) b h = absurd (no-kind (suc (suc (suc (suc k)))) b (omega arith) h)
+-- the words of a good constant can be a value's
+good-words : (k b : ℕ) → good-constant k b ≡ true → (0 < k) × (k < 4) × (k ≡ 3 → b < 2)
+unfolding good-constant if_then_else_
+good-words zero b h = absurd (true≢false (sym h))
+good-words (suc zero) b h = (omega arith, omega arith, λ e. absurd (omega arith))
+good-words (suc (suc zero)) b h = (omega arith, omega arith, λ e. absurd (omega arith))
+good-words (suc (suc (suc zero))) b h = (omega arith, omega arith, λ e. omega (arith, within-true 0 1 b h .1))
+good-words (suc (suc (suc (suc k)))) b h = absurd (no-kind (suc (suc (suc (suc k)))) b (omega arith) h)
 
-pub content-back : (k b : ℕ) → good-constant k b ≡ true → content-of (value-of k b) ≡ b
-unfolding good-constant if_then_else_ value-of content-of within bit
-content-back zero b h = absurd (true≢false (sym h))
-content-back (suc zero) b h = refl
-content-back (suc (suc zero)) b h = refl
-content-back (suc (suc (suc zero))) zero h = refl
-content-back (suc (suc (suc zero))) (suc zero) h = refl
-content-back (suc (suc (suc zero))) (suc (suc b)) h = absurd (omega (arith, leb-true (suc (suc b)) 1 (both-true (leb 0 (suc (suc b))) (leb (suc (suc b)) 1) h .1)))
-content-back (suc (suc (suc (suc k)))) b h = absurd (no-kind (suc (suc (suc (suc k)))) b (omega arith) h)
+-- so it is read back as it was
+pub constant-back : (k b : ℕ) → good-constant k b ≡ true → (kind-of (value-of k b) ≡ k) × (content-of (value-of k b) ≡ b)
+constant-back k b h = let g = good-words k b h in taken-apart k b (g .1) (λ e. absurd (omega (arith, g .0))) (g .2)
 
 -- the constants as the words from `first` on show them, kinds or contents
 module _ (K : ℕ) (a b : ℕ → ℕ) (show : Value → ℕ) (nothing : show Nothing ≡ 0) (f : ℕ → ℕ) (back : (k : ℕ) → k < K → show (value-of (a k) (b k)) ≡ f k) where
@@ -207,7 +196,7 @@ module _ (K : ℕ) (a b : ℕ → ℕ) (show : Value → ℕ) (nothing : show No
       go false h =
           let l = ltb-false K (suc n) h in
           let s : suc n - 1 ≡ n = omega arith in
-          rw s (ap show (listed-get K (λ k. value-of (a k) (b k)) n Nothing (omega arith)) ∙ back n (omega arith) ∙ e n)
+          rw s (ap show (listed-in K (λ k. value-of (a k) (b k)) n Nothing (omega arith)) ∙ back n (omega arith) ∙ e n)
 
   pub stored-table : (ws : List ℕ) (first : ℕ) → ((k : ℕ) → f k ≡ getD ws (first + k) 0) → (n : ℕ) (name : ℕ → ℕ) →
       map show (map (λ k. getD (Nothing ∷ both value-of (listed K a) (listed K b)) k Nothing) (listed n name)) ≡ listed n (λ i. named-word ws first K (name i))

@@ -1,47 +1,30 @@
 -- What the functions that go gate by gate cite.
-use Prim.Native.Nat.{ℕ, zero, suc, _+_, _*_, _≤_, _<_}
+use Prim.Native.Nat.{ℕ, _+_, _*_, _≤_, _<_}
 use mathlib.Core.Path.{_≡_, refl, sym, ap, _∙_}
 use mathlib.Core.Bool.{Bool, true, false, not}
 use mathlib.Core.List.{List, [], _∷_}
 use mathlib.Core.Option.{none, some}
 use native.Mathlib.Omega.{arith}
-use borrow.Author.Tests.{leb-true}
 use denote.Enum.Declared.{tagOf}
 use types.Run.{OneOf, miss}
-use lib.Dec.{eqb, leb}
+use lib.Dec.{eqb}
 use lib.ListN.{length, getD}
 use lib.Seq.{sets}
-use Rattle.model.specs.Base.{if_then_else_, all}
+use Rattle.model.specs.Base.{if_then_else_}
 use Rattle.model.specs.Value.{bit}
-use Rattle.model.specs.Kinds.{In, Kind, value, kind-at, table, kinds-opened}
+use Rattle.model.specs.Kinds.{In, value, kind-at, kinds-opened}
 use Rattle.model.specs.Circuit.{minus-one, source-of, has-source, is-watched}
-use Rattle.model.proofs.Lists.{both-true}
 use Rattle.kinds.specs.declared.Pin.{Pin}
 use Rattle.kinds.specs.declared.Pin.the-variants.{Exec, ExecOnly, Value, Watched, Route, Anything, Ticks, Seconds, Variable, Channel}
 use Rattle.kinds.specs.Pins.{in-of}
 use Rattle.kinds.proofs.Pin.{the-type}
+use Rattle.kinds.proofs.Laws.{few-inputs, few-outputs}
 use Rattle.links.specs.Links.{packed}
+use Rattle.links.proofs.Reading.{listed-length}
 use Rattle.linking.specs.Building.{written, below, Small, ins-at, outs-at, gate-cell, input-cell, input-cells, output-cells}
 use Rattle.linking.proofs.Loops.{below-most}
-use Rattle.linking.proofs.Lists.{listed-length}
 
 -- ---- how many inputs and outputs a gate has
-
-pub all-get : {A : Type 0} (p : A → Bool) (xs : List A) (i : ℕ) (d : A) → all p xs ≡ true → p d ≡ true → p (getD xs i d) ≡ true
-unfolding all
-all-get p [] i d h e = e
-all-get p (x ∷ xs) zero d h e = both-true (p x) (all p xs) h .0
-all-get p (x ∷ xs) (suc i) d h e = all-get p xs i d (both-true (p x) (all p xs) h .1) e
-
-pub ins-most : (k : ℕ) → length (kind-at k .ins) ≤ 10
-unfolding kinds-opened all
-ins-most zero = omega arith
-ins-most (suc k) = leb-true _ 10 (all-get (λ (x : Kind). leb (length (x .ins)) 10) table k (record { ins = []; outs = [] }) refl refl)
-
-pub outs-most : (k : ℕ) → length (kind-at k .outs) ≤ 9
-unfolding kinds-opened all
-outs-most zero = omega arith
-outs-most (suc k) = leb-true _ 9 (all-get (λ (x : Kind). leb (length (x .outs)) 9) table k (record { ins = []; outs = [] }) refl refl)
 
 module _ (ws : List ℕ) (kinds : ℕ) where
   pub ins-of : (g k n : ℕ) → k ≡ getD ws (kinds + g) 0 → n ≡ length (kind-at k .ins) → n ≡ ins-at ws kinds g
@@ -54,11 +37,11 @@ module _ (ws : List ℕ) (kinds : ℕ) where
 
   pub ins-at-most : (g : ℕ) → ins-at ws kinds g ≤ 10
   unfolding ins-at
-  ins-at-most g = ins-most (getD ws (kinds + g) 0)
+  ins-at-most g = few-inputs (getD ws (kinds + g) 0)
 
   pub outs-at-most : (g : ℕ) → outs-at ws kinds g ≤ 9
   unfolding outs-at
-  outs-at-most g = outs-most (getD ws (kinds + g) 0)
+  outs-at-most g = few-outputs (getD ws (kinds + g) 0)
 
   pub ins-below : (g x : ℕ) → x ≡ below (ins-at ws kinds) g → x ≤ 10 * g
   ins-below g x e = omega (arith, below-most (ins-at ws kinds) 10 ins-at-most g)

@@ -3,13 +3,14 @@ use Prim.Native.Nat.{ℕ, zero, suc, _+_, _-_, _*_, _%_, _^_, _≤_, _<_}
 use mathlib.Core.Path.{_≡_, refl, sym, ap, _∙_}
 use mathlib.Core.Bool.{Bool, true, false, _&&_}
 use mathlib.Core.List.{List, [], _∷_}
-use native.Mathlib.Nat.{two-pow-succ, mod-eq-of-lt}
+use native.Mathlib.Nat.{two-pow-succ}
 use native.Mathlib.Omega.{arith}
 use borrow.Author.Tests.{lt-ltb, le-ltb, le-leb, lt-leb, eq-eqb, ne-eqb, leb-true}
 use lib.Dec.{leb}
-use lib.ListN.{length, getD, set, List·getD-eq-default}
-use lib.Pow.{pow-mono, pow-lt}
+use lib.ListN.{length, getD, set}
+use lib.Pow.{pow-mono}
 use lib.Seq.{set-out, sets}
+use Rattle.floats.proofs.Bits.{unit-is}
 use Rattle.model.specs.Base.{if_then_else_, joined}
 use Rattle.model.specs.Questions.{within}
 use Rattle.model.proofs.Lists.{both-true}
@@ -18,9 +19,6 @@ use Rattle.linking.specs.Building.{written, below, named-word, gate-bit,
 use Rattle.linking.proofs.Loops.{below-next, below-add}
 
 -- ---- cells
-
-pub at-past : (l : List ℕ) (i : ℕ) → length l ≤ i → 0 ≡ getD l i 0
-at-past l i h = sym (List·getD-eq-default l 0 h)
 
 pub put-past : (l : List ℕ) (i v : ℕ) → length l ≤ i → l ≡ set l i v
 put-past l i v h = sym (set-out l i v h)
@@ -52,8 +50,7 @@ bit-high low high kind g h k = rw (le-leb low kind h, lt-leb kind high k)
 pub bit-in : (low high kind g : ℕ) → low ≤ kind → kind ≤ high → g < 64 → 1 * 2 ^ g % 18446744073709551616 ≡ gate-bit low high kind g
 unfolding gate-bit within if_then_else_
 bit-in low high kind g h k l =
-    let s : 1 * 2 ^ g ≡ 2 ^ g = omega arith in
-    rw (le-leb low kind h, le-leb kind high k, s) (mod-eq-of-lt (pow-lt l))
+    rw (le-leb low kind h, le-leb kind high k) (unit-is g l)
 
 -- one bit at most is set
 bit-most : (low high kind g : ℕ) → gate-bit low high kind g ≤ 2 ^ g

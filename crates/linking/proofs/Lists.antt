@@ -2,31 +2,22 @@
 use Prim.Native.Nat.{ℕ, zero, suc, _+_, _≤_, _<_}
 use mathlib.Core.Path.{_≡_, refl, sym, ap, _∙_}
 use mathlib.Core.Bool.{Bool, true, false}
-use mathlib.Core.List.{List, [], _∷_, _++_, map}
-use native.Mathlib.Nat.{zero-add}
+use mathlib.Core.List.{List, [], _∷_, _++_, map, map-map}
 use native.Mathlib.Omega.{arith}
-use lib.ListN.{length, getD, replicate, take, drop, length-map, length-append}
-use lib.Seq.{drop-cons}
+use lib.ListN.{length, getD, replicate, length-append}
+use Rattle.schedule.proofs.Erase.{map-append}
 use Rattle.model.specs.Base.{if_then_else_, keep, joined, both, from, starts, owners}
 use Rattle.model.specs.Circuit.{part}
-use Rattle.model.proofs.Lists.{from-length, map-from}
+use Rattle.model.proofs.Lists.{from-same}
+use Rattle.model.proofs.Laid.{part-is}
 use Rattle.links.specs.Links.{listed}
 use Rattle.linking.specs.Building.{below}
 
 -- ---- each element for itself
 
-pub map-twice : {A B C : Type 0} (f : B → C) (g : A → B) (xs : List A) → map f (map g xs) ≡ map (λ x. f (g x)) xs
-map-twice f g [] = refl
-map-twice f g (x ∷ xs) = λ j. f (g x) ∷ map-twice f g xs j
-
 pub map-same : {A B : Type 0} (f g : A → B) → ((x : A) → f x ≡ g x) → (xs : List A) → map f xs ≡ map g xs
 map-same f g h [] = refl
 map-same f g h (x ∷ xs) = λ j. h x j ∷ map-same f g h xs j
-
-from-same : {A : Type 0} (f g : ℕ → A) (a n : ℕ) → ((k : ℕ) → k < a + n → f k ≡ g k) → map f (from a n) ≡ map g (from a n)
-unfolding from
-from-same f g a zero h = refl
-from-same f g a (suc n) h = λ j. h a (omega arith) j ∷ from-same f g (suc a) n (λ k l. h k (omega arith)) j
 
 both-maps : {X A B C : Type 0} (h : A → B → C) (f : X → A) (g : X → B) (xs : List X) → both h (map f xs) (map g xs) ≡ map (λ x. h (f x) (g x)) xs
 unfolding both
@@ -38,21 +29,13 @@ pub open-listed : {A : Type 0} (f : ℕ → A) (n : ℕ) → listed n f ≡ map 
 unfolding listed
 open-listed f n = refl
 
-pub listed-length : {A : Type 0} (n : ℕ) (f : ℕ → A) → length (listed n f) ≡ n
-unfolding listed
-listed-length n f = length-map (from 0 n) f ∙ from-length 0 n
-
 pub listed-same : {A : Type 0} (n : ℕ) (f g : ℕ → A) → ((k : ℕ) → k < n → f k ≡ g k) → listed n f ≡ listed n g
 unfolding listed
-listed-same n f g h = from-same f g 0 n (λ k l. h k (omega arith))
-
-pub listed-get : {A : Type 0} (n : ℕ) (f : ℕ → A) (i : ℕ) (d : A) → i < n → getD (listed n f) i d ≡ f i
-unfolding listed
-listed-get n f i d h = map-from f 0 n i d h ∙ ap f (zero-add i)
+listed-same n f g h = from-same f g 0 n (λ k l m. h k (omega arith))
 
 pub map-listed : {A B : Type 0} (f : A → B) (n : ℕ) (g : ℕ → A) → map f (listed n g) ≡ listed n (λ k. f (g k))
 unfolding listed
-map-listed f n g = map-twice f g (from 0 n)
+map-listed f n g = map-map f g (from 0 n)
 
 pub both-listed : {A B C : Type 0} (h : A → B → C) (n : ℕ) (f : ℕ → A) (g : ℕ → B) → both h (listed n f) (listed n g) ≡ listed n (λ k. h (f k) (g k))
 unfolding listed
@@ -68,16 +51,9 @@ unfolding listed
 listed-replicate n v = const-from v 0 n
 
 -- a part of the words, by its elements
-part-from : (ws : List ℕ) (a b n : ℕ) → a + (b + n) ≤ length ws → take n (drop (a + b) ws) ≡ map (λ k. getD ws (a + k) 0) (from b n)
-unfolding from
-part-from ws a b zero h = refl
-part-from ws a b (suc n) h =
-    let e : suc (a + b) ≡ a + suc b = omega arith in
-    rw (drop-cons ws (a + b) 0 (omega arith), e) (ap (λ (r : List ℕ). getD ws (a + b) 0 ∷ r) (part-from ws a (suc b) n (omega arith)))
-
 pub part-listed : (ws : List ℕ) (a n : ℕ) → a + n ≤ length ws → part ws a n ≡ listed n (λ k. getD ws (a + k) 0)
-unfolding part listed
-part-listed ws a n h = let e : a ≡ a + 0 = omega arith in ap (λ (b : ℕ). take n (drop b ws)) e ∙ part-from ws a 0 n (omega arith)
+unfolding listed
+part-listed ws a n h = part-is ws a n h
 
 -- ---- sums
 
@@ -110,10 +86,6 @@ joined-from p a (suc n) =
 pub joined-length : {A : Type 0} (n : ℕ) (p : ℕ → List A) → length (joined (listed n p)) ≡ below (λ k. length (p k)) n
 unfolding listed below
 joined-length n p = let e : 0 + n ≡ n = omega arith in omega (arith, joined-from p 0 n, ap (below (λ k. length (p k))) e)
-
-pub map-append : {A B : Type 0} (f : A → B) (xs ys : List A) → map f (xs ++ ys) ≡ map f xs ++ map f ys
-map-append f [] ys = refl
-map-append f (x ∷ xs) ys = λ j. f x ∷ map-append f xs ys j
 
 map-joins : {A B : Type 0} (f : A → B) (xs : List (List A)) → map f (joined xs) ≡ joined (map (λ x. map f x) xs)
 unfolding joined

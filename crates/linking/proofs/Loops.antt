@@ -10,23 +10,9 @@ use lib.Dec.{leb}
 use lib.ListN.{length, set}
 use lib.Seq.{sets}
 use Rattle.model.specs.Base.{joined, from}
+use Rattle.model.proofs.Lists.{from-first, from-none}
 use Rattle.links.specs.Links.{listed}
 use Rattle.linking.specs.Building.{written, below}
-
--- ---- rows of numbers
-
-pub from-first : (k n : ℕ) → k < n → from k (n - k) ≡ k ∷ from (k + 1) (n - (k + 1))
-unfolding from
-from-first k n h =
-    let e : n - k ≡ suc (n - (k + 1)) = omega arith in
-    let s : k + 1 ≡ suc k = omega arith in
-    rw (e, s)
-
-pub from-none : (k n : ℕ) → n ≤ k → from k (n - k) ≡ []
-unfolding from
-from-none k n h =
-    let e : n - k ≡ 0 = omega arith in
-    rw e
 
 -- ---- one cell after the other: what is left to write
 
@@ -78,12 +64,7 @@ below-mono f k (suc n) h = go (leb k n) refl (λ l. below-mono f k n l)
     go true e rec = let q = rec (leb-true k n e) in omega arith
     go false e rec = let l = leb-false k n e in let s : k ≡ suc n = omega arith in rw s (omega arith)
 
--- sums of nothing, of sums, of equal numbers
-pub below-nothing : (m : ℕ) → below (λ o. 0) m ≡ 0
-unfolding below
-below-nothing zero = refl
-below-nothing (suc m) = omega (arith, below-nothing m)
-
+-- sums of sums, and of equal numbers
 pub below-add : (f g : ℕ → ℕ) (m : ℕ) → below (λ o. f o + g o) m ≡ below f m + below g m
 unfolding below
 below-add f g zero = omega arith

@@ -10,12 +10,12 @@ use lib.Dec.{eqb}
 use lib.ListN.{length, getD, set, replicate, length-set, length-replicate, getD-replicate}
 use lib.Seq.{getD-set-same, getD-set-other, sets}
 use Rattle.model.specs.Base.{if_then_else_, keep, joined, from}
-use Rattle.model.specs.Value.{bit}
-use Rattle.model.proofs.Lists.{from-length}
+use Rattle.model.proofs.Lists.{from-length, from-first, from-none}
 use Rattle.links.specs.Links.{rows-at, readers-at, calls-at, listed, packed}
+use Rattle.links.proofs.Tables.{shares}
 use Rattle.linking.specs.Building.{written, below, Chains, chains, chained, all-chained, chain, chain-at, size-at, target, row-of, members, lists-written}
-use Rattle.linking.proofs.Loops.{from-first, from-none, below-nothing, below-add, below-same}
-use Rattle.linking.proofs.Lists.{listed-same, map-same}
+use Rattle.linking.proofs.Loops.{below-same}
+use Rattle.linking.proofs.Lists.{listed-same, map-same, joined-length}
 
 -- ---- a chain as a relation: from p on it has the members l, which ascend from `low` on
 
@@ -132,39 +132,16 @@ chain-members key n short c e o l =
 
 -- ---- how many there are
 
--- one key is met once at most
-below-one : (k m : ℕ) → (below (λ o. bit (eqb k o)) m ≤ 1) × (m ≤ k → below (λ o. bit (eqb k o)) m ≡ 0)
-unfolding below bit
-below-one k zero = (omega arith, λ h. refl)
-below-one k (suc m) = go (eqb k m) refl (below-one k m)
-  where
-    go :
-        (b : Bool) → eqb k m ≡ b → ((below (λ o. bit (eqb k o)) m ≤ 1) × (m ≤ k → below (λ o. bit (eqb k o)) m ≡ 0)) →
-        (below (λ o. bit (eqb k o)) m + bit b ≤ 1) × (suc m ≤ k → below (λ o. bit (eqb k o)) m + bit b ≡ 0)
-    go true e q = let s = eqb-true k m e in let z = q .1 (omega arith) in (omega arith, λ h. absurd (omega arith))
-    go false e q = (let z = q .0 in omega arith, λ h. let z = q .1 (omega arith) in omega arith)
-
--- one number more in front
-keep-more : (key : ℕ → ℕ) (x : ℕ) (xs : List ℕ) (o : ℕ) → length (keep (λ i. eqb (key i) o) (x ∷ xs)) ≡ bit (eqb (key x) o) + length (keep (λ i. eqb (key i) o) xs)
-unfolding keep if_then_else_ bit
-keep-more key x xs o = go (eqb (key x) o)
-  where
-    go : (b : Bool) → length {A = ℕ} (if b then x ∷ keep (λ i. eqb (key i) o) xs else keep (λ i. eqb (key i) o) xs) ≡ bit b + length (keep (λ i. eqb (key i) o) xs)
-    go true = omega arith
-    go false = omega arith
-
--- each number is kept for one key at most
-keeps-most : (key : ℕ → ℕ) (xs : List ℕ) (m : ℕ) → below (λ o. length (keep (λ i. eqb (key i) o) xs)) m ≤ length xs
-unfolding keep
-keeps-most key [] m = omega (arith, below-nothing m)
-keeps-most key (x ∷ xs) m =
-    let e = below-same (λ o. length (keep (λ i. eqb (key i) o) (x ∷ xs))) (λ o. bit (eqb (key x) o) + length (keep (λ i. eqb (key i) o) xs)) m (λ o l. keep-more key x xs o) in
-    omega (arith, e, below-add (λ o. bit (eqb (key x) o)) (λ o. length (keep (λ i. eqb (key i) o) xs)) m, below-one (key x) m .0, keeps-most key xs m)
-
 -- all chains together have no more members than there are numbers
 pub members-most : (key : ℕ → ℕ) (n m : ℕ) → below (λ o. length (members key n o)) m ≤ n
-unfolding members
-members-most key n m = omega (arith, keeps-most key (from 0 n) m, from-length 0 n)
+unfolding members listed
+members-most key n m =
+    omega (
+      arith,
+      joined-length m (members key n),
+      shares (λ o i. eqb (key i) o) (λ i o p h k. sym (eqb-true (key i) o h) ∙ eqb-true (key i) p k) 0 m (from 0 n),
+      from-length 0 n,
+    )
 
 -- ---- what `link_lists` cites
 

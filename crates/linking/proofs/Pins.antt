@@ -2,20 +2,22 @@
 use Prim.Native.Nat.{ℕ, zero, suc, _+_, _*_, _/_, _%_, _≤_, _<_}
 use mathlib.Core.Path.{_≡_, refl, sym, ap, _∙_}
 use mathlib.Core.Bool.{Bool, true, false}
-use mathlib.Core.List.{List, [], _∷_, _++_, map}
+use mathlib.Core.List.{List, [], _∷_, _++_, map, map-map}
 use mathlib.Core.Option.{Option, none, some}
 use native.Mathlib.Omega.{arith}
 use borrow.Author.Tests.{eq-eqb, ne-eqb, eqb-true, eqb-false}
 use lib.Dec.{eqb}
 use lib.ListN.{length, getD, replicate, length-map, length-append, length-replicate}
+use Rattle.schedule.proofs.Erase.{map-append}
 use Rattle.model.specs.Base.{if_then_else_, keep, joined, both, from, starts, owners}
 use Rattle.model.specs.Value.{bit}
 use Rattle.model.specs.Kinds.{In, value, kind-at}
 use Rattle.model.specs.Circuit.{Call, Listed, minus-one, source-of, is-watched, reads, listed-call, calls-from}
-use Rattle.model.proofs.Lists.{from-length}
+use Rattle.model.proofs.Lists.{both-length, from-length}
 use Rattle.links.specs.Links.{packed, call-cell, gate-cells, listed}
+use Rattle.links.proofs.Reading.{listed-in}
 use Rattle.linking.specs.Building.{below, members, row-of, ins-at, input-cell, input-cells}
-use Rattle.linking.proofs.Lists.{map-twice, map-same, map-append, open-listed, listed-same, listed-get, map-listed, starts-listed, map-joined, keep-map, keep-from}
+use Rattle.linking.proofs.Lists.{map-same, open-listed, listed-same, map-listed, starts-listed, map-joined, keep-map, keep-from}
 use Rattle.linking.proofs.Cells.{packed-listed}
 
 -- ---- parallel lists, part after part
@@ -26,13 +28,6 @@ both-append h [] xs₁ [] ys₁ e = refl
 both-append h [] xs₁ (y ∷ ys) ys₁ e = absurd (omega arith)
 both-append h (x ∷ xs) xs₁ [] ys₁ e = absurd (omega arith)
 both-append h (x ∷ xs) xs₁ (y ∷ ys) ys₁ e = λ j. h x y ∷ both-append h xs xs₁ ys ys₁ (omega arith) j
-
-pub both-length : {A B C : Type 0} (h : A → B → C) (xs : List A) (ys : List B) → length xs ≡ length ys → length (both h xs ys) ≡ length xs
-unfolding both
-both-length h [] [] e = refl
-both-length h [] (y ∷ ys) e = refl
-both-length h (x ∷ xs) [] e = absurd (omega arith)
-both-length h (x ∷ xs) (y ∷ ys) e = ap suc (both-length h xs ys (omega arith))
 
 from-append : (a m n : ℕ) → from a (m + n) ≡ from a m ++ from (a + m) n
 unfolding from
@@ -104,8 +99,8 @@ unfolding input-cells input-cell ins-at listed below
 input-table ws kinds G s I ks ss ek es el =
     let P : ℕ → List In = λ g. kind-at (getD ws (kinds + g) 0) .ins in
     let S : ℕ → Option ℕ = λ i. source-of (getD ws (s + i) 0) in
-    let e₁ : map (λ k. kind-at k .ins) ks ≡ map P (from 0 G) = ap (λ (r : List ℕ). map (λ k. kind-at k .ins) r) ek ∙ map-twice (λ k. kind-at k .ins) (λ g. getD ws (kinds + g) 0) (from 0 G) in
-    let e₂ : map (λ k. length (kind-at k .ins)) ks ≡ map (λ g. length (P g)) (from 0 G) = ap (λ (r : List ℕ). map (λ k. length (kind-at k .ins)) r) ek ∙ map-twice (λ k. length (kind-at k .ins)) (λ g. getD ws (kinds + g) 0) (from 0 G) in
+    let e₁ : map (λ k. kind-at k .ins) ks ≡ map P (from 0 G) = ap (λ (r : List ℕ). map (λ k. kind-at k .ins) r) ek ∙ map-map (λ k. kind-at k .ins) (λ g. getD ws (kinds + g) 0) (from 0 G) in
+    let e₂ : map (λ k. length (kind-at k .ins)) ks ≡ map (λ g. length (P g)) (from 0 G) = ap (λ (r : List ℕ). map (λ k. length (kind-at k .ins)) r) ek ∙ map-map (λ k. length (kind-at k .ins)) (λ g. getD ws (kinds + g) 0) (from 0 G) in
     let n : I ≡ length (joined (map P (from 0 G))) = sym el ∙ ap (λ (r : List (List In)). length (joined r)) e₁ in
     rw (e₁, e₂, es, n)
     (all-marks S P 0 G
@@ -145,7 +140,7 @@ reader-lists I O key ss m e =
     ∙ listed-same O (λ o. keep (reads o ss) (from 0 I)) (λ o. keep (λ i. eqb (key i) o) (from 0 I))
     (λ o l. keep-from (reads o ss) (λ i. eqb (key i) o) 0 I
     (λ i h. ap (λ (r : List (Option ℕ)). is-output o (getD r i none)) e
-    ∙ ap (λ (s : Option ℕ). is-output o s) (listed-get I (λ i. source-of (key i)) i none (omega arith))
+    ∙ ap (λ (s : Option ℕ). is-output o s) (listed-in I (λ i. source-of (key i)) i none (omega arith))
     ∙ reads-word o (key i) (omega arith)))
 
 -- ---- calls
@@ -163,7 +158,7 @@ call-lists C O out to ls e =
     (λ o l. let f : ℕ → Listed = λ i. listed-call (out i) (to i) in
     ap (λ (r : List Listed). map (λ l. l .call) (keep (λ l. eqb (l .out) o) r)) (e ∙ open-listed f C)
     ∙ ap (λ (r : List Listed). map (λ l. l .call) r) (keep-map (λ l. eqb (l .out) o) f (from 0 C))
-    ∙ map-twice (λ l. l .call) f (keep (λ i. eqb (out i) o) (from 0 C)))
+    ∙ map-map (λ l. l .call) f (keep (λ i. eqb (out i) o) (from 0 C)))
 
 one : (m : ℕ) → m < 2 → (m ≡ 0 → ⊥) → m ≡ 1
 one zero l h = absurd (h refl)
@@ -190,7 +185,7 @@ call-table C O out to =
     map-joined call-cell O (λ o. map (call-at to) (members out C o))
     ∙ ap (λ (r : List (List ℕ)). joined r)
     (listed-same O (λ o. map call-cell (map (call-at to) (members out C o))) (λ o. map to (members out C o))
-    (λ o l. map-twice call-cell (call-at to) (members out C o) ∙ map-same (λ i. call-cell (call-at to i)) to (call-back to) (members out C o)))
+    (λ o l. map-map call-cell (call-at to) (members out C o) ∙ map-same (λ i. call-cell (call-at to i)) to (call-back to) (members out C o)))
 
 -- ---- rows
 

@@ -8,23 +8,13 @@ use lib.ListN.{length, getD, set, drop, replicate, length-append, length-replica
 use lib.Seq.{sets, sets-eq, drop-at}
 use Rattle.model.specs.Base.{joined, both, sum}
 use Rattle.links.specs.Links.{table-of}
+use Rattle.links.proofs.Tables.{base, Room, [·], _∷·_, table-length}
 use Rattle.linking.specs.Building.{written}
 use Rattle.linking.proofs.Lists.{listed-replicate}
-
--- where table t begins
-abbrev pub start : List ℕ → ℕ → ℕ
-start [] t = 0
-start (n ∷ ns) zero = 0
-start (n ∷ ns) (suc t) = n + start ns t
 
 -- tables of these sizes, one behind the other
 unfoldable pub tables : List ℕ → List (List ℕ) → List ℕ
 tables ns ts = joined (both table-of ns ts)
-
--- none is longer than its size
-pub data Fit : List ℕ → List (List ℕ) → Type 0 where
-  no-tables : Fit [] []
-  one-more : {n : ℕ} {ns t : List ℕ} {ts : List (List ℕ)} → length t ≤ n → Fit ns ts → Fit (n ∷ ns) (t ∷ ts)
 
 -- ---- stores behind a front
 
@@ -60,12 +50,6 @@ sets-zeros n l xs h =
     ∙ ap (λ (r : List ℕ). xs ++ r) (drop-zeros (length xs) n l h)
     ∙ sym (append-assoc xs (replicate (n - length xs) 0) l)
 
-table-length : (n : ℕ) (xs : List ℕ) → length xs ≤ n → length (table-of n xs) ≡ n
-unfolding table-of
-table-length n xs h =
-    let z : length {A = ℕ} (replicate (n - length xs) 0) ≡ n - length xs = length-replicate (n - length xs) 0 in
-    omega (arith, length-append xs (replicate (n - length xs) 0))
-
 -- an empty table is all zeros
 open-table : (n : ℕ) → table-of n [] ≡ replicate n 0
 unfolding table-of
@@ -75,23 +59,23 @@ open-table n = ap (λ (k : ℕ). replicate k 0) (sub-zero n)
 
 -- a table that is empty is written, and the others stay as they are
 put-table :
-    (ns : List ℕ) (ts : List (List ℕ)) (t : ℕ) (xs : List ℕ) → Fit ns ts → t < length ts → getD ts t [] ≡ [] → length xs ≤ getD ns t 0 →
-    (sets (tables ns ts) (start ns t) xs ≡ tables ns (set ts t xs)) × Fit ns (set ts t xs)
+    (ns : List ℕ) (ts : List (List ℕ)) (t : ℕ) (xs : List ℕ) → Room ns ts → t < length ts → getD ts t [] ≡ [] → length xs ≤ getD ns t 0 →
+    (sets (tables ns ts) (base ns t) xs ≡ tables ns (set ts t xs)) × Room ns (set ts t xs)
 unfolding tables joined both
-put-table [] [] t xs no-tables h e l = absurd (omega arith)
-put-table (n ∷ ns) (s ∷ ts) zero xs (one-more f fs) h e l =
+put-table [] [] t xs [·] h e l = absurd (omega arith)
+put-table (n ∷ ns) (s ∷ ts) zero xs (_∷·_ f fs) h e l =
     let z : table-of n [] ≡ replicate n 0 = open-table n in (
       ap (λ (r : List ℕ). sets (table-of n r ++ joined (both table-of ns ts)) 0 xs) e
           ∙ ap (λ (r : List ℕ). sets (r ++ joined (both table-of ns ts)) 0 xs) z
           ∙ sets-zeros n (joined (both table-of ns ts)) xs l,
-      one-more l fs,
+      l ∷· fs,
     )
-put-table (n ∷ ns) (s ∷ ts) (suc t) xs (one-more f fs) h e l =
+put-table (n ∷ ns) (s ∷ ts) (suc t) xs (_∷·_ f fs) h e l =
     let q = put-table ns ts t xs fs (omega arith) e l in (
-      ap (λ (k : ℕ). sets (table-of n s ++ joined (both table-of ns ts)) (k + start ns t) xs) (sym (table-length n s f))
-          ∙ sets-behind (table-of n s) (joined (both table-of ns ts)) (start ns t) xs
+      ap (λ (k : ℕ). sets (table-of n s ++ joined (both table-of ns ts)) (k + base ns t) xs) (sym (table-length n s f))
+          ∙ sets-behind (table-of n s) (joined (both table-of ns ts)) (base ns t) xs
           ∙ ap (λ (r : List ℕ). table-of n s ++ r) (q .0),
-      one-more f (q .1),
+      f ∷· q .1,
     )
 
 -- ---- all tables
@@ -99,7 +83,7 @@ put-table (n ∷ ns) (s ∷ ts) (suc t) xs (one-more f fs) h e l =
 -- the cells l hold these tables
 pub record Holds (ns : List ℕ) (ts : List (List ℕ)) (l : List ℕ) : Type 0 where
   pub cells : l ≡ tables ns ts
-  pub fit : Fit ns ts
+  pub room : Room ns ts
 
 -- none of them is written yet
 abbrev pub empty : List ℕ → List (List ℕ)
@@ -111,9 +95,9 @@ unfolding tables joined both sum
 empty-tables [] = refl
 empty-tables (n ∷ ns) = (λ j. open-table n j ++ empty-tables ns j) ∙ replicate-append-replicate n (sum ns) 0
 
-empty-fit : (ns : List ℕ) → Fit ns (empty ns)
-empty-fit [] = no-tables
-empty-fit (n ∷ ns) = one-more {n = n} {t = []} (omega arith) (empty-fit ns)
+empty-room : (ns : List ℕ) → Room ns (empty ns)
+empty-room [] = [·]
+empty-room (n ∷ ns) = _∷·_ {n = n} {x = []} (omega arith) (empty-room ns)
 
 -- after clearing
 pub cleared : (ns l l₁ : List ℕ) → length l ≡ sum ns → l₁ ≡ written l 0 (sum ns) (λ k. 0) → Holds ns (empty ns) l₁
@@ -127,13 +111,13 @@ cleared ns l l₁ h e =
           ∙ sets-eq (replicate n 0) l 0 (omega arith)
           ∙ ap (λ (r : List ℕ). replicate n 0 ++ r) (drop-of-length-le l s)
           ∙ append-nil (replicate n 0) ∙ sym (empty-tables ns);
-      fit = empty-fit ns;
+      room = empty-room ns;
     }
 
 -- after one table more
 pub table-put :
-    (ns : List ℕ) (ts : List (List ℕ)) (t : ℕ) (xs l l₁ : List ℕ) → t < length ts → getD ts t [] ≡ [] → length xs ≤ getD ns t 0 → l₁ ≡ sets l (start ns t) xs →
+    (ns : List ℕ) (ts : List (List ℕ)) (t : ℕ) (xs l l₁ : List ℕ) → t < length ts → getD ts t [] ≡ [] → length xs ≤ getD ns t 0 → l₁ ≡ sets l (base ns t) xs →
     Holds ns ts l → Holds ns (set ts t xs) l₁
 table-put ns ts t xs l l₁ h e m q p =
-    let w = put-table ns ts t xs (p .fit) h e m in
-    record { cells = q ∙ ap (λ (r : List ℕ). sets r (start ns t) xs) (p .cells) ∙ w .0; fit = w .1 }
+    let w = put-table ns ts t xs (p .room) h e m in
+    record { cells = q ∙ ap (λ (r : List ℕ). sets r (base ns t) xs) (p .cells) ∙ w .0; room = w .1 }

@@ -1,12 +1,12 @@
 -- The builder's theorem: what it writes is `cells` of the circuit.
-use Prim.Native.Nat.{ℕ, _+_, _-_, _*_, _%_, _≤_, _<_}
+use Prim.Native.Nat.{ℕ, _+_, _-_, _*_, _≤_, _<_}
 use mathlib.Core.Path.{_≡_, refl, sym, ap, _∙_}
-use mathlib.Core.Bool.{Bool, true, false, _&&_, _||_, true≢false}
+use mathlib.Core.Bool.{Bool, true, false, _&&_, _||_}
 use mathlib.Core.List.{List, [], _∷_, map}
 use mathlib.Core.Option.{Option}
 use native.Mathlib.Omega.{arith}
-use borrow.Author.Tests.{leb-true, eqb-true, ltb-true, ltb-false}
-use lib.Dec.{eqb, ltb, leb}
+use borrow.Author.Tests.{ltb-true, ltb-false}
+use lib.Dec.{eqb, ltb}
 use lib.ListN.{length, getD, length-map}
 use Rattle.model.specs.declared.Value.{Value}
 use Rattle.model.specs.declared.Value.the-variants.{Nothing}
@@ -15,59 +15,20 @@ use Rattle.model.specs.Value.{value-of, kind-of, content-of, bit}
 use Rattle.model.specs.Kinds.{Out, kind-at, time-source, buffering, receiving}
 use Rattle.model.specs.Circuit.{Call, part, word-at, source-of, reads, listed-call, calls-from, circuit}
 use Rattle.model.specs.Questions.{within, good-constant, yes-all, question-1, question-2, question-3}
-use Rattle.model.proofs.Lists.{both-true}
+use Rattle.model.proofs.Lists.{both-true, all-places}
+use Rattle.model.proofs.Sizes.{all-within, Sizes, sizes}
 use Rattle.model.proofs.Laid.{filled}
 use Rattle.links.specs.Links.{total, table-of, source-cell, call-cell, gate-cells, row-cells, named, count-cells, cells, listed, packed}
+use Rattle.links.proofs.Reading.{listed-length, listed-in}
+use Rattle.links.proofs.Tables.{table-sizes}
 use Rattle.linking.specs.Building.{written, below, named-word, Small, row-of, members, lists-written, ins-at, outs-at, gate-cell, input-cells, output-cells, word-cells, gates-written, inputs-written, constants-written, all-written}
 use Rattle.linking.proofs.Loops.{below-same}
-use Rattle.linking.proofs.Lists.{listed-length, listed-get, map-listed, both-listed, part-listed, joined-length}
+use Rattle.linking.proofs.Lists.{map-listed, both-listed, part-listed, joined-length}
 use Rattle.linking.proofs.Members.{members-most}
 use Rattle.linking.proofs.Tables.{tables, cleared, table-put}
-use Rattle.linking.proofs.Gates.{all-get, ins-below, outs-below, inputs-size, outputs-size}
-use Rattle.linking.proofs.Cells.{gate-table, output-table, word-within, word-within-two, one-kind, two-kinds, source-table, kind-back, content-back, constant-table, stored-table}
+use Rattle.linking.proofs.Gates.{ins-below, outs-below, inputs-size, outputs-size}
+use Rattle.linking.proofs.Cells.{gate-table, output-table, word-within, word-within-two, one-kind, two-kinds, source-table, constant-back, constant-table, stored-table}
 use Rattle.linking.proofs.Pins.{input-table, reader-lists, call-at, call-lists, call-table, row-table}
-
--- the sizes of the tables
-abbrev table-sizes : List ℕ
-table-sizes = 16 ∷ 64 ∷ 640 ∷ 640 ∷ 640 ∷ 640 ∷ 576 ∷ 576 ∷ 640 ∷ 256 ∷ 64 ∷ 64 ∷ []
-
--- ---- what the questions say
-
--- the sizes
-pub record Sizes (ws : List ℕ) : Type 0 where
-  pub gates : getD ws 0 0 ≤ 64
-  pub constants : getD ws 1 0 ≤ 64
-  pub inputs : getD ws 2 0 ≤ 640
-  pub calls : getD ws 3 0 ≤ 256
-  pub counted : length ws ≡ 4 + 2 * (getD ws 0 0 + getD ws 1 0 + getD ws 2 0 + getD ws 3 0)
-
--- seven answers, of which the last five are used
-seven : (a b c d e f g : Bool) → (a && b && c && d && e && f && g) ≡ true → (c ≡ true) × (d ≡ true) × (e ≡ true) × (f ≡ true) × (g ≡ true)
-seven false b c d e f g h = absurd (true≢false (sym h))
-seven true false c d e f g h = absurd (true≢false (sym h))
-seven true true false d e f g h = absurd (true≢false (sym h))
-seven true true true false e f g h = absurd (true≢false (sym h))
-seven true true true true false f g h = absurd (true≢false (sym h))
-seven true true true true true false g h = absurd (true≢false (sym h))
-seven true true true true true true g h = (refl, refl, refl, refl, h)
-
-most : (low high w : ℕ) → within low high w ≡ true → w ≤ high
-unfolding within
-most low high w h = leb-true w high (both-true (leb low w) (leb w high) h .1)
-
-pub sizes : (bytes ws : List ℕ) → question-1 bytes ws ≡ true → Sizes ws
-unfolding question-1 word-at
-sizes bytes ws q =
-    let s =
-    seven (eqb (length bytes % 8) 0) (leb 4 (length ws)) (within 1 64 (getD ws 0 0)) (within 0 64 (getD ws 1 0)) (within 0 640 (getD ws 2 0)) (within 0 256 (getD ws 3 0))
-    (eqb (length ws) (4 + 2 * (getD ws 0 0 + getD ws 1 0 + getD ws 2 0 + getD ws 3 0))) q in
-    record {
-      gates = most 1 64 (getD ws 0 0) (s .0);
-      constants = most 0 64 (getD ws 1 0) (s .1);
-      inputs = most 0 640 (getD ws 2 0) (s .2);
-      calls = most 0 256 (getD ws 3 0) (s .3);
-      counted = eqb-true (length ws) (4 + 2 * (getD ws 0 0 + getD ws 1 0 + getD ws 2 0 + getD ws 3 0)) (s .4);
-    }
 
 -- ---- the tests of kinds, as ranges
 
@@ -85,7 +46,7 @@ buffer-within k = refl
 
 -- ---- the lists of a circuit, by their elements
 
-module _ (ws : List ℕ) (z : Sizes ws) where
+module _ {bytes : List ℕ} (ws : List ℕ) (z : Sizes bytes ws) where
   -- the sizes, and where the parts of the words begin, as `circuit` reads them
   abbrev G : ℕ
   G = getD ws 0 0
@@ -203,25 +164,25 @@ module _ (ws : List ℕ) (z : Sizes ws) where
     unfolding named kind-of
     constant-kinds-table =
         ap (λ (r : List Value). map kind-of (named r)) constants-are
-        ∙ constant-table K constant-kind constant-content kind-of refl constant-kind (λ k l. kind-back (constant-kind k) (constant-content k) (good k l))
+        ∙ constant-table K constant-kind constant-content kind-of refl constant-kind (λ k l. constant-back (constant-kind k) (constant-content k) (good k l) .0)
 
     constant-contents-table : map content-of (named (circuit ws .constants)) ≡ listed K constant-content
     unfolding named content-of
     constant-contents-table =
         ap (λ (r : List Value). map content-of (named r)) constants-are
-        ∙ constant-table K constant-kind constant-content content-of refl constant-content (λ k l. content-back (constant-kind k) (constant-content k) (good k l))
+        ∙ constant-table K constant-kind constant-content content-of refl constant-content (λ k l. constant-back (constant-kind k) (constant-content k) (good k l) .1)
 
     stored-kinds-table : map kind-of (circuit ws .stored) ≡ listed I (λ i. named-word ws 4 K (getD ws (sources + I + i) 0))
     unfolding kind-of
     stored-kinds-table =
         ap (λ (r : List Value). map kind-of r) stored-are
-        ∙ stored-table K constant-kind constant-content kind-of refl constant-kind (λ k l. kind-back (constant-kind k) (constant-content k) (good k l)) ws 4 (λ k. refl) I (λ i. getD ws (sources + I + i) 0)
+        ∙ stored-table K constant-kind constant-content kind-of refl constant-kind (λ k l. constant-back (constant-kind k) (constant-content k) (good k l) .0) ws 4 (λ k. refl) I (λ i. getD ws (sources + I + i) 0)
 
     stored-contents-table : map content-of (circuit ws .stored) ≡ listed I (λ i. named-word ws (4 + K) K (getD ws (sources + I + i) 0))
     unfolding content-of
     stored-contents-table =
         ap (λ (r : List Value). map content-of r) stored-are
-        ∙ stored-table K constant-kind constant-content content-of refl constant-content (λ k l. content-back (constant-kind k) (constant-content k) (good k l)) ws (4 + K) (λ k. refl) I (λ i. getD ws (sources + I + i) 0)
+        ∙ stored-table K constant-kind constant-content content-of refl constant-content (λ k l. constant-back (constant-kind k) (constant-content k) (good k l) .1) ws (4 + K) (λ k. refl) I (λ i. getD ws (sources + I + i) 0)
 
   -- ---- those of inputs: there are as many as the gates have
 
@@ -272,7 +233,7 @@ module _ (ws : List ℕ) (z : Sizes ws) where
 
   module _ (good : (k : ℕ) → k < K → good-constant (constant-kind k) (constant-content k) ≡ true) (full : length (circuit ws .pins) ≡ I) (l : List ℕ) (long : length l ≡ 4816) where
     all-tables : all-written ws G K I C l ≡ cells (circuit ws)
-    unfolding all-written constants-written lists-written inputs-written gates-written word-cells sum tables cells joined both
+    unfolding all-written constants-written lists-written inputs-written gates-written word-cells sum table-sizes tables cells joined both
     all-tables =
         let readers : ℕ → List ℕ = members (λ i. getD ws (sources + i) 0) I in
         let made : ℕ → List ℕ = members caller C in
@@ -312,10 +273,9 @@ module _ (ws : List ℕ) (z : Sizes ws) where
 -- ---- where questions 1 to 3 are answered yes
 
 -- each number of a list whose members are within a range
-each-most : (n low high d : ℕ) (f : ℕ → ℕ) (xs : List ℕ) → xs ≡ listed n f → all (within low high) xs ≡ true → within low high d ≡ true → (i : ℕ) → i < n → f i ≤ high
-each-most n low high d f xs e h s i l =
-    most low high (f i)
-    (ap (λ (x : ℕ). within low high x) (sym (listed-get n f i d l)) ∙ all-get (within low high) (listed n f) i d (ap (λ (r : List ℕ). all (within low high) r) (sym e) ∙ h) s)
+each-most : (n low high : ℕ) (f : ℕ → ℕ) (xs : List ℕ) → xs ≡ listed n f → all (within low high) xs ≡ true → (i : ℕ) → i < n → f i ≤ high
+each-most n low high f xs e h i l =
+    omega (arith, all-within low high xs h i, ap (λ (r : List ℕ). getD r i 0) e, listed-in n f i 0 l)
 
 module _ (bytes ws : List ℕ) (q₁ : question-1 bytes ws ≡ true) (q₃ : question-3 ws (circuit ws) ≡ true) where
   -- kinds and ranks are below 65,536
@@ -323,7 +283,7 @@ module _ (bytes ws : List ℕ) (q₁ : question-1 bytes ws ≡ true) (q₃ : que
   unfolding question-3 within
   small g k eg ek i h = rw ek (go (ltb i (getD ws 0 0)) refl)
     where
-      z : Sizes ws
+      z : Sizes bytes ws
       z = sizes bytes ws q₁
 
       p : (all (within 1 28) (circuit ws .kinds) ≡ true) × (all (within 0 65535) (circuit ws .ranks) ≡ true)
@@ -334,13 +294,13 @@ module _ (bytes ws : List ℕ) (q₁ : question-1 bytes ws ≡ true) (q₃ : que
       go : (b : Bool) → ltb i (getD ws 0 0) ≡ b → getD ws (4 + 2 * getD ws 1 0 + i) 0 < 65536
       go true e =
           let l = ltb-true i (getD ws 0 0) e in
-          let m = each-most (G ws z) 1 28 1 (λ g. getD ws (kinds ws z + g) 0) (circuit ws .kinds) (kinds-are ws z) (p .0) refl i l in
+          let m = each-most (G ws z) 1 28 (λ g. getD ws (kinds ws z + g) 0) (circuit ws .kinds) (kinds-are ws z) (p .0) i l in
           omega arith
       go false e =
           let l = ltb-false i (getD ws 0 0) e in
           let j : ℕ = i - getD ws 0 0 in
           let a : 4 + 2 * getD ws 1 0 + getD ws 0 0 + j ≡ 4 + 2 * getD ws 1 0 + i = omega arith in
-          let m = each-most (G ws z) 0 65535 0 (λ g. getD ws (kinds ws z + G ws z + g) 0) (circuit ws .ranks) (ranks-are ws z) (p .1) refl j (omega arith) in
+          let m = each-most (G ws z) 0 65535 (λ g. getD ws (kinds ws z + G ws z + g) 0) (circuit ws .ranks) (ranks-are ws z) (p .1) j (omega arith) in
           let n : getD ws (4 + 2 * getD ws 1 0 + i) 0 ≤ 65535 = rw a at m in
           omega arith
 
@@ -358,6 +318,6 @@ module _ (bytes ws : List ℕ) (q₁ : question-1 bytes ws ≡ true) (q₃ : que
       = (λ j. both good-constant (part-listed ws 4 (getD ws 1 0) (omega (arith, z .counted)) j) (part-listed ws (4 + getD ws 1 0) (getD ws 1 0) (omega (arith, z .counted)) j))
       ∙ both-listed good-constant (getD ws 1 0) (constant-kind ws z) (constant-content ws z) in
       let good : (j : ℕ) → j < getD ws 1 0 → t j ≡ true
-      = λ j h. sym (listed-get (getD ws 1 0) t j true h)
-      ∙ all-get (λ b. b) (listed (getD ws 1 0) t) j true (ap (λ (r : List Bool). all (λ b. b) r) (sym bs) ∙ q₂) refl in
+      = λ j h. sym (listed-in (getD ws 1 0) t j true h)
+      ∙ all-places (listed (getD ws 1 0) t) (ap (λ (r : List Bool). all (λ b. b) r) (sym bs) ∙ q₂) j in
       e ∙ (λ j. all-written ws (eg j) (ek j) (ei j) (en j) l) ∙ all-tables ws z good full l long

@@ -1,26 +1,28 @@
 -- The links that are written for a circuit show that circuit again: `net-cells`.
-use Prim.Native.Nat.{ℕ, zero, suc, _+_, _-_, _*_, _/_, _%_, _≤_, _<_, min}
+use Prim.Native.Nat.{ℕ, _+_, _-_, _*_, _/_, _%_, _≤_, _<_, min}
 use mathlib.Core.Path.{_≡_, refl, sym, ap, ap₂, _∙_}
 use mathlib.Core.Bool.{Bool, true, false, true≢false, _&&_}
 use mathlib.Core.List.{List, [], _∷_, map}
 use mathlib.Core.Option.{Option, none, some}
 use native.Mathlib.Nat.{zero-add}
 use native.Mathlib.Omega.{arith}
-use lib.Dec.{eqb, leb}
-use lib.ListN.{length, getD, drop, length-take, length-map, List·getD-map}
-use borrow.Author.Tests.{eqb-true, leb-true}
+use lib.Dec.{eqb}
+use lib.ListN.{length, getD, length-map, List·getD-map}
+use borrow.Author.Tests.{eqb-true}
 use Rattle.words.specs.Words.{words}
 use Rattle.model.specs.declared.Value.the-variants.{Nothing}
 use Rattle.model.specs.Base.{if_then_else_, keep, all, joined, both, from, sum, starts}
 use Rattle.model.specs.Value.{value-of, kind-of, content-of, bit}
-use Rattle.model.specs.Kinds.{value, fires, kind, table, kind-at, time-source, buffering, receiving}
+use Rattle.model.specs.Kinds.{value, fires, kind-at, time-source, buffering, receiving}
 use Rattle.model.specs.Circuit.{Call, Circuit, circuit, part, word-at, minus-one, source-of, reads, listed-call, calls-from, gates-such, kind-of-gate, input, output, gate-at-input, gate-at-output}
 use Rattle.model.specs.Questions.{within, question-1, question-3}
-use Rattle.model.proofs.Lists.{both-true, bit-most, from-length}
-use Rattle.model.proofs.Laid.{Laid, laid, Full, filled}
+use Rattle.model.proofs.Lists.{both-true, bit-most, both-length, from-length}
+use Rattle.model.proofs.Sizes.{all-within, sizes}
+use Rattle.model.proofs.Laid.{starts-length, joined-length, part-most, Laid, laid, Full, filled}
+use Rattle.kinds.proofs.Laws.{few-outputs as nine-outputs}
 use Rattle.values.proofs.Laws.{made-again}
 use Rattle.links.specs.Links.{gates-at, sources-at, stored-kinds-at, stored-contents-at, inputs-at, outputs-at, rows-at, readers-at, calls-at, constant-kinds-at, constant-contents-at, packed, digit, word-of-gates, gates-of-word, source-cell, call-cell, gate-cells, row-cells, named, count-cells, cells, listed, call-of, cell, gate-digit, input-digit, row-digit, kind-in, net}
-use Rattle.links.proofs.Tables.{listed-is, both-at, both-length, both-most, map-at, base, Room, [·], _∷·_, table-read, digit-0, digit-1, Small, gate-cells-length, Four, four, rows-read, starts-length, sum-lengths, starts-small, counts-small, sizes-of, firsts-small, by-owner, bit-read, word-read, shares, joined-map}
+use Rattle.links.proofs.Tables.{listed-is, both-at, both-most, map-at, base, table-sizes, Room, [·], _∷·_, table-read, digit-0, digit-1, Small, gate-cells-length, Four, four, rows-read, starts-small, counts-small, firsts-small, by-owner, bit-read, word-read, shares, joined-map}
 
 -- ---- what makes a circuit come back: no table is overfull, and each digit is below 65,536
 
@@ -64,10 +66,6 @@ at-most : {a b n : ℕ} → a ≡ b → b ≤ n → a ≤ n
 at-most e h = omega arith
 
 -- ---- table by table
-
--- the sizes of the tables
-sizes : List ℕ
-sizes = 16 ∷ 64 ∷ 640 ∷ 640 ∷ 640 ∷ 640 ∷ 576 ∷ 576 ∷ 640 ∷ 256 ∷ 64 ∷ 64 ∷ []
 
 -- of a circuit whose lists have the lengths that belong to them, and that fits
 module _ (c : Circuit) (L : Laid c) (F : Full c) (T : Fitting c) where
@@ -117,7 +115,7 @@ module _ (c : Circuit) (L : Laid c) (F : Full c) (T : Fitting c) where
       ∙ reader-starts-length
 
   inputs-length : length (both (λ g w. packed g (bit w) 0 0) (c .gate-of-input) (c .watched)) ≡ length (c .pins)
-  inputs-length = both-length (λ g w. packed g (bit w) 0 0) (c .gate-of-input) (c .watched) (F .watched ∙ sym (L .gates-of-inputs)) ∙ L .gates-of-inputs
+  inputs-length = both-length (λ g w. packed g (bit w) 0 0) (c .gate-of-input) (c .watched) (L .gates-of-inputs ∙ sym (F .watched)) ∙ L .gates-of-inputs
 
   gates-length : length (gate-cells (c .kinds) (c .ranks) (c .first-input) (c .first-output)) ≡ length (c .kinds)
   gates-length = gate-cells-length (c .kinds) (c .ranks) (c .first-input) (c .first-output) (F .ranks) (L .first-inputs) (L .first-outputs)
@@ -126,8 +124,8 @@ module _ (c : Circuit) (L : Laid c) (F : Full c) (T : Fitting c) where
   unfolding count-cells
   few-counts = omega arith
 
-  room : Room sizes tables
-  unfolding sizes tables
+  room : Room table-sizes tables
+  unfolding table-sizes tables
   room =
       few-counts
       ∷· at-most gates-length (T .gates)
@@ -144,37 +142,37 @@ module _ (c : Circuit) (L : Laid c) (F : Full c) (T : Fitting c) where
       ∷· [·]
 
   -- cell i of table t
-  known : (t i : ℕ) → i < getD sizes t 0 → cell (cells c) (base sizes t + i) ≡ getD (getD tables t []) i 0
-  unfolding cells sizes tables both
+  known : (t i : ℕ) → i < getD table-sizes t 0 → cell (cells c) (base table-sizes t + i) ≡ getD (getD tables t []) i 0
+  unfolding cells table-sizes tables both
   known t i h = table-read room t i h
 
   -- the counts
   gate-count : min (cell (cells c) 0) 64 ≡ length (c .kinds)
-  unfolding sizes tables count-cells
+  unfolding table-sizes tables count-cells
   gate-count = omega (arith, known 0 0 (omega arith), T .gates)
 
   name-count : min (cell (cells c) 1) 64 ≡ length (named (c .constants))
-  unfolding sizes tables count-cells
+  unfolding table-sizes tables count-cells
   name-count = omega (arith, known 0 1 (omega arith), T .names)
 
   input-count : min (cell (cells c) 2) 640 ≡ length (c .pins)
-  unfolding sizes tables count-cells
+  unfolding table-sizes tables count-cells
   input-count = omega (arith, known 0 2 (omega arith), T .inputs)
 
   output-count : min (cell (cells c) 3) 576 ≡ length (c .outputs)
-  unfolding sizes tables count-cells
+  unfolding table-sizes tables count-cells
   output-count = omega (arith, known 0 3 (omega arith), T .outputs)
 
   -- a word of gates
   word-back :
       (n : ℕ) (gs : List ℕ) → n < 16 → getD (count-cells c) n 0 ≡ word-of-gates gs → gates-of-word (word-of-gates gs) ≡ gs →
       gates-of-word (cell (cells c) n) ≡ gs
-  unfolding sizes tables
+  unfolding table-sizes tables
   word-back n gs h e b = ap gates-of-word (sym (ap (cell (cells c)) (zero-add n)) ∙ known 0 n h ∙ e) ∙ b
 
   -- the gates
   gate-known : (g : ℕ) → g < length (c .kinds) → cell (cells c) (gates-at + g) ≡ getD (gate-cells (c .kinds) (c .ranks) (c .first-input) (c .first-output)) g 0
-  unfolding sizes tables
+  unfolding table-sizes tables
   gate-known g h = known 1 g (omega (arith, T .gates))
 
   gates-back : Four (λ g. cell (cells c) (gates-at + g)) (c .kinds) (c .ranks) (c .first-input) (c .first-output)
@@ -200,7 +198,7 @@ module _ (c : Circuit) (L : Laid c) (F : Full c) (T : Fitting c) where
 
   -- the inputs
   input-known : (i : ℕ) → i < length (c .pins) → cell (cells c) (inputs-at + i) ≡ packed (getD (c .gate-of-input) i 0) (bit (getD (c .watched) i false)) 0 0
-  unfolding sizes tables
+  unfolding table-sizes tables
   input-known i h =
       known 5 i (omega (arith, T .inputs))
       ∙ both-at (λ g w. packed g (bit w) 0 0) (c .gate-of-input) (c .watched) i 0 false 0 (omega (arith, L .gates-of-inputs)) (omega (arith, F .watched))
@@ -241,14 +239,14 @@ module _ (c : Circuit) (L : Laid c) (F : Full c) (T : Fitting c) where
       ∙ p .1)
 
   sources-back : listed (min (cell (cells c) 2) 640) (λ i. source-of (cell (cells c) (sources-at + i))) ≡ c .sources
-  unfolding sizes tables
+  unfolding table-sizes tables
   sources-back =
       listed-is none _ _ (c .sources) (input-count ∙ sym (F .sources))
       (λ i h.
       ap source-of (known 2 i (omega (arith, T .inputs, F .sources)) ∙ map-at source-cell (c .sources) i none 0 h) ∙ T .sources i)
 
   stored-back : listed (min (cell (cells c) 2) 640) (λ i. value-of (cell (cells c) (stored-kinds-at + i)) (cell (cells c) (stored-contents-at + i))) ≡ c .stored
-  unfolding sizes tables
+  unfolding table-sizes tables
   stored-back =
       listed-is Nothing _ _ (c .stored) (input-count ∙ sym (F .stored))
       (λ i h.
@@ -260,7 +258,7 @@ module _ (c : Circuit) (L : Laid c) (F : Full c) (T : Fitting c) where
   constants-back :
       Nothing ∷ listed (min (cell (cells c) 1) 64) (λ k. value-of (cell (cells c) (constant-kinds-at + k)) (cell (cells c) (constant-contents-at + k)))
       ≡ c .constants
-  unfolding sizes tables
+  unfolding table-sizes tables
   constants-back =
       ap (λ vs. Nothing ∷ vs)
       (listed-is Nothing _ _ (named (c .constants)) name-count
@@ -273,7 +271,7 @@ module _ (c : Circuit) (L : Laid c) (F : Full c) (T : Fitting c) where
 
   -- the outputs
   output-gate : (o : ℕ) → o < length (c .outputs) → cell (cells c) (outputs-at + o) ≡ getD (c .gate-of-output) o 0
-  unfolding sizes tables
+  unfolding table-sizes tables
   output-gate o h = known 6 o (omega (arith, T .outputs))
 
   gate-of-output-back : listed (min (cell (cells c) 3) 576) (λ o. cell (cells c) (outputs-at + o)) ≡ c .gate-of-output
@@ -295,7 +293,7 @@ module _ (c : Circuit) (L : Laid c) (F : Full c) (T : Fitting c) where
   row-known :
       (o : ℕ) → o < length (starts 0 reader-counts) →
       cell (cells c) (rows-at + o) ≡ getD (gate-cells (starts 0 reader-counts) reader-counts (starts 0 call-counts) call-counts) o 0
-  unfolding sizes tables row-cells reader-counts call-counts
+  unfolding table-sizes tables row-cells reader-counts call-counts
   row-known o h = known 7 o (omega (arith, T .outputs, reader-starts-length))
 
   rows-back : Four (λ o. cell (cells c) (rows-at + o)) (starts 0 reader-counts) reader-counts (starts 0 call-counts) call-counts
@@ -310,7 +308,7 @@ module _ (c : Circuit) (L : Laid c) (F : Full c) (T : Fitting c) where
   readers-back :
       listed (min (cell (cells c) 3) 576)
       (λ o. listed (row-digit (cells c) 1 o) (λ k. cell (cells c) (readers-at + (row-digit (cells c) 0 o + k)))) ≡ c .readers
-  unfolding row-digit sizes tables reader-counts
+  unfolding row-digit table-sizes tables reader-counts
   readers-back =
       rows-read 0 (c .readers) (λ j. cell (cells c) (readers-at + j)) _ _ _ (output-count ∙ sym (L .readers))
       (λ o h. rows-back .first o (omega (arith, reader-starts-length, L .readers))) (λ o h. rows-back .second o (omega (arith, reader-starts-length, L .readers)))
@@ -319,7 +317,7 @@ module _ (c : Circuit) (L : Laid c) (F : Full c) (T : Fitting c) where
   calls-back :
       listed (min (cell (cells c) 3) 576)
       (λ o. listed (row-digit (cells c) 3 o) (λ k. call-of (cell (cells c) (calls-at + (row-digit (cells c) 2 o + k))))) ≡ c .calls
-  unfolding row-digit sizes tables call-counts
+  unfolding row-digit table-sizes tables call-counts
   calls-back =
       rows-read (call-of 0) (c .calls) (λ j. call-of (cell (cells c) (calls-at + j))) _ _ _ (output-count ∙ sym (L .calls))
       (λ o h. rows-back .third o (omega (arith, reader-starts-length, L .calls))) (λ o h. rows-back .fourth o (omega (arith, reader-starts-length, L .calls)))
@@ -356,52 +354,20 @@ module _ (c : Circuit) (L : Laid c) (F : Full c) (T : Fitting c) where
 
 -- ---- a circuit that is read from words
 
--- what is read has no more than it asks for
-part-most : (ws : List ℕ) (k n : ℕ) → length (part ws k n) ≤ n
-unfolding part
-part-most ws k n = omega (arith, length-take n (drop k ws))
-
-within-most : (low high w : ℕ) → within low high w ≡ true → w ≤ high
-unfolding within
-within-most low high w h = leb-true w high (both-true (leb low w) (leb w high) h .1)
-
-all-within : (low high : ℕ) (xs : List ℕ) → all (within low high) xs ≡ true → (i : ℕ) → getD xs i 0 ≤ high
-unfolding all
-all-within low high [] h i = omega arith
-all-within low high (x ∷ xs) h zero = within-most low high x (both-true (within low high x) (all (within low high) xs) h .0)
-all-within low high (x ∷ xs) h (suc i) = all-within low high xs (both-true (within low high x) (all (within low high) xs) h .1) i
-
-all-at : {A : Type 0} (p : A → Bool) (d : A) (xs : List A) → p d ≡ true → all p xs ≡ true → (i : ℕ) → p (getD xs i d) ≡ true
-unfolding all
-all-at p d [] e h i = e
-all-at p d (x ∷ xs) e h zero = both-true (p x) (all p xs) h .0
-all-at p d (x ∷ xs) e h (suc i) = all-at p d xs e (both-true (p x) (all p xs) h .1) i
-
--- no kind has more than nine outputs
-nine-outputs : all (λ k. leb (length (k .outs)) 9) table ≡ true
-unfolding all table kind
-nine-outputs = refl
-
-outs-most : (k : ℕ) → length (kind-at k .outs) ≤ 9
-unfolding kind-at
-outs-most zero = omega arith
-outs-most (suc k) =
-    leb-true (length (getD table k (record { ins = []; outs = [] }) .outs)) 9
-    (all-at (λ n. leb (length (n .outs)) 9) (record { ins = []; outs = [] }) table refl nine-outputs k)
-
+-- numbers of which none is above nine
 nine-each : (f : ℕ → ℕ) → ((k : ℕ) → f k ≤ 9) → (ks : List ℕ) → sum (map f ks) ≤ 9 * length ks
 unfolding sum
 nine-each f h [] = omega arith
 nine-each f h (k ∷ ks) = omega (arith, h k, nine-each f h ks)
 
 -- a source and its cell
-source-again : (w : ℕ) → source-of (source-cell (source-of w)) ≡ source-of w
+pub source-back : (w : ℕ) → source-cell (source-of w) ≡ w
 unfolding source-of source-cell if_then_else_
-source-again w = go (eqb w minus-one) refl
+source-back w = go (eqb w minus-one) refl
   where
-    go : (b : Bool) → eqb w minus-one ≡ b → source-of (source-cell (if b then none else some w)) ≡ (if b then none else some w)
-    go true e = refl
-    go false e = rw e refl
+    go : (b : Bool) → eqb w minus-one ≡ b → source-cell (if b then none else some w) ≡ w
+    go true e = sym (eqb-true w minus-one e)
+    go false e = refl
 
 -- an input reads one output
 reads-one : (ss : List (Option ℕ)) (i o p : ℕ) → reads o ss i ≡ true → reads p ss i ≡ true → o ≡ p
@@ -412,35 +378,13 @@ reads-one ss i o p = go (getD ss i none)
     go none h k = absurd (true≢false (sym h))
     go (some q) h k = eqb-true o q h ∙ sym (eqb-true p q k)
 
--- the sizes that question 1 allows
-sizes-asked :
-    (bytes ws : List ℕ) → question-1 bytes ws ≡ true →
-    (word-at ws 1 ≤ 64) × (word-at ws 0 ≤ 64) × (word-at ws 2 ≤ 640) × (word-at ws 3 ≤ 256)
-unfolding question-1
-sizes-asked bytes ws q =
-    let a = eqb (length bytes % 8) 0 && leb 4 (length ws) in
-    let g = within 1 64 (word-at ws 0) in
-    let k = within 0 64 (word-at ws 1) in
-    let i = within 0 640 (word-at ws 2) in
-    let n = within 0 256 (word-at ws 3) in
-    let h₄ = both-true (a && g && k && i && n) _ q .0 in
-    let h₃ = both-true (a && g && k && i) n h₄ in
-    let h₂ = both-true (a && g && k) i (h₃ .0) in
-    let h₁ = both-true (a && g) k (h₂ .0) in
-    let h₀ = both-true a g (h₁ .0) in (
-      within-most 0 64 (word-at ws 1) (h₁ .1),
-      within-most 1 64 (word-at ws 0) (h₀ .1),
-      within-most 0 640 (word-at ws 2) (h₂ .1),
-      within-most 0 256 (word-at ws 3) (h₃ .1),
-    )
-
 module _ (bytes ws : List ℕ) (q : question-1 bytes ws ≡ true) (r : question-3 ws (circuit ws) ≡ true) where
   few-gates : length (circuit ws .kinds) ≤ 64
-  unfolding circuit
-  few-gates = omega (arith, part-most ws (4 + 2 * word-at ws 1) (word-at ws 0), sizes-asked bytes ws q .1)
+  unfolding circuit word-at
+  few-gates = omega (arith, part-most ws (4 + 2 * word-at ws 1) (word-at ws 0), sizes bytes ws q .gates)
 
   few-inputs : length (circuit ws .pins) ≤ 640
-  unfolding circuit
+  unfolding circuit word-at
   few-inputs =
       let ss = part ws (4 + 2 * word-at ws 1 + 2 * word-at ws 0) (word-at ws 2) in
       omega (
@@ -448,7 +392,7 @@ module _ (bytes ws : List ℕ) (q : question-1 bytes ws ≡ true) (r : question-
         filled bytes ws q r .sources,
         length-map ss source-of,
         part-most ws (4 + 2 * word-at ws 1 + 2 * word-at ws 0) (word-at ws 2),
-        sizes-asked bytes ws q .2,
+        sizes bytes ws q .inputs,
       )
 
   few-outputs : length (circuit ws .outputs) ≤ 576
@@ -457,9 +401,8 @@ module _ (bytes ws : List ℕ) (q : question-1 bytes ws ≡ true) (r : question-
       let ks = circuit ws .kinds in
       omega (
         arith,
-        sum-lengths (map (λ k. kind-at k .outs) ks),
-        ap sum (sizes-of (λ k. kind-at k .outs) ks),
-        nine-each (λ k. length (kind-at k .outs)) outs-most ks,
+        joined-length (λ k. kind-at k .outs) ks,
+        nine-each (λ k. length (kind-at k .outs)) nine-outputs ks,
         few-gates,
       )
 
@@ -468,21 +411,21 @@ module _ (bytes ws : List ℕ) (q : question-1 bytes ws ≡ true) (r : question-
   sources-again i =
       let ss = part ws (4 + 2 * word-at ws 1 + 2 * word-at ws 0) (word-at ws 2) in
       let e : getD (map source-of ss) i none ≡ source-of (getD ss i minus-one) = List·getD-map source-of ss i minus-one in
-      ap (λ s. source-of (source-cell s)) e ∙ source-again (getD ss i minus-one) ∙ sym e
+      ap (λ s. source-of (source-cell s)) e ∙ ap source-of (source-back (getD ss i minus-one)) ∙ sym e
 
   few-readers : length (joined (circuit ws .readers)) ≤ 640
-  unfolding circuit
+  unfolding circuit word-at
   few-readers =
       let ss = circuit ws .sources in
       omega (
         arith,
         shares (λ o i. reads o ss i) (reads-one ss) 0 (length (circuit ws .outputs)) (from 0 (word-at ws 2)),
         from-length 0 (word-at ws 2),
-        sizes-asked bytes ws q .2,
+        sizes bytes ws q .inputs,
       )
 
   few-calls : length (joined (circuit ws .calls)) ≤ 256
-  unfolding circuit calls-from
+  unfolding circuit calls-from word-at
   few-calls =
       let at = 4 + 2 * word-at ws 1 + 2 * word-at ws 0 + 2 * word-at ws 2 in
       let n = word-at ws 3 in
@@ -494,11 +437,11 @@ module _ (bytes ws : List ℕ) (q : question-1 bytes ws ≡ true) (r : question-
         shares (λ o l. eqb (l .out) o) (λ l o p h k. sym (eqb-true (l .out) o h) ∙ eqb-true (l .out) p k) 0 O ls,
         both-most listed-call (part ws at n) (part ws (at + n) n),
         part-most ws at n,
-        sizes-asked bytes ws q .3,
+        sizes bytes ws q .calls,
       )
 
   fitting : Fitting (circuit ws)
-  unfolding circuit question-3 gates-such named gate-at-input gate-at-output input output kind-of-gate
+  unfolding circuit word-at question-3 gates-such named gate-at-input gate-at-output input output kind-of-gate
   fitting =
       let ks = circuit ws .kinds in
       let K = word-at ws 1 in
@@ -508,7 +451,7 @@ module _ (bytes ws : List ℕ) (q : question-1 bytes ws ≡ true) (r : question-
       record {
         gates = few-gates;
         constants = refl;
-        names = omega (arith, both-most value-of (part ws 4 K) (part ws (4 + K) K), part-most ws 4 K, sizes-asked bytes ws q .0);
+        names = omega (arith, both-most value-of (part ws 4 K) (part ws (4 + K) K), part-most ws 4 K, sizes bytes ws q .constants);
         inputs = few-inputs;
         outputs = few-outputs;
         kinds = λ i. omega (arith, all-within 1 28 ks (h .0) i);

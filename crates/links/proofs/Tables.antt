@@ -2,7 +2,7 @@
 use Prim.Native.Nat.{ℕ, zero, suc, _+_, _-_, _*_, _/_, _%_, _^_, _≤_, _<_}
 use mathlib.Core.Path.{_≡_, refl, sym, ap, ap₂, subst, _∙_}
 use mathlib.Core.Bool.{Bool, true, false}
-use mathlib.Core.List.{List, [], _∷_, _++_, map}
+use mathlib.Core.List.{List, [], _∷_, _++_, map, map-map}
 use native.Mathlib.Nat.{zero-add, add-zero, pow-suc, pow-succ', one-mul, mul-add, mul-assoc, div-div-eq-div-mul, zero-div}
 use native.Mathlib.Omega.{arith}
 use lib.Dec.{eqb, ltb}
@@ -11,7 +11,8 @@ use lib.Seq.{getD-append-add, ext-getD}
 use borrow.Author.Tests.{ltb-true, ltb-false}
 use Rattle.model.specs.Base.{if_then_else_, keep, joined, both, from, sum, starts}
 use Rattle.model.specs.Value.{bit}
-use Rattle.model.proofs.Lists.{bit-most}
+use Rattle.model.proofs.Lists.{bit-most, all-same, both-length}
+use Rattle.model.proofs.Laid.{sum-lengths}
 use Rattle.links.specs.Links.{packed, digit, word-of-gates, gates-of-word, table-of, gate-cells, listed}
 use Rattle.links.proofs.Reading.{listed-length, listed-in}
 
@@ -31,13 +32,6 @@ both-at f [] ys i a b c h k = absurd (omega arith)
 both-at f (x ∷ xs) [] i a b c h k = absurd (omega arith)
 both-at f (x ∷ xs) (y ∷ ys) zero a b c h k = refl
 both-at f (x ∷ xs) (y ∷ ys) (suc i) a b c h k = both-at f xs ys i a b c (omega arith) (omega arith)
-
-pub both-length : {A B C : Type 0} (f : A → B → C) (xs : List A) (ys : List B) → length ys ≡ length xs → length (both f xs ys) ≡ length xs
-unfolding both
-both-length f [] [] h = refl
-both-length f [] (y ∷ ys) h = refl
-both-length f (x ∷ xs) [] h = absurd (omega arith)
-both-length f (x ∷ xs) (y ∷ ys) h = ap suc (both-length f xs ys (omega arith))
 
 pub both-most : {A B C : Type 0} (f : A → B → C) (xs : List A) (ys : List B) → length (both f xs ys) ≤ length xs
 unfolding both
@@ -59,23 +53,22 @@ base [] t = 0
 base (n ∷ ns) zero = 0
 base (n ∷ ns) (suc t) = n + base ns t
 
+-- how many cells each table has
+unfoldable pub table-sizes : List ℕ
+table-sizes = 16 ∷ 64 ∷ 640 ∷ 640 ∷ 640 ∷ 640 ∷ 576 ∷ 576 ∷ 640 ∷ 256 ∷ 64 ∷ 64 ∷ []
+
 infixr 5 _∷·_
 -- each list has room in its table
 pub data Room : List ℕ → List (List ℕ) → Type 0 where
   [·] : Room [] []
   _∷·_ : {n : ℕ} {x : List ℕ} {ns : List ℕ} {xs : List (List ℕ)} → length x ≤ n → Room ns xs → Room (n ∷ ns) (x ∷ xs)
 
-table-length : (n : ℕ) (x : List ℕ) → length x ≤ n → length (table-of n x) ≡ n
+pub table-length : (n : ℕ) (x : List ℕ) → length x ≤ n → length (table-of n x) ≡ n
 unfolding table-of
 table-length n x h = omega (arith, length-append x (replicate (n - length x) 0), length-replicate {A = ℕ} (n - length x) 0)
 
-zeros : (k i : ℕ) → getD {A = ℕ} (replicate k 0) i 0 ≡ 0
-zeros zero i = refl
-zeros (suc k) zero = refl
-zeros (suc k) (suc i) = zeros k i
-
 padded : (x : List ℕ) (k i : ℕ) → getD (x ++ replicate k 0) i 0 ≡ getD x i 0
-padded [] k i = zeros k i
+padded [] k i = all-same k i 0
 padded (a ∷ x) k zero = refl
 padded (a ∷ x) k (suc i) = padded x k i
 
@@ -129,15 +122,15 @@ module _ (ks rs is os : List ℕ) (er : length rs ≡ length ks) (ei : length is
   pub gate-cells-length : length (gate-cells ks rs is os) ≡ length ks
   unfolding gate-cells
   gate-cells-length =
-      let y : length (both packed ks rs) ≡ length ks = both-length packed ks rs er in
-      let x : length (both (λ f i. f i) (both packed ks rs) is) ≡ length (both packed ks rs) = both-length (λ f i. f i) (both packed ks rs) is (ei ∙ sym y) in
-      both-length (λ f p. f p) (both (λ f i. f i) (both packed ks rs) is) os (eo ∙ sym y ∙ sym x) ∙ x ∙ y
+      let y : length (both packed ks rs) ≡ length ks = both-length packed ks rs (sym er) in
+      let x : length (both (λ f i. f i) (both packed ks rs) is) ≡ length (both packed ks rs) = both-length (λ f i. f i) (both packed ks rs) is (y ∙ sym ei) in
+      both-length (λ f p. f p) (both (λ f i. f i) (both packed ks rs) is) os (x ∙ y ∙ sym eo) ∙ x ∙ y
 
   gate-cell-at : (g : ℕ) → g < length ks → getD (gate-cells ks rs is os) g 0 ≡ packed (getD ks g 0) (getD rs g 0) (getD is g 0) (getD os g 0)
   unfolding gate-cells
   gate-cell-at g h =
-      let y : length (both packed ks rs) ≡ length ks = both-length packed ks rs er in
-      let x : length (both (λ f i. f i) (both packed ks rs) is) ≡ length (both packed ks rs) = both-length (λ f i. f i) (both packed ks rs) is (ei ∙ sym y) in
+      let y : length (both packed ks rs) ≡ length ks = both-length packed ks rs (sym er) in
+      let x : length (both (λ f i. f i) (both packed ks rs) is) ≡ length (both packed ks rs) = both-length (λ f i. f i) (both packed ks rs) is (y ∙ sym ei) in
       both-at (λ f p. f p) (both (λ f i. f i) (both packed ks rs) is) os g (λ p. 0) 0 0 (omega arith) (omega arith)
       ∙ ap (λ (f : ℕ → ℕ). f (getD os g 0))
       (both-at (λ f i. f i) (both packed ks rs) is g (λ i p. 0) 0 (λ p. 0) (omega arith) (omega arith)
@@ -223,16 +216,6 @@ starts-most n [] i = omega arith
 starts-most n (k ∷ ks) zero = omega arith
 starts-most n (k ∷ ks) (suc i) = omega (arith, starts-most (n + k) ks i)
 
-pub starts-length : (n : ℕ) (ks : List ℕ) → length (starts n ks) ≡ length ks
-unfolding starts
-starts-length n [] = refl
-starts-length n (k ∷ ks) = ap suc (starts-length (n + k) ks)
-
-pub sum-lengths : {A : Type 0} (xs : List (List A)) → length (joined xs) ≡ sum (map (λ x. length x) xs)
-unfolding joined sum
-sum-lengths [] = refl
-sum-lengths (x ∷ xs) = omega (arith, length-append x (joined xs), sum-lengths xs)
-
 pub member-most : (ks : List ℕ) (i : ℕ) → getD ks i 0 ≤ sum ks
 unfolding sum
 member-most [] i = omega arith
@@ -249,12 +232,8 @@ module _ {A : Type 0} (xs : List (List A)) (h : length (joined xs) < 65536) wher
 -- ---- rows that go by their kinds
 
 module _ {A : Type 0} (f : ℕ → List A) where
-  pub sizes-of : (ks : List ℕ) → map (λ x. length x) (map f ks) ≡ map (λ k. length (f k)) ks
-  sizes-of [] = refl
-  sizes-of (k ∷ ks) = ap (λ ns. length (f k) ∷ ns) (sizes-of ks)
-
   pub firsts-small : (ks : List ℕ) → length (joined (map f ks)) < 65536 → Small (starts 0 (map (λ k. length (f k)) ks))
-  firsts-small ks h i = subst (λ (ns : List ℕ). getD (starts 0 ns) i 0 < 65536) (sizes-of ks) (starts-small (map f ks) h i)
+  firsts-small ks h i = subst (λ (ns : List ℕ). getD (starts 0 ns) i 0 < 65536) (map-map (λ x. length x) f ks) (starts-small (map f ks) h i)
 
   row-exists : (xs : List (List A)) (o k : ℕ) → k < length (getD xs o []) → o < length xs
   row-exists [] o k h = absurd (omega arith)
@@ -275,7 +254,7 @@ module _ {A : Type 0} (f : ℕ → List A) where
       let fg : getD (map f ks) g [] ≡ f (getD ks g 0) = map-at f ks g 0 [] gl in
       let pf : p < length (f (getD ks g 0)) = omega (arith, ap (λ (x : List A). length x) fg, pl .inside) in
       let st : getD firsts g 0 ≡ row-start (map f ks) g =
-      ap (λ ns. getD ns g 0) (s ∙ ap (starts 0) (sym (sizes-of ks))) ∙ starts-at 0 (map f ks) g gm ∙ zero-add (row-start (map f ks) g)
+      ap (λ ns. getD ns g 0) (s ∙ ap (starts 0) (sym (map-map (λ x. length x) f ks))) ∙ starts-at 0 (map f ks) g gm ∙ zero-add (row-start (map f ks) g)
       in
       let ie : i ≡ getD firsts g 0 + p = omega (arith, pl .is) in
       let og : getD owners i 0 ≡ g = ap (λ j. getD owners j 0) ie ∙ own g p pf in

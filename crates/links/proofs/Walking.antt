@@ -3,12 +3,12 @@ use Prim.Native.Nat.{ℕ, zero, suc, _+_, _-_, _*_, _/_, _%_, _^_, _≤_, _<_}
 use mathlib.Core.Path.{_≡_, refl, sym, ap, _∙_}
 use mathlib.Core.Bool.{Bool}
 use mathlib.Core.List.{List, [], _∷_}
-use native.Mathlib.Nat.{zero-add, add-zero, pow-succ', mul-add, one-mul, div-one, div-div-eq-div-mul, mod-eq-of-lt}
+use native.Mathlib.Nat.{zero-add, add-zero, pow-succ', mul-add, one-mul, div-one, div-div-eq-div-mul}
 use native.Mathlib.Omega.{arith}
 use lib.Dec.{eqb}
 use lib.ListN.{length, getD, drop}
 use lib.Count.{trailingZeros, under, trailing-of-zero}
-use lib.Pow.{pow-lt}
+use Rattle.floats.proofs.Bits.{unit-is}
 use Rattle.model.specs.Base.{if_then_else_, keep, each, from}
 use Rattle.links.specs.Links.{word-of-gates, gates-of-word}
 use Rattle.links.proofs.Tables.{double, next-place}
@@ -114,19 +114,16 @@ module _ (d g : ℕ) (e : g ≡ getD (gates-of-word d) 0 64) where
   zeros-are : g ≡ trailingZeros 64 d
   zeros-are = e ∙ sym (first-is d)
 
-  unit-is : g < 64 → 1 * 2 ^ g % 2 ^ 64 ≡ 2 ^ g
-  unit-is h = ap (λ x. x % 2 ^ 64) (one-mul (2 ^ g)) ∙ mod-eq-of-lt (pow-lt h)
-
   pub first-fits : g < 64 → 1 * 2 ^ g % 2 ^ 64 ≤ d
   first-fits h =
       let z = zeros-are in
       let f : 2 ^ g ≤ d = rw z (zeros-fit 64 d (omega arith)) in
-      omega (arith, unit-is h)
+      omega (arith, unit-is g h)
 
   pub later-some : g < 64 → gates-of-word (d - 1 * 2 ^ g % 2 ^ 64) ≡ drop 1 (gates-of-word d)
   later-some h =
       let z = zeros-are in
-      ap (λ x. gates-of-word (d - x)) (unit-is h) ∙ gates-are (d - 2 ^ g) ∙ rw z (bits-rest 0 64 d) ∙ ap (drop 1) (sym (gates-are d))
+      ap (λ x. gates-of-word (d - x)) (unit-is g h) ∙ gates-are (d - 2 ^ g) ∙ rw z (bits-rest 0 64 d) ∙ ap (drop 1) (sym (gates-are d))
 
   pub none-are : 64 ≤ g → gates-of-word d ≡ []
   none-are h = gates-are d ∙ bits-none 0 64 d (omega (arith, zeros-are))

@@ -1,19 +1,19 @@
 -- How a circuit's inputs and outputs are laid out: each gate's own stand in a row, in the order of the gates.
 use mathlib.Core.Path.{_≡_, refl, sym, ap, _∙_}
 use mathlib.Core.Bool.{true, _&&_}
-use mathlib.Core.List.{List, [], _∷_, map}
-use Prim.Native.Nat.{ℕ, zero, suc, _+_, _*_, _%_, _≤_, _<_}
+use mathlib.Core.List.{List, [], _∷_, map, map-map}
+use Prim.Native.Nat.{ℕ, zero, suc, _+_, _*_, _≤_, _<_}
 use native.Mathlib.Nat.{zero-add}
 use native.Mathlib.Omega.{arith}
-use lib.Dec.{leb, eqb}
-use lib.ListN.{length, getD, replicate, length-take, length-drop, length-append, length-replicate, length-map, getD-replicate, List·getD-append, List·getD-map}
-use lib.Seq.{getD-append-add}
+use lib.ListN.{length, getD, take, drop, replicate, length-take, length-drop, length-append, length-replicate, length-map, getD-replicate, List·getD-append, List·getD-map}
+use lib.Seq.{getD-append-add, drop-cons}
 use borrow.Author.Tests.{eqb-true}
-use Rattle.model.specs.Base.{all, joined, both, from, sum, starts, owners}
+use Rattle.model.specs.Base.{all, joined, from, sum, starts, owners}
 use Rattle.model.specs.Kinds.{kind-at, time-source}
 use Rattle.model.specs.Questions.{within, question-1, question-3}
 use Rattle.model.specs.Circuit.{Circuit, circuit, part, word-at, source-of, is-watched, kind-of-gate, input, output, gate-at-input, gate-at-output, gates-such}
-use Rattle.model.proofs.Lists.{both-true, all-keep, from-length}
+use Rattle.model.proofs.Lists.{both-true, all-keep, both-length, from-length}
+use Rattle.model.proofs.Sizes.{sizes}
 
 -- ---- parts in a row
 
@@ -45,7 +45,7 @@ place-at [] g p h = absurd (omega arith)
 place-at (k ∷ ks) zero p h = (omega arith, omega arith)
 place-at (k ∷ ks) (suc g) p h = let r = place-at ks g p h in (omega arith, omega arith)
 
-starts-length : (n : ℕ) (ks : List ℕ) → length (starts n ks) ≡ length ks
+pub starts-length : (n : ℕ) (ks : List ℕ) → length (starts n ks) ≡ length ks
 unfolding starts
 starts-length n [] = refl
 starts-length n (k ∷ ks) = ap suc (starts-length (n + k) ks)
@@ -55,10 +55,13 @@ unfolding owners sum
 owners-length a [] = refl
 owners-length a (k ∷ ks) = omega (arith, length-append (replicate k a) (owners (suc a) ks), length-replicate k a, owners-length (suc a) ks)
 
-joined-length : {A : Type 0} (f : ℕ → List A) (ks : List ℕ) → length (joined (map f ks)) ≡ sum (map (λ k. length (f k)) ks)
+pub sum-lengths : {A : Type 0} (xs : List (List A)) → length (joined xs) ≡ sum (map (λ x. length x) xs)
 unfolding joined sum
-joined-length f [] = refl
-joined-length f (k ∷ ks) = omega (arith, length-append (f k) (joined (map f ks)), joined-length f ks)
+sum-lengths [] = refl
+sum-lengths (x ∷ xs) = omega (arith, length-append x (joined xs), sum-lengths xs)
+
+pub joined-length : {A : Type 0} (f : ℕ → List A) (ks : List ℕ) → length (joined (map f ks)) ≡ sum (map (λ k. length (f k)) ks)
+joined-length f ks = sum-lengths (map f ks) ∙ ap sum (map-map (λ x. length x) f ks)
 
 -- parts whose sizes go by their kinds; a kind that is none has no size
 module _ (size : ℕ → ℕ) (nothing : size 0 ≡ 0) (ks : List ℕ) where
@@ -129,25 +132,25 @@ pub record Full (c : Circuit) : Type 0 where
   pub stored : length (c .stored) ≡ length (c .pins)
   pub watched : length (c .watched) ≡ length (c .pins)
 
-both-length : {A B C : Type 0} (f : A → B → C) (xs : List A) (ys : List B) → length xs ≡ length ys → length (both f xs ys) ≡ length xs
-unfolding both
-both-length f [] [] h = refl
-both-length f [] (y ∷ ys) h = refl
-both-length f (x ∷ xs) [] h = absurd (omega arith)
-both-length f (x ∷ xs) (y ∷ ys) h = ap suc (both-length f xs ys (omega arith))
-
-part-length : (ws : List ℕ) (k n : ℕ) → k + n ≤ length ws → length (part ws k n) ≡ n
+-- n words from place k on: how many they are, at most, and one by one
+pub part-length : (ws : List ℕ) (k n : ℕ) → k + n ≤ length ws → length (part ws k n) ≡ n
 unfolding part
 part-length ws k n h = simp (length-take, length-drop) (omega arith)
 
--- what question 1 says of the number of words
-words-counted : (bytes ws : List ℕ) → question-1 bytes ws ≡ true → length ws ≡ 4 + 2 * (word-at ws 0 + word-at ws 1 + word-at ws 2 + word-at ws 3)
-unfolding question-1
-words-counted bytes ws q =
-    eqb-true _ _ (both-true
-    (eqb (length bytes % 8) 0 && leb 4 (length ws) && within 1 64 (word-at ws 0) && within 0 64 (word-at ws 1)
-    && within 0 640 (word-at ws 2) && within 0 256 (word-at ws 3))
-    _ q .1)
+pub part-most : (ws : List ℕ) (k n : ℕ) → length (part ws k n) ≤ n
+unfolding part
+part-most ws k n = omega (arith, length-take n (drop k ws))
+
+part-from : (ws : List ℕ) (k i n : ℕ) → k + (i + n) ≤ length ws → take n (drop (k + i) ws) ≡ map (λ j. getD ws (k + j) 0) (from i n)
+unfolding from
+part-from ws k i zero h = refl
+part-from ws k i (suc n) h =
+    let e : suc (k + i) ≡ k + suc i = omega arith in
+    rw (drop-cons ws (k + i) 0 (omega arith), e) (ap (λ (r : List ℕ). getD ws (k + i) 0 ∷ r) (part-from ws k (suc i) n (omega arith)))
+
+pub part-is : (ws : List ℕ) (k n : ℕ) → k + n ≤ length ws → part ws k n ≡ map (λ j. getD ws (k + j) 0) (from 0 n)
+unfolding part
+part-is ws k n h = let e : k ≡ k + 0 = omega arith in ap (λ (m : ℕ). take n (drop m ws)) e ∙ part-from ws k 0 n (omega arith)
 
 inputs-counted : (ws : List ℕ) (c : Circuit) → question-3 ws c ≡ true → sum (map (λ k. length (kind-at k .ins)) (c .kinds)) ≡ word-at ws 2
 unfolding question-3
@@ -155,20 +158,20 @@ inputs-counted ws c q = eqb-true _ _ (both-true (all (within 1 28) (c .kinds) &&
 
 -- so many gates, and so many inputs, as the sizes say
 pub gates-found : (bytes ws : List ℕ) → question-1 bytes ws ≡ true → length (circuit ws .kinds) ≡ word-at ws 0
-unfolding circuit
-gates-found bytes ws q = let n = words-counted bytes ws q in part-length ws (4 + 2 * word-at ws 1) (word-at ws 0) (omega arith)
+unfolding circuit word-at
+gates-found bytes ws q = let z = sizes bytes ws q in part-length ws (4 + 2 * word-at ws 1) (word-at ws 0) (omega arith)
 
 pub inputs-found : (ws : List ℕ) → question-3 ws (circuit ws) ≡ true → length (circuit ws .pins) ≡ word-at ws 2
 unfolding circuit
 inputs-found ws r = joined-length (λ k. kind-at k .ins) (circuit ws .kinds) ∙ inputs-counted ws (circuit ws) r
 
 pub filled : (bytes ws : List ℕ) → question-1 bytes ws ≡ true → question-3 ws (circuit ws) ≡ true → Full (circuit ws)
-unfolding circuit
+unfolding circuit word-at
 filled bytes ws q r =
     let G = word-at ws 0 in
     let K = word-at ws 1 in
     let I = word-at ws 2 in
-    let n = words-counted bytes ws q in
+    let z = sizes bytes ws q in
     let s : length (circuit ws .sources) ≡ I = length-map (part ws (4 + 2 * K + 2 * G) I) source-of ∙ part-length ws (4 + 2 * K + 2 * G) I (omega arith) in
     let p : length (circuit ws .pins) ≡ I = inputs-found ws r in
     record {

@@ -2,6 +2,8 @@
 pub mod Rounds
 -- choices, lists, counting
 pub mod Lists
+-- ranges, and what question 1 says of the sizes: `sizes`
+pub mod Sizes
 -- a list that has each of its members once
 pub mod Once
 -- each gate's inputs and outputs stand in a row: `laid`, `filled`

@@ -2,14 +2,14 @@
 use mathlib.Core.Path.{_≡_, refl, sym, ap, _∙_}
 use mathlib.Core.Bool.{Bool, true, false, not, _&&_, _||_, true≢false, or-true}
 use mathlib.Core.List.{List, [], _∷_, _++_, map}
-use Prim.Native.Nat.{ℕ, zero, suc, _+_, _≤_, _<_}
+use Prim.Native.Nat.{ℕ, zero, suc, _+_, _-_, _≤_, _<_}
 use native.Mathlib.Nat.{add-zero, add-suc, suc-add}
 use native.Mathlib.Omega.{arith}
 use lib.Dec.{eqb}
-use lib.ListN.{length, getD, set, length-append}
+use lib.ListN.{length, getD, set, replicate, length-append}
 use borrow.Author.Tests.{eqb-true, eq-eqb}
 use Rattle.schedule.specs.Promise.{All, [·], _∷·_}
-use Rattle.model.specs.Base.{if_then_else_, keep, all, each, snoc, among, from}
+use Rattle.model.specs.Base.{if_then_else_, keep, all, each, snoc, among, both, from}
 use Rattle.model.specs.Value.{bit}
 
 -- ---- choices
@@ -70,6 +70,12 @@ all-keep p (x ∷ xs) = go (p x) refl (all-keep p xs)
     go : (b : Bool) → p x ≡ b → all p (keep p xs) ≡ true → all p (if b then x ∷ keep p xs else keep p xs) ≡ true
     go true e h = rw (e, h)
     go false e h = h
+
+-- a test of what is worked out of each member
+pub all-map : {A B : Type 0} (p : B → Bool) (f : A → B) (xs : List A) → all p (map f xs) ≡ all (λ x. p (f x)) xs
+unfolding all
+all-map p f [] = refl
+all-map p f (x ∷ xs) = ap (λ (b : Bool). p (f x) && b) (all-map p f xs)
 
 pub all-among : (p : ℕ → Bool) (xs : List ℕ) → all p xs ≡ true → (i : ℕ) → among i xs ≡ true → p i ≡ true
 unfolding all among
@@ -154,6 +160,12 @@ map-from f n zero i d h = absurd (omega arith)
 map-from f n (suc k) zero d h = ap f (sym (add-zero n))
 map-from f n (suc k) (suc i) d h = map-from f (suc n) k i d (omega arith) ∙ ap f (suc-add n i ∙ sym (add-suc n i))
 
+-- two lists that are given place by place
+pub from-same : {A : Type 0} (f g : ℕ → A) (a n : ℕ) → ((i : ℕ) → a ≤ i → i < a + n → f i ≡ g i) → map f (from a n) ≡ map g (from a n)
+unfolding from
+from-same f g a zero h = refl
+from-same f g a (suc n) h = λ j. h a (omega arith) (omega arith) j ∷ from-same f g (suc a) n (λ i l m. h i (omega arith) (omega arith)) j
+
 pub among-from : (a n p : ℕ) → p < n → among (a + p) (from a n) ≡ true
 unfolding among from
 among-from a zero p l = absurd (omega arith)
@@ -166,6 +178,32 @@ pub from-length : (n k : ℕ) → length (from n k) ≡ k
 unfolding from
 from-length n zero = refl
 from-length n (suc k) = ap suc (from-length (suc n) k)
+
+-- the numbers from k on, below n: the first of them, and where there is none
+pub from-first : (k n : ℕ) → k < n → from k (n - k) ≡ k ∷ from (k + 1) (n - (k + 1))
+unfolding from
+from-first k n h =
+    let e : n - k ≡ suc (n - (k + 1)) = omega arith in
+    let s : k + 1 ≡ suc k = omega arith in
+    rw (e, s)
+
+pub from-none : (k n : ℕ) → n ≤ k → from k (n - k) ≡ []
+unfolding from
+from-none k n h = let e : n - k ≡ 0 = omega arith in rw e
+
+-- each place of a list of one element, and each past its end
+pub all-same : {A : Type 0} (n i : ℕ) (r : A) → getD (replicate n r) i r ≡ r
+all-same zero i r = refl
+all-same (suc n) zero r = refl
+all-same (suc n) (suc i) r = all-same n i r
+
+-- two lists of the same length, element by element
+pub both-length : {A B C : Type 0} (f : A → B → C) (xs : List A) (ys : List B) → length xs ≡ length ys → length (both f xs ys) ≡ length xs
+unfolding both
+both-length f [] [] h = refl
+both-length f [] (y ∷ ys) h = refl
+both-length f (x ∷ xs) [] h = absurd (omega arith)
+both-length f (x ∷ xs) (y ∷ ys) h = ap suc (both-length f xs ys (omega arith))
 
 -- ---- what holds of each member
 

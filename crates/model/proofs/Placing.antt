@@ -92,10 +92,10 @@ module _ (c : Circuit) where
   -- ---- the rounds
 
   -- what is placed after n rounds
-  placed : ℕ → List Bool
+  unfoldable pub placed : ℕ → List Bool
   placed n = place-on c n (map (λ k. not (pure k)) (c .kinds))
 
-  place-on-suc : (n : ℕ) (bs : List Bool) → place-on c (suc n) bs ≡ place c (place-on c n bs)
+  pub place-on-suc : (n : ℕ) (bs : List Bool) → place-on c (suc n) bs ≡ place c (place-on c n bs)
   unfolding place-on
   place-on-suc zero bs = refl
   place-on-suc (suc n) bs = place-on-suc n (place c bs)
@@ -113,7 +113,7 @@ module _ (c : Circuit) where
       rw (place-on-suc n (map (λ k. not (pure k)) (c .kinds)))
       (map-from _ 0 (length (c .kinds)) g true h ∙ ap (λ x. not (pure (kind-of-gate c x)) || all (source-placed c (placed n)) (inputs-of c x)) (zero-add g))
 
-  placed-length : (n : ℕ) → length (placed n) ≡ length (c .kinds)
+  pub placed-length : (n : ℕ) → length (placed n) ≡ length (c .kinds)
   unfolding placed place-on place gates
   placed-length zero = length-map (c .kinds) (λ k. not (pure k))
   placed-length (suc n) =

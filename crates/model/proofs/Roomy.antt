@@ -1,22 +1,22 @@
 -- The tests of room in `watch`, `record-write` and `exec-SendEvent` are never met in a run: a circuit that is not refused has few enough gates and inputs, and
 -- what waits, what was written and what was sent is listed once.
-use mathlib.Core.Path.{_≡_, refl, sym, ap, _∙_}
-use mathlib.Core.Bool.{Bool, true, false, _&&_, _||_}
+use mathlib.Core.Path.{_≡_, refl}
+use mathlib.Core.Bool.{Bool, true, false, _||_}
 use mathlib.Core.List.{List, map}
-use Prim.Native.Nat.{ℕ, zero, suc, _+_, _*_, _%_, _≤_, _<_}
+use Prim.Native.Nat.{ℕ, _≤_}
 use native.Mathlib.Omega.{arith}
 use lib.Dec.{leb, eqb}
 use lib.ListN.{length, getD, set, length-map, length-set}
-use borrow.Author.Tests.{leb-true, lt-leb}
-use Rattle.model.specs.Base.{if_then_else_, snoc, among, from}
-use Rattle.model.specs.Kinds.{kind-at}
+use borrow.Author.Tests.{lt-leb}
+use Rattle.model.specs.Base.{if_then_else_, snoc, among}
 use Rattle.model.specs.Circuit.{Circuit, most-gates, most-inputs, circuit, word-at, kind-of-gate, gates}
 use Rattle.model.specs.State.{Wires, Send, State, to-check≔, written≔}
 use Rattle.model.specs.Wires.{watch}
 use Rattle.model.specs.Exec.{var, record-write}
-use Rattle.model.specs.Questions.{within, question-1, question-3}
-use Rattle.model.proofs.Lists.{both-true, count-most, from-length}
-use Rattle.model.proofs.Laid.{Full, filled, inputs-found, gates-found}
+use Rattle.model.specs.Questions.{question-1, question-3}
+use Rattle.model.proofs.Lists.{count-most, from-length}
+use Rattle.model.proofs.Sizes.{sizes}
+use Rattle.model.proofs.Laid.{inputs-found, gates-found}
 use Rattle.model.proofs.Once.{once-room, among-map}
 use Rattle.model.proofs.Sized.{marks, mark-more, Sized-wires, Sized}
 use Rattle.model.proofs.Kept.{gate-in}
@@ -26,25 +26,11 @@ pub record Few (c : Circuit) : Type 0 where
   pub gates : length (c .kinds) ≤ most-gates
   pub inputs : length (c .pins) ≤ most-inputs
 
-within-most : (low high w : ℕ) → within low high w ≡ true → w ≤ high
-unfolding within
-within-most low high w e = leb-true w high (both-true (leb low w) (leb w high) e .1)
-
-third-and-fifth : (a b c d e f g : Bool) → (a && b && c && d && e && f && g) ≡ true → (c ≡ true) × (e ≡ true)
-third-and-fifth a b c d e f g h =
-    let x = both-true (a && b && c && d) e (both-true (a && b && c && d && e) f (both-true (a && b && c && d && e && f) g h .0) .0) in
-    (both-true (a && b) c (both-true (a && b && c) d (x .0) .0) .1, x .1)
-
 pub few : (bytes ws : List ℕ) → question-1 bytes ws ≡ true → question-3 ws (circuit ws) ≡ true → Few (circuit ws)
-unfolding question-1
+unfolding word-at
 few bytes ws q r =
-    let sizes =
-    third-and-fifth (eqb (length bytes % 8) 0) (leb 4 (length ws)) (within 1 64 (word-at ws 0)) (within 0 64 (word-at ws 1)) (within 0 640 (word-at ws 2))
-    (within 0 256 (word-at ws 3)) (eqb (length ws) (4 + 2 * (word-at ws 0 + word-at ws 1 + word-at ws 2 + word-at ws 3))) q in
-    record {
-      gates = omega (arith, gates-found bytes ws q, within-most 1 64 (word-at ws 0) (sizes .0));
-      inputs = omega (arith, inputs-found ws r, within-most 0 640 (word-at ws 2) (sizes .1));
-    }
+    let z = sizes bytes ws q in
+    record { gates = omega (arith, gates-found bytes ws q, z .gates); inputs = omega (arith, inputs-found ws r, z .inputs) }
 
 -- the three functions without their tests of room
 pub record Roomy (c : Circuit) : Type 0 where

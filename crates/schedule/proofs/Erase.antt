@@ -8,7 +8,8 @@ use lib.Dec.{leb, ltb, eqb}
 use Rattle.schedule.specs.Schedule.{Setup, plain, Machine, Raise, Outcome, most-units, most-waiting, most-delivered, list-full, log-full, Took, empty, took, Filed, full, filed, room, LateQ, MainQ, OpenQ, Place, to-late, to-delivered, to-pending, Activation, rank-of, push, push-all, carries, activate-late, activate-main, activate-open, Raising, raising, raise-on, raise-all, Turn, Passed, turning, no-turn, pass-on, pass, next-late, next-late′, late-pass, next-main, next-main′, main-pass, Tick, acts, outcome, tick, go-on, run-on, run}
 use Rattle.schedule.specs.Erasure.{bare, bare-turn, bare-tick}
 
-map-append : {A B : Type 0} (f : A → B) (k l : List A) → map f (k ++ l) ≡ map f k ++ map f l
+-- What is worked out of each element of two lists in a row.
+pub map-append : {A B : Type 0} (f : A → B) (k l : List A) → map f (k ++ l) ≡ map f k ++ map f l
 map-append f [] l = refl
 map-append f (a ∷ k) l = rw (map-append f k l)
 

@@ -1,6 +1,6 @@
 -- `at` meets its contract. Past the end there is 0.
 use borrow.Author.Needs.{needs}
-use Rattle.linking.proofs.Leaves.{at-past}
+use Rattle.links.proofs.Reading.{past-cells}
 use Rattle.linking.proofs.at.Statement.{statement}
 use Rattle.linking.proofs.at.Tie as tie
 
@@ -14,7 +14,7 @@ returns : tie.Need-returns
 returns c = search needs
 
 returns-2 : tie.Need-returns-2
-returns-2 c = at-past (c .before .args .cells .now) _ (c .if1 .left)
+returns-2 c = past-cells (c .before .args .cells .now) _ (c .if1 .left)
 
 pub at-spec : {M : Type 1} → statement M
 at-spec = tie.close (tie.spec mul-result shared-slice-read-result returns returns-2)

@@ -2,7 +2,8 @@
 use native.Mathlib.Omega.{arith}
 use borrow.Author.Needs.{needs}
 use Rattle.words.specs.Words.{words}
-use Rattle.linking.proofs.Whole.{sizes, small, built}
+use Rattle.model.proofs.Sizes.{sizes}
+use Rattle.linking.proofs.Whole.{small, built}
 use Rattle.linking.proofs.link.Statement.{statement}
 use Rattle.linking.proofs.link.Tie as tie
 

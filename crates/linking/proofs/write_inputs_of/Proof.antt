@@ -9,7 +9,7 @@ use lib.ListN.{length, getD}
 use Rattle.words.specs.Words.{words}
 use Rattle.model.specs.Base.{from}
 use Rattle.linking.specs.Building.{written, input-cell}
-use Rattle.linking.proofs.Gates.{ins-most}
+use Rattle.kinds.proofs.Laws.{few-inputs}
 use Rattle.linking.proofs.Loops.{cells-first, cells-next, cells-last}
 use Rattle.linking.proofs.write_inputs_of.Statement.{statement}
 use Rattle.linking.proofs.write_inputs_of.Tie as tie
@@ -27,7 +27,7 @@ inputs-requires : tie.Need-inputs-requires Inv-loop μ-loop
 inputs-requires c κs = search needs
 
 loop-holds : tie.Need-loop-holds Inv-loop μ-loop
-loop-holds c = (search needs, omega (arith, ins-most (c .before .before .before .args .kind)), search needs, cells-first _ _ _ _)
+loop-holds c = (search needs, omega (arith, few-inputs (c .before .before .before .args .kind)), search needs, cells-first _ _ _ _)
 
 add-read : tie.Need-add-read Inv-loop μ-loop
 add-read c = search needs

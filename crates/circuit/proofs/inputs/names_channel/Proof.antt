@@ -1,6 +1,7 @@
+use mathlib.Core.Path.{sym}
 use borrow.Author.Needs.{needs}
 use Rattle.model.specs.Questions.{int-such-that}
-use Rattle.circuit.proofs.Asking.{up-to}
+use Rattle.circuit.proofs.Loops.{within-zero}
 use Rattle.circuit.proofs.inputs.names_channel.Tie as tie
 use Rattle.circuit.proofs.inputs.names_channel.Statement.{statement}
 
@@ -22,7 +23,7 @@ returns c = rw (c .enum-told .given .1)
 
 returns-2 : tie.Need-returns-2
 unfolding int-such-that
-returns-2 c = rw (c .before .v .given .1) (up-to 255 _)
+returns-2 c = rw (c .before .v .given .1) (sym (within-zero 255 _))
 
 returns-3 : tie.Need-returns-3
 unfolding int-such-that

@@ -1,0 +1,186 @@
+// Bounded lists of words, each in a part of an area: by rank, first in first out, and last in first out.
+ghost use mathlib.Core.Path.{_≡_};
+ghost use mathlib.Core.List.{[], _∷_, _++_};
+ghost use Prim.Native.Nat.{_+_, _*_, _<_, _≤_};
+ghost use lib.ListN.{length, getD, drop};
+ghost use Rattle.words.specs.Words.{words, Stored};
+ghost use Rattle.lists.specs.Lists.{downward, stacked, appended, ranked, wrapped, first-slot, queued, filed, if-room, ranked-in, taken, Emptied};
+use words::get;
+use words::put;
+
+// Whether an entry was added to a list. If the list is full, nothing changes.
+pub enum Filed {
+    Full,
+    Done,
+}
+
+// What was taken off a list.
+pub enum Taken {
+    Empty,
+    Entry(u64),
+}
+
+// The word that says how many entries there are.
+const COUNT: usize = 0;
+
+// The word of a ring that says in which slot the first entry stands.
+const FIRST: usize = 1;
+
+// The word of a ring that is slot 0.
+const SLOTS: usize = 2;
+
+// An entry divided by it is its rank: the top 16 bits.
+const RANK: u64 = 0x1_0000_0000_0000;
+
+// How many entries there are.
+pub fn count(list: &[u8], most: usize) -> usize
+    requires { ⌜ 8 ≤ length (now list) ⌝ }
+    ensures { λ r. ⌜ r ≡ length (stacked most (words (now (list .entry)))) ⌝ }
+    ensures { λ r. ⌜ r ≡ length (queued most (words (now (list .entry)))) ⌝ }
+    ensures { λ r. ⌜ r ≤ most ⌝ }
+{
+    let n = get(list, COUNT) as usize;
+    if n < most { n } else { most }
+}
+
+// The list becomes empty, whatever kind it is of. Only its count is stored.
+pub fn clear(list: &mut [u8])
+    requires { ⌜ 8 ≤ length (now list) ⌝ }
+    ensures { λ _. ⌜ Emptied (words (now (list .exit))) ⌝ }
+    ensures { λ _. ⌜ Stored (now (list .entry)) (now (list .exit)) 0 0 ⌝ }
+{
+    put(list, COUNT, 0);
+}
+
+// x on top of a stack.
+pub fn stack_push(list: &mut [u8], most: usize, x: u64) -> Filed
+    requires { ⌜ (length (now list) ≡ (most + 1) * 8) × (most ≤ 1024) ⌝ }
+    ensures { λ r. ⌜ r ≡ filed most (stacked most (words (now (list .entry)))) ⌝ }
+    ensures { λ _. ⌜ stacked most (words (now (list .exit))) ≡ if-room most (stacked most (words (now (list .entry)))) (x ∷ stacked most (words (now (list .entry)))) ⌝ }
+{
+    let height = count(list, most);
+    if most <= height {
+        return Filed::Full;
+    }
+    put(list, height + 1, x);
+    put(list, COUNT, (height + 1) as u64);
+    Filed::Done
+}
+
+// The newest of a stack is taken off.
+pub fn stack_pop(list: &mut [u8], most: usize) -> Taken
+    requires { ⌜ (length (now list) ≡ (most + 1) * 8) × (most ≤ 1024) ⌝ }
+    ensures { λ r. ⌜ r ≡ taken (stacked most (words (now (list .entry)))) ⌝ }
+    ensures { λ _. ⌜ stacked most (words (now (list .exit))) ≡ drop 1 (stacked most (words (now (list .entry)))) ⌝ }
+{
+    let height = count(list, most);
+    if height == 0 {
+        return Taken::Empty;
+    }
+    let x = get(list, height);
+    put(list, COUNT, (height - 1) as u64);
+    Taken::Entry(x)
+}
+
+// Entry i of a stack from its bottom on: 0 is the oldest. 0 where there is no such entry.
+pub fn entry(list: &[u8], most: usize, i: usize) -> u64
+    requires { ⌜ (length (now list) ≡ (most + 1) * 8) × (most ≤ 1024) ⌝ }
+    ensures { λ r. ⌜ r ≡ getD (appended most (words (now (list .entry)))) i 0 ⌝ }
+{
+    if count(list, most) <= i {
+        return 0;
+    }
+    get(list, i + 1)
+}
+
+// x goes below those of the n entries, from the last one down, whose rank is not above its own; these move up by one.
+fn place(list: &mut [u8], n: usize, x: u64)
+    requires { ⌜ ((n + 2) * 8 ≤ length (now list)) × (n < 1024) ⌝ }
+    ensures { λ _. ⌜ downward (n + 1) (words (now (list .exit))) ≡ ranked-in x (downward n (words (now (list .entry)))) ⌝ }
+{
+    let mut i = n;
+    while 0 < i {
+        let y = get(list, i);
+        if x / RANK < y / RANK {
+            put(list, i + 1, x);
+            return;
+        }
+        put(list, i + 1, y);
+        i -= 1;
+    }
+    put(list, 1, x);
+}
+
+// x joins a list by rank, behind all whose rank is not above its own.
+pub fn file(list: &mut [u8], most: usize, x: u64) -> Filed
+    requires { ⌜ (length (now list) ≡ (most + 1) * 8) × (most ≤ 1024) ⌝ }
+    ensures { λ r. ⌜ r ≡ filed most (ranked most (words (now (list .entry)))) ⌝ }
+    ensures { λ _. ⌜ ranked most (words (now (list .exit))) ≡ if-room most (ranked most (words (now (list .entry)))) (ranked-in x (ranked most (words (now (list .entry))))) ⌝ }
+{
+    let n = count(list, most);
+    if most <= n {
+        return Filed::Full;
+    }
+    place(list, n, x);
+    put(list, COUNT, (n + 1) as u64);
+    Filed::Done
+}
+
+// The next of a list by rank is taken off. Of those that `file` has put there it is the oldest of the lowest rank.
+pub fn next(list: &mut [u8], most: usize) -> Taken
+    requires { ⌜ (length (now list) ≡ (most + 1) * 8) × (most ≤ 1024) ⌝ }
+    ensures { λ r. ⌜ r ≡ taken (ranked most (words (now (list .entry)))) ⌝ }
+    ensures { λ _. ⌜ ranked most (words (now (list .exit))) ≡ drop 1 (ranked most (words (now (list .entry)))) ⌝ }
+{
+    stack_pop(list, most)
+}
+
+// Slot i of a ring, where past the last slot the first one follows.
+fn wrapped(most: usize, i: usize) -> usize
+    requires { ⌜ i < most + most ⌝ }
+    ensures { λ r. ⌜ (r ≡ wrapped most i) × (r < most) ⌝ }
+{
+    if i < most { i } else { i - most }
+}
+
+// The slot of a ring's first entry.
+fn first_slot(list: &[u8], most: usize) -> usize
+    requires { ⌜ (16 ≤ length (now list)) × (0 < most) ⌝ }
+    ensures { λ r. ⌜ (r ≡ first-slot most (words (now (list .entry)))) × (r < most) ⌝ }
+{
+    let i = get(list, FIRST) as usize;
+    if i < most { i } else { 0 }
+}
+
+// x goes behind the others of a ring.
+pub fn enqueue(list: &mut [u8], most: usize, x: u64) -> Filed
+    requires { ⌜ (length (now list) ≡ (most + 2) * 8) × (most ≤ 1024) ⌝ }
+    ensures { λ r. ⌜ r ≡ filed most (queued most (words (now (list .entry)))) ⌝ }
+    ensures { λ _. ⌜ queued most (words (now (list .exit))) ≡ if-room most (queued most (words (now (list .entry)))) (queued most (words (now (list .entry))) ++ x ∷ []) ⌝ }
+{
+    let held = count(list, most);
+    if most <= held {
+        return Filed::Full;
+    }
+    let i = wrapped(most, first_slot(list, most) + held);
+    put(list, SLOTS + i, x);
+    put(list, COUNT, (held + 1) as u64);
+    Filed::Done
+}
+
+// The oldest of a ring is taken off.
+pub fn dequeue(list: &mut [u8], most: usize) -> Taken
+    requires { ⌜ (length (now list) ≡ (most + 2) * 8) × (most ≤ 1024) ⌝ }
+    ensures { λ r. ⌜ r ≡ taken (queued most (words (now (list .entry)))) ⌝ }
+    ensures { λ _. ⌜ queued most (words (now (list .exit))) ≡ drop 1 (queued most (words (now (list .entry)))) ⌝ }
+{
+    let held = count(list, most);
+    if held == 0 {
+        return Taken::Empty;
+    }
+    let i = first_slot(list, most);
+    let x = get(list, SLOTS + i);
+    put(list, FIRST, wrapped(most, i + 1) as u64);
+    put(list, COUNT, (held - 1) as u64);
+    Taken::Entry(x)
+}

@@ -1,0 +1,11 @@
+pub mod Lists
+pub mod Area
+pub mod Leaves
+pub mod Steps
+pub mod Checks
+pub mod Reading
+pub mod Marks
+pub mod Memory
+pub mod Pulses
+pub mod Gates
+pub mod Starting

@@ -1,0 +1,4 @@
+pub mod View
+pub mod Marking
+pub mod Checks
+pub mod Start

@@ -1,0 +1,42 @@
+-- How the wires are made at the start of a run, step by step.
+use Prim.Native.Nat.{ℕ}
+use mathlib.Core.Bool.{false}
+use mathlib.Core.List.{[]}
+use mathlib.Core.Option.{none, some}
+use lib.Dec.{eqb}
+use lib.ListN.{length, set, replicate}
+use Rattle.model.specs.declared.Value.the-variants.{Nothing}
+use Rattle.model.specs.Base.{if_then_else_}
+use Rattle.model.specs.Kinds.{pure}
+use Rattle.model.specs.Circuit.{Circuit, kind-of-gate, output, setting, watching}
+use Rattle.model.specs.State.{Wires, last≔}
+use Rattle.model.specs.Wires.{show, soil, look}
+
+-- nothing shown, stale, waiting or remembered
+unfoldable pub blank : Circuit → Wires
+blank c =
+    record {
+      tick = 0;
+      dt = 0;
+      uptime = 0;
+      outs = replicate (length (c .outputs)) Nothing;
+      dirty = replicate (length (c .kinds)) false;
+      to-check = [];
+      queued = replicate (length (c .pins)) false;
+      last = replicate (length (c .pins)) none;
+      pulses = replicate (length (c .outputs)) 0;
+      written = [];
+      unions-passed = replicate (length (c .kinds)) false;
+    }
+
+module _ (c : Circuit) where
+  -- a pure gate is stale, a Var shows its initial
+  unfoldable pub prepared : Wires → ℕ → Wires
+  prepared w g =
+      if pure (kind-of-gate c g) then soil w g
+      else if eqb (kind-of-gate c g) 5 then show w (output c g 0) (setting c g 0)
+      else w
+
+  -- the last value of a watched input is what it reads
+  unfoldable pub noted : Wires → ℕ → Wires
+  noted w i = if watching c i then last≔ w (set (w .last) i (some (look c w i))) else w
