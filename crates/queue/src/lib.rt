@@ -1,4 +1,4 @@
-// The records of one Queue, in a ring of 256 slots. They lie in a part of the area `delays`, of 34,832 bytes; of what follows it in a longer slice nothing is said.
+// The records of one Queue, in a ring of 256 slots. They lie in a part of the area `delays`, of 34,832 bytes.
 ghost use mathlib.Core.Path.{_≡_};
 ghost use mathlib.Core.Bool.{false};
 ghost use mathlib.Core.List.{map};
@@ -185,7 +185,7 @@ fn take_front(queue: &mut [u8], seconds: bool) -> Released
 
 // A new record, behind the others. With 256 records it is dropped.
 pub fn push(queue: &mut [u8], r: Record)
-    requires { ⌜ 34832 ≤ length (now queue) ⌝ }
+    requires { ⌜ length (now queue) ≡ 34832 ⌝ }
     ensures { λ _. ⌜ records (counts-seconds (counted (r .left))) (words (now (queue .exit))) ≡ queue-record (records≔ idle (records (counts-seconds (counted (r .left))) (words (now (queue .entry))))) (queued r .row) (queued r .left) .records ⌝ }
 {
     let count = count_of(queue);
@@ -198,7 +198,7 @@ pub fn push(queue: &mut [u8], r: Record)
 
 // A tick of the length dt: all records count down, and the front one alone is handed out, if it is due.
 pub fn advance(queue: &mut [u8], seconds: bool, dt: u32) -> Released
-    requires { ⌜ 34832 ≤ length (now queue) ⌝ }
+    requires { ⌜ length (now queue) ≡ 34832 ⌝ }
     ensures { λ r. ⌜ released r (records seconds (words (now (queue .exit)))) ≡ advance-records dt (records≔ idle (records seconds (words (now (queue .entry))))) ⌝ }
     ensures { λ r. ⌜ queued (r .front) ≡ front-if-due (map (ticked dt) (records seconds (words (now (queue .entry))))) ⌝ }
 {

@@ -19,10 +19,11 @@ pub record Area : Type 0 where
 abbrev pub area-with : Area → Wires → Area
 area-with a w = record { values = with-wires (a .values) w; stack = a .stack }
 
+-- of the area's bytes
 unfoldable pub area : Circuit → List ℕ → Area
 area c bs = record { values = values c bs; stack = cut (words bs) .stack }
 
--- marking under way with n outputs on the stack, and what lies behind the tables
+-- marking under way, and what lies behind the tables
 pub record Marked : Type 0 where
   pub marking : Marking
   pub rest : List ℕ
@@ -31,6 +32,7 @@ pub record Marked : Type 0 where
 abbrev pub with-marking : Marked → Marking → Marked
 with-marking m k = record { marking = k; rest = m .rest }
 
+-- of the area's bytes, where n outputs are on the stack
 unfoldable pub marking : Circuit → List ℕ → ℕ → Marked
 marking c bs n =
     record { marking = record { wires = area c bs .values .wires; work = stack n (area c bs .stack) }; rest = area c bs .values .rest }

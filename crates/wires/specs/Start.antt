@@ -1,4 +1,4 @@
--- How the wires are made at the start of a run, step by step.
+-- The steps by which the code makes the wires at the start of a run; together they come to the definition's `wires-at-start`.
 use Prim.Native.Nat.{ℕ}
 use mathlib.Core.Bool.{false}
 use mathlib.Core.List.{[]}
