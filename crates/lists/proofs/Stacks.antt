@@ -1,17 +1,17 @@
--- What the proofs of the functions over stacks and lists by rank cite.
+-- What the proofs of the functions over stacks cite.
 use Prim.Native.Nat.{ℕ, zero, suc, _+_, _-_, _≤_, _<_, min}
 use mathlib.Core.Path.{_≡_, refl, sym, ap, _∙_}
-use mathlib.Core.Bool.{Bool, true, false, cond}
+use mathlib.Core.Bool.{Bool, true, false}
 use mathlib.Core.List.{List, [], _∷_, _++_, reverse, reverse-append}
 use native.Mathlib.Omega.{arith}
 use native.Mathlib.Numerals.{add-one}
-use borrow.Author.Tests.{le-leb, lt-leb, ltb-true, ltb-false}
-use lib.Dec.{leb, ltb}
+use borrow.Author.Tests.{ltb-true, ltb-false}
+use lib.Dec.{ltb}
 use lib.ListN.{length, getD, set, drop, length-set, length-reverse, List·getD-append, List·getD-eq-default}
 use lib.Seq.{getD-set-same, getD-set-other, getD-at}
 use Rattle.lists.specs.declared.Filed.the-variants.{Done}
 use Rattle.lists.specs.declared.Taken.the-variants.{Entry}
-use Rattle.lists.specs.Lists.{held, downward, stacked, appended, filed, if-room, rank-of, ranked-in, taken}
+use Rattle.lists.specs.Lists.{held, downward, stacked, appended, filed, if-room, taken}
 use Rattle.lists.proofs.Answers.{with-room}
 
 -- ---- the view
@@ -111,97 +111,6 @@ entry-is most n i x w e h ex = rw (stacked-is most n w e, downward-entry n i w h
 -- for callers: what is pushed joins behind the others
 pub appended-push : (x : ℕ) (l : List ℕ) → reverse (x ∷ l) ≡ reverse l ++ x ∷ []
 appended-push x l = reverse-append (x ∷ []) l
-
--- ---- by rank
-
--- What the loop of `place` leaves: words i down to 1 move up by one as long as their rank is not above x's, and x comes below them.
-unfoldable pub placed : ℕ → ℕ → List ℕ → List ℕ
-placed x zero w = set w 1 x
-placed x (suc i) w =
-    cond (leb (rank-of (getD w (suc i) 0)) (rank-of x)) (placed x i (set w (suc (suc i)) (getD w (suc i) 0))) (set w (suc (suc i)) x)
-
--- what holds on both sides of a choice
-cond-both : {A : Type 0} (P : A → Type 0) (b : Bool) (s t : A) → P s → P t → P (cond b s t)
-cond-both P true s t p q = p
-cond-both P false s t p q = q
-
--- no word more, no word less
-placed-length : (x i : ℕ) (w : List ℕ) → length (placed x i w) ≡ length w
-unfolding placed
-placed-length x zero w = length-set w 1 x
-placed-length x (suc i) w =
-    cond-both (λ (l : List ℕ). length l ≡ length w) (leb (rank-of (getD w (suc i) 0)) (rank-of x)) _ _
-    (placed-length x i _ ∙ length-set w (suc (suc i)) _) (length-set w (suc (suc i)) x)
-
--- the words above stay
-placed-above : (x i j : ℕ) (w : List ℕ) → suc i < j → getD (placed x i w) j 0 ≡ getD w j 0
-unfolding placed
-placed-above x zero j w h = getD-set-other w 1 j x 0 (omega arith)
-placed-above x (suc i) j w h =
-    cond-both (λ (l : List ℕ). getD l j 0 ≡ getD w j 0) (leb (rank-of (getD w (suc i) 0)) (rank-of x)) _ _
-    (placed-above x i j _ (omega arith) ∙ getD-set-other w (suc (suc i)) j _ 0 (omega arith))
-    (getD-set-other w (suc (suc i)) j x 0 (omega arith))
-
--- one turn, whatever the test says
-placed-turn : (x n : ℕ) (w : List ℕ) → suc (suc n) < length w
-    → ((w′ : List ℕ) → suc n < length w′ → downward (suc n) (placed x n w′) ≡ ranked-in x (downward n w′))
-    → (b : Bool)
-    → downward (suc (suc n)) (cond b (placed x n (set w (suc (suc n)) (getD w (suc n) 0))) (set w (suc (suc n)) x))
-    ≡ cond b (getD w (suc n) 0 ∷ ranked-in x (downward n w)) (x ∷ downward (suc n) w)
-unfolding downward
-placed-turn x n w h on true =
-    let w′ : List ℕ = set w (suc (suc n)) (getD w (suc n) 0) in
-    let l : suc n < length w′ = rw length-set (omega arith) in
-    let a : getD (placed x n w′) (suc (suc n)) 0 ≡ getD w (suc n) 0 = placed-above x n (suc (suc n)) w′ (omega arith) ∙ getD-set-same w (suc (suc n)) (getD w (suc n) 0) 0 h in
-    let b : downward (suc n) (placed x n w′) ≡ ranked-in x (downward n w) = on w′ l ∙ ap (ranked-in x) (downward-other n (suc (suc n)) (getD w (suc n) 0) w (omega arith)) in
-    λ j. a j ∷ b j
-placed-turn x n w h on false =
-    let a : getD (set w (suc (suc n)) x) (suc (suc n)) 0 ≡ x = getD-set-same w (suc (suc n)) x 0 h in
-    let b : downward (suc n) (set w (suc (suc n)) x) ≡ downward (suc n) w = downward-other (suc n) (suc (suc n)) x w (omega arith) in
-    λ j. a j ∷ b j
-
--- x stands where its rank says
-placed-ranked : (x n : ℕ) (w : List ℕ) → suc n < length w → downward (suc n) (placed x n w) ≡ ranked-in x (downward n w)
-unfolding placed downward ranked-in
-placed-ranked x zero w h = rw (getD-set-same w 1 x 0 h)
-placed-ranked x (suc n) w h = placed-turn x n w h (placed-ranked x n) (leb (rank-of (getD w (suc n) 0)) (rank-of x))
-
--- what the loop leaves is what `place` ensures
-pub place-done : (x n : ℕ) (w w′ : List ℕ) → n + 2 ≤ length w → w′ ≡ placed x n w → downward (n + 1) w′ ≡ ranked-in x (downward n w)
-place-done x n w w′ l e = rw (add-one, e) (placed-ranked x n w (omega arith))
-
--- an entry moves up
-placed-keep : (x i : ℕ) (w : List ℕ) → 0 < i → rank-of (getD w i 0) ≤ rank-of x → placed x i w ≡ placed x (i - 1) (set w (i + 1) (getD w i 0))
-unfolding placed
-placed-keep x zero w h k = absurd (omega arith)
-placed-keep x (suc i) w h k =
-    let e : suc i - 1 ≡ i = omega arith in
-    rw (e, add-one, le-leb (rank-of (getD w (suc i) 0)) (rank-of x) k)
-
--- x has found its place
-placed-stop : (x i : ℕ) (w : List ℕ) → 0 < i → rank-of x < rank-of (getD w i 0) → placed x i w ≡ set w (i + 1) x
-unfolding placed
-placed-stop x zero w h k = absurd (omega arith)
-placed-stop x (suc i) w h k = rw (add-one, lt-leb (rank-of (getD w (suc i) 0)) (rank-of x) k)
-
--- the turns of the loop: r is what all turns come to
-module _ (x i y : ℕ) (w w′ r : List ℕ) (h : 0 < i) (e : y ≡ getD w i 0) (inv : placed x i w ≡ r) where
-  pub place-stop : rank-of x < rank-of y → w′ ≡ set w (i + 1) x → w′ ≡ r
-  place-stop k s = s ∙ sym (placed-stop x i w h (rw e at k)) ∙ inv
-
-  pub place-keep : rank-of y ≤ rank-of x → w′ ≡ set w (i + 1) y → placed x (i - 1) w′ ≡ r
-  place-keep k s = rw (s, e) (sym (placed-keep x i w h (rw e at k)) ∙ inv)
-
--- all entries have moved up
-pub place-last : (x i : ℕ) (w w′ r : List ℕ) → i ≤ 0 → placed x i w ≡ r → w′ ≡ set w 1 x → w′ ≡ r
-unfolding placed
-place-last x zero w w′ r h inv s = s ∙ inv
-place-last x (suc i) w w′ r h inv s = absurd (omega arith)
-
--- `file` with room
-pub ranked-done : (most n x : ℕ) (w w1 w2 : List ℕ) → 0 < length w1 → n ≡ length (stacked most w) → n < most → downward (n + 1) w1 ≡ ranked-in x (downward n w) → w2 ≡ set w1 0 (n + 1)
-    → (Done ≡ filed most (stacked most w)) × (stacked most w2 ≡ if-room most (stacked most w) (ranked-in x (stacked most w)))
-ranked-done most n x w w1 w2 l e h e1 e2 = grown most n (ranked-in x (stacked most w)) w w1 w2 l e h (rw (stacked-is most n w e) e1) e2
 
 -- ---- none left
 

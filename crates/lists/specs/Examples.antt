@@ -1,8 +1,7 @@
 -- Examples, by computation.
-use Prim.Native.Nat.{ℕ, _+_, _*_, _^_}
 use mathlib.Core.Path.{_≡_, refl}
 use mathlib.Core.List.{List, [], _∷_}
-use Rattle.lists.specs.Lists.{downward, stacked, appended, ring, queued, ranked-in}
+use Rattle.lists.specs.Lists.{downward, stacked, appended, ring, queued}
 
 -- two entries: the one that stands last is the first of a stack
 last-first : stacked 3 (2 ∷ 7 ∷ 8 ∷ 9 ∷ []) ≡ 8 ∷ 7 ∷ []
@@ -28,8 +27,3 @@ goes-round = refl
 first-beyond : queued 3 (2 ∷ 3 ∷ 7 ∷ 8 ∷ 9 ∷ []) ≡ 7 ∷ 8 ∷ []
 unfolding queued ring
 first-beyond = refl
-
--- behind the entry of its own rank, before those of a higher one
-by-rank : ranked-in (2 ^ 48 + 1) (5 ∷ (2 ^ 48 + 9) ∷ (2 * 2 ^ 48) ∷ []) ≡ 5 ∷ (2 ^ 48 + 9) ∷ (2 ^ 48 + 1) ∷ (2 * 2 ^ 48) ∷ []
-unfolding ranked-in
-by-rank = refl

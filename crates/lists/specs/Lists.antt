@@ -1,10 +1,10 @@
 -- Bounded lists of words, as a part of an area holds them. Word 0 says how many entries there are; in a ring word 1 says in which slot the first one stands.
 -- The entries follow, one word each.
-use Prim.Native.Nat.{ℕ, zero, suc, _+_, _-_, _/_, _^_, min}
+use Prim.Native.Nat.{ℕ, zero, suc, _+_, _-_, min}
 use mathlib.Core.Path.{_≡_}
 use mathlib.Core.Bool.{cond}
 use mathlib.Core.List.{List, [], _∷_, reverse}
-use lib.Dec.{ltb, leb}
+use lib.Dec.{ltb}
 use lib.ListN.{length, getD}
 use Rattle.lists.specs.declared.Filed.{Filed}
 use Rattle.lists.specs.declared.Filed.the-variants.{Full, Done}
@@ -60,15 +60,6 @@ filed most l = cond (ltb (length l) most) Done Full
 -- m, the list l with the entry in it, if l had room for it; else l
 unfoldable pub if-room : ℕ → List ℕ → List ℕ → List ℕ
 if-room most l m = cond (ltb (length l) most) m l
-
--- an entry's rank: its top 16 bits
-abbrev pub rank-of : ℕ → ℕ
-rank-of x = x / 2 ^ 48
-
--- by rank: x goes behind all whose rank is not above its own
-unfoldable pub ranked-in : ℕ → List ℕ → List ℕ
-ranked-in x [] = x ∷ []
-ranked-in x (y ∷ l) = cond (leb (rank-of y) (rank-of x)) (y ∷ ranked-in x l) (x ∷ y ∷ l)
 
 -- ---- one entry less: the first one is taken off, and `drop 1` is left
 

@@ -1,10 +1,10 @@
-// Bounded lists of words, each in a part of an area: by rank, first in first out, and last in first out.
+// Bounded lists of words, each in a part of an area: first in first out, and last in first out.
 ghost use mathlib.Core.Path.{_≡_};
 ghost use mathlib.Core.List.{[], _∷_, _++_};
 ghost use Prim.Native.Nat.{_+_, _*_, _<_, _≤_};
 ghost use lib.ListN.{length, getD, drop};
 ghost use Rattle.words.specs.Words.{words, Stored};
-ghost use Rattle.lists.specs.Lists.{downward, stacked, appended, ranked, wrapped, first-slot, queued, filed, if-room, ranked-in, taken, Emptied};
+ghost use Rattle.lists.specs.Lists.{stacked, appended, wrapped, first-slot, queued, filed, if-room, taken, Emptied};
 use words::get;
 use words::put;
 
@@ -28,9 +28,6 @@ const FIRST: usize = 1;
 
 // The word of a ring that is slot 0.
 const SLOTS: usize = 2;
-
-// An entry divided by it is its rank: the top 16 bits.
-const RANK: u64 = 0x1_0000_0000_0000;
 
 // How many entries there are.
 pub fn count(list: &[u8], most: usize) -> usize
@@ -91,48 +88,6 @@ pub fn entry(list: &[u8], most: usize, i: usize) -> u64
         return 0;
     }
     get(list, i + 1)
-}
-
-// x goes below those of the n entries, from the last one down, whose rank is not above its own; these move up by one.
-fn place(list: &mut [u8], n: usize, x: u64)
-    requires { ⌜ ((n + 2) * 8 ≤ length (now list)) × (n < 1024) ⌝ }
-    ensures { λ _. ⌜ downward (n + 1) (words (now (list .exit))) ≡ ranked-in x (downward n (words (now (list .entry)))) ⌝ }
-{
-    let mut i = n;
-    while 0 < i {
-        let y = get(list, i);
-        if x / RANK < y / RANK {
-            put(list, i + 1, x);
-            return;
-        }
-        put(list, i + 1, y);
-        i -= 1;
-    }
-    put(list, 1, x);
-}
-
-// x joins a list by rank, behind all whose rank is not above its own.
-pub fn file(list: &mut [u8], most: usize, x: u64) -> Filed
-    requires { ⌜ (length (now list) ≡ (most + 1) * 8) × (most ≤ 1024) ⌝ }
-    ensures { λ r. ⌜ r ≡ filed most (ranked most (words (now (list .entry)))) ⌝ }
-    ensures { λ _. ⌜ ranked most (words (now (list .exit))) ≡ if-room most (ranked most (words (now (list .entry)))) (ranked-in x (ranked most (words (now (list .entry))))) ⌝ }
-{
-    let n = count(list, most);
-    if most <= n {
-        return Filed::Full;
-    }
-    place(list, n, x);
-    put(list, COUNT, (n + 1) as u64);
-    Filed::Done
-}
-
-// The next of a list by rank is taken off. Of those that `file` has put there it is the oldest of the lowest rank.
-pub fn next(list: &mut [u8], most: usize) -> Taken
-    requires { ⌜ (length (now list) ≡ (most + 1) * 8) × (most ≤ 1024) ⌝ }
-    ensures { λ r. ⌜ r ≡ taken (ranked most (words (now (list .entry)))) ⌝ }
-    ensures { λ _. ⌜ ranked most (words (now (list .exit))) ≡ drop 1 (ranked most (words (now (list .entry)))) ⌝ }
-{
-    stack_pop(list, most)
 }
 
 // Slot i of a ring, where past the last slot the first one follows.

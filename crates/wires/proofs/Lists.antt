@@ -1,12 +1,12 @@
 -- Laws of parallel lists and of loops over numbers in a row.
-use Prim.Native.Nat.{ℕ, zero, suc, _+_, _-_, _*_, _^_, _≤_, _<_}
+use Prim.Native.Nat.{ℕ, zero, suc, _+_, _-_, _*_, _/_, _^_, _≤_, _<_}
 use mathlib.Core.Path.{_≡_, refl, sym, ap, _∙_}
 use mathlib.Core.Bool.{Bool, true, false}
 use mathlib.Core.List.{List, [], _∷_, map}
-use native.Mathlib.Nat.{add-comm, mul-zero, mul-suc}
+use native.Mathlib.Nat.{add-comm, mul-zero, mul-suc, pow-suc}
 use native.Mathlib.Omega.{arith}
 use lib.Bits.{bitAnd}
-use lib.Count.{trailingZeros}
+use lib.Count.{ones, ones-step, trailingZeros}
 use lib.ListN.{length, getD, set}
 use Rattle.words.specs.Tables.{digits}
 use Rattle.words.proofs.Tables.{places, next-place, last-place}
@@ -145,3 +145,23 @@ module _ {B : Type 0} (f : B → ℕ → B) (b x : B) (d : ℕ) where
   pub marks-last : d ≤ 0 → each f b (places 0 (digits 64 d)) ≡ x → b ≡ x
   unfolding each
   marks-last h i = sym (ap (each f b) (last-place d (omega arith))) ∙ i
+
+-- ---- how many marks a word has
+
+-- some: it is not 0
+pub ones-some : (d : ℕ) → 0 < ones d → 0 < d
+unfolding ones
+ones-some zero h = h
+ones-some (suc d) h = omega arith
+
+no-ones : (k d : ℕ) → d < 2 ^ k → ones d ≤ 0 → d ≤ 0
+no-ones zero d h l = omega arith
+no-ones (suc k) d h l =
+    let e = ones-step d in
+    let p : 2 ^ suc k ≡ 2 ^ k * 2 = pow-suc 2 k in
+    let q : d / 2 ≤ 0 = no-ones k (d / 2) (omega arith) (omega arith) in
+    omega arith
+
+-- none: it is 0
+pub ones-none : (d : ℕ) → d < 2 ^ 64 → ones d ≤ 0 → d ≤ 0
+ones-none d h l = no-ones 64 d h l

@@ -345,13 +345,13 @@ pub fn ready(links: &[usize], values: &mut [u8], i: usize)
     refresh_behind(links, values, gates(links), i);
 }
 
-// Every stale gate is refreshed, the lowest first.
+// Every stale gate is refreshed, the lowest first, until none remains.
 pub fn refresh_all(links: &[usize], values: &mut [u8])
     requires { ⌜ (length (now links) ≡ 4816) × (65536 ≤ length (now values)) ⌝ }
     ensures { λ _. ⌜ view (net (now (links .entry))) (now (values .exit)) ≡ with-wires (view (net (now (links .entry))) (now (values .entry))) (refresh-all (net (now (links .entry))) (view (net (now (links .entry))) (now (values .entry)) .wires)) ⌝ }
 {
     let mut d = get(values, DIRTY);
-    while d > 0 {
+    while u64::count_ones(d) > 0 {
         refresh(links, values, u64::trailing_zeros(d) as usize);
         d = d & (d - 1);
     }

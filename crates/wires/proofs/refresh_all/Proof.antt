@@ -10,7 +10,7 @@ use Rattle.model.specs.Base.{each}
 use Rattle.model.specs.Wires.{refresh as refresh-gate, refresh-all as refresh-all-gates}
 use Rattle.links.specs.Links.{net}
 use Rattle.wires.specs.View.{with-wires, values as view}
-use Rattle.wires.proofs.Lists.{marks-next, marks-last}
+use Rattle.wires.proofs.Lists.{marks-next, marks-last, ones-some, ones-none}
 use Rattle.wires.proofs.Steps.{step}
 use Rattle.wires.proofs.Reading.{refresh-first}
 use borrow.Author.Needs.{needs}
@@ -36,19 +36,19 @@ refresh-requires : tie.Need-refresh-requires Inv-loop μ-loop
 refresh-requires c κs = search needs
 
 sub-d : tie.Need-sub-d Inv-loop μ-loop
-sub-d c = search needs
+sub-d c = let p = ones-some _ (c .before .before .before .before .loop-test .taken) in omega arith
 
 loop-less : tie.Need-loop-less Inv-loop μ-loop
-loop-less c = omega (arith, and-le-r (c .before .before .before .before .before .loop .d) (c .before .before .before .before .before .loop .d - 1))
+loop-less c = omega (arith, and-le-r (c .before .before .before .before .before .loop .d) (c .before .before .before .before .before .loop .d - 1), ones-some _ (c .before .before .before .before .loop-test .taken))
 
 loop-again : tie.Need-loop-again Inv-loop μ-loop
-loop-again c = (search needs, omega (arith, and-le-l (c .before .before .before .before .before .loop .d) (c .before .before .before .before .before .loop .d - 1)), marks-next _ _ _ _ _ (c .before .before .before .before .before .loop .inv .1) (c .before .before .before .before .loop-test .taken) (c .before .before .before .before .before .loop .inv .2) (c .before .before .refresh .ensures))
+loop-again c = (search needs, omega (arith, and-le-l (c .before .before .before .before .before .loop .d) (c .before .before .before .before .before .loop .d - 1)), marks-next _ _ _ _ _ (c .before .before .before .before .before .loop .inv .1) (ones-some _ (c .before .before .before .before .loop-test .taken)) (c .before .before .before .before .before .loop .inv .2) (c .before .before .refresh .ensures))
 
 same-length : tie.Need-same-length Inv-loop μ-loop
 same-length c = search needs
 
 returns : tie.Need-returns Inv-loop μ-loop
-returns c = marks-last _ _ _ _ (c .loop-test .left) (c .before .loop .inv .2)
+returns c = marks-last _ _ _ (c .before .loop .d) (ones-none _ (c .before .loop .inv .1) (c .loop-test .left)) (c .before .loop .inv .2)
 
 pub refresh-all-spec : {M : Type 1} → statement M
 refresh-all-spec =

@@ -1,0 +1,1 @@
+// What the three lent areas hold together: specs/Areas.antt.

@@ -1,0 +1,68 @@
+use Prim.Native.Nat.{_-_, _≤_}
+use mathlib.Core.Path.{_≡_}
+use lib.ListN.{length}
+use borrow.Author.Needs.{needs}
+use Rattle.units.specs.View.{begun-of}
+use Rattle.log.specs.Rows.{begun-in}
+use Rattle.log.proofs.Filling.{Filling, filling-first}
+use Rattle.log.proofs.Turns.{units-next, units-last}
+use Rattle.log.proofs.write_forms.Statement.{statement}
+use Rattle.log.proofs.write_forms.Tie as tie
+
+abbrev Inv-loop : tie.InvT-loop
+Inv-loop units log₀ p n i₀ log i = (length log ≡ length log₀) × (i ≤ n) × Filling (λ b. b .form) (begun-in units) log₀ log p i
+
+abbrev μ-loop : tie.MeasureT-loop
+μ-loop units log₀ p n i₀ log i = n - i
+
+loop-holds : tie.Need-loop-holds Inv-loop μ-loop
+loop-holds c = (search needs, search needs, filling-first (λ b. b .form) _ _ _)
+
+add-put : tie.Need-add-put Inv-loop μ-loop
+add-put c = search needs
+
+add-get : tie.Need-add-get Inv-loop μ-loop
+add-get c = search needs
+
+get-requires : tie.Need-get-requires Inv-loop μ-loop
+get-requires c κs = search needs
+
+form-of-requires : tie.Need-form-of-requires Inv-loop μ-loop
+form-of-requires c κs = search needs
+
+put-requires : tie.Need-put-requires Inv-loop μ-loop
+put-requires c κs = search needs
+
+add-i : tie.Need-add-i Inv-loop μ-loop
+add-i c = search needs
+
+loop-less : tie.Need-loop-less Inv-loop μ-loop
+loop-less c = search needs
+
+loop-again : tie.Need-loop-again Inv-loop μ-loop
+unfolding begun-of
+loop-again c = (search needs, search needs, units-next (λ b. b .form) _ _ (c .before .before .before .before .before .before .before .before .before .before .pre .1) (c .before .before .before .before .before .before .loop-test .taken) (c .before .before .before .before .get .ensures) (c .before .before .before .form-of .ensures .0) (c .before .before .put .ensures) (c .before .before .before .before .before .before .before .loop .inv .2))
+
+same-length : tie.Need-same-length Inv-loop μ-loop
+same-length c = search needs
+
+returns : tie.Need-returns Inv-loop μ-loop
+returns c = units-last (λ b. b .form) _ (c .before .before .before .before .pre .1) (c .loop-test .left) (c .before .loop .inv .2)
+
+pub write-forms-spec : {M : Type 1} → statement M
+write-forms-spec =
+    tie.close
+    (tie.spec
+    Inv-loop
+    μ-loop
+    loop-holds
+    add-put
+    add-get
+    get-requires
+    form-of-requires
+    put-requires
+    add-i
+    loop-less
+    loop-again
+    same-length
+    returns)

@@ -1,0 +1,202 @@
+// The record that a tick writes to the log.
+ghost use mathlib.Core.Path.{_≡_};
+ghost use mathlib.Core.List.{map};
+ghost use Prim.Native.Nat.{_+_, _*_, _<_, _≤_};
+ghost use lib.Dec.{eqb};
+ghost use lib.ListN.{length, getD};
+ghost use Rattle.words.specs.Words.{words};
+ghost use Rattle.model.specs.Base.{if_then_else_};
+ghost use Rattle.model.specs.Value.{kind-of, content-of, value-of};
+ghost use Rattle.links.specs.Links.{net};
+// The definitions `values` and `units` are named for what they hold, beside the slices of their names.
+ghost use Rattle.wires.specs.View.{values as values-view};
+ghost use Rattle.units.specs.View.{units as units-view};
+ghost use Rattle.log.specs.Log.{record-of, fits, written-as, Writes};
+ghost use Rattle.log.specs.Rows.{Filled, head-row, begun-in, units-row, outs-in, outputs-row};
+use links::outputs;
+use units::begun::begun;
+use units::entries::form_of;
+use units::entries::gate_of;
+use words::get;
+use words::put;
+
+// The head of a record.
+pub struct Head {
+    pub tick: u64,
+    pub steps: u64,
+    pub late: u64,
+    pub main: u64,
+    pub carried: u64,
+    pub stop: u64,
+}
+
+// How many words a record has that was written, or that it does not fit: then no part of it is written.
+pub enum Written {
+    Fits(usize),
+    Full,
+}
+
+// How many words a head has.
+const HEAD: usize = 6;
+
+// Where the entries of the units begun begin in the area `units`, in words.
+const BEGUN: usize = 1353;
+
+// Where the kinds and the contents of the outputs begin in the area `values`, in words.
+const OUT_KINDS: usize = 8;
+
+const OUT_CONTENTS: usize = 584;
+
+// The kind of a Bool; every word above it is read as that kind, too.
+const BOOL: u64 = 3;
+
+// The head becomes the words of the log from word p on.
+fn write_head(log: &mut [u8], p: usize, head: Head)
+    requires { ⌜ (p + 6) * 8 ≤ length (now log) ⌝ }
+    ensures { λ _. ⌜ Filled (now (log .entry)) (now (log .exit)) p (head-row head) ⌝ }
+{
+    put(log, p, head.tick);
+    put(log, p + 1, head.steps);
+    put(log, p + 2, head.late);
+    put(log, p + 3, head.main);
+    put(log, p + 4, head.carried);
+    put(log, p + 5, head.stop);
+}
+
+// How many units have begun.
+fn units_begun(units: &[u8]) -> usize
+    requires { ⌜ 65536 ≤ length (now units) ⌝ }
+    ensures { λ r. ⌜ (r ≡ length (begun-in (now (units .entry)))) × (r ≤ 1024) ⌝ }
+{
+    begun(units)
+}
+
+// The gates of the n units begun become the words from word p on.
+fn write_gates(units: &[u8], log: &mut [u8], p: usize, n: usize)
+    requires { ⌜ (65536 ≤ length (now units)) × (n ≡ length (begun-in (now units))) × (n ≤ 1024) × ((p + n) * 8 ≤ length (now log)) ⌝ }
+    ensures { λ _. ⌜ Filled (now (log .entry)) (now (log .exit)) p (map (λ b. b .gate) (begun-in (now (units .entry)))) ⌝ }
+{
+    let mut i = 0;
+    while i < n {
+        put(log, p + i, gate_of(get(units, BEGUN + i)) as u64);
+        i += 1;
+    }
+}
+
+// Their forms become the words from word p on.
+fn write_forms(units: &[u8], log: &mut [u8], p: usize, n: usize)
+    requires { ⌜ (65536 ≤ length (now units)) × (n ≡ length (begun-in (now units))) × (n ≤ 1024) × ((p + n) * 8 ≤ length (now log)) ⌝ }
+    ensures { λ _. ⌜ Filled (now (log .entry)) (now (log .exit)) p (map (λ b. b .form) (begun-in (now (units .entry)))) ⌝ }
+{
+    let mut i = 0;
+    while i < n {
+        put(log, p + i, form_of(get(units, BEGUN + i)) as u64);
+        i += 1;
+    }
+}
+
+// The gates and then the forms of the n units begun become the words from word p on.
+fn write_units(units: &[u8], log: &mut [u8], p: usize, n: usize)
+    requires { ⌜ (65536 ≤ length (now units)) × (n ≡ length (begun-in (now units))) × (n ≤ 1024) × ((p + 2 * n) * 8 ≤ length (now log)) ⌝ }
+    ensures { λ _. ⌜ Filled (now (log .entry)) (now (log .exit)) p (units-row (begun-in (now (units .entry)))) ⌝ }
+{
+    write_gates(units, log, p, n);
+    write_forms(units, log, p + n, n);
+}
+
+// How many outputs the record of a tick with this stop shows: all, or none where there is a stop.
+fn outputs_shown(links: &[usize], stop: u64) -> usize
+    requires { ⌜ length (now links) ≡ 4816 ⌝ }
+    ensures { λ r. ⌜ (r ≡ (if eqb stop 0 then length (net (now (links .entry)) .outputs) else 0)) × (r ≤ 576) ⌝ }
+{
+    if stop == 0 { outputs(links) } else { 0 }
+}
+
+// The kind of what output o shows.
+fn kind_at(values: &[u8], o: usize) -> u64
+    requires { ⌜ (65536 ≤ length (now values)) × (o < 576) ⌝ }
+    ensures { λ r. ⌜ r ≡ kind-of (value-of (getD (words (now (values .entry))) (8 + o) 0) (getD (words (now (values .entry))) (584 + o) 0)) ⌝ }
+{
+    let kind = get(values, OUT_KINDS + o);
+    if kind < BOOL {
+        return kind;
+    }
+    BOOL
+}
+
+// The content of what output o shows.
+fn content_at(values: &[u8], o: usize) -> u64
+    requires { ⌜ (65536 ≤ length (now values)) × (o < 576) ⌝ }
+    ensures { λ r. ⌜ r ≡ content-of (value-of (getD (words (now (values .entry))) (8 + o) 0) (getD (words (now (values .entry))) (584 + o) 0)) ⌝ }
+{
+    let kind = get(values, OUT_KINDS + o);
+    let content = get(values, OUT_CONTENTS + o);
+    if kind < BOOL {
+        if kind == 0 {
+            return 0;
+        }
+        return content;
+    }
+    if content == 0 {
+        return 0;
+    }
+    1
+}
+
+// The kinds of the first n outputs become the words from word p on.
+fn write_kinds(values: &[u8], log: &mut [u8], p: usize, n: usize)
+    requires { ⌜ (65536 ≤ length (now values)) × (n ≤ 576) × ((p + n) * 8 ≤ length (now log)) ⌝ }
+    ensures { λ _. ⌜ Filled (now (log .entry)) (now (log .exit)) p (map kind-of (outs-in n (now (values .entry)))) ⌝ }
+{
+    let mut i = 0;
+    while i < n {
+        put(log, p + i, kind_at(values, i));
+        i += 1;
+    }
+}
+
+// Their contents become the words from word p on.
+fn write_contents(values: &[u8], log: &mut [u8], p: usize, n: usize)
+    requires { ⌜ (65536 ≤ length (now values)) × (n ≤ 576) × ((p + n) * 8 ≤ length (now log)) ⌝ }
+    ensures { λ _. ⌜ Filled (now (log .entry)) (now (log .exit)) p (map content-of (outs-in n (now (values .entry)))) ⌝ }
+{
+    let mut i = 0;
+    while i < n {
+        put(log, p + i, content_at(values, i));
+        i += 1;
+    }
+}
+
+// The kinds and then the contents of the first n outputs become the words from word p on.
+fn write_outputs(values: &[u8], log: &mut [u8], p: usize, n: usize)
+    requires { ⌜ (65536 ≤ length (now values)) × (n ≤ 576) × ((p + 2 * n) * 8 ≤ length (now log)) ⌝ }
+    ensures { λ _. ⌜ Filled (now (log .entry)) (now (log .exit)) p (outputs-row (outs-in n (now (values .entry)))) ⌝ }
+{
+    write_kinds(values, log, p, n);
+    write_contents(values, log, p + n, n);
+}
+
+// The record of a tick becomes the words of the log from word `at` on, if it fits there; else nothing is written.
+pub fn write_record(
+    links: &[usize],
+    values: &[u8],
+    units: &[u8],
+    log: &mut [u8],
+    at: usize,
+    head: Head,
+) -> Written
+    requires { ⌜ (length (now links) ≡ 4816) × (65536 ≤ length (now values)) × (65536 ≤ length (now units)) × (at * 8 ≤ length (now log)) ⌝ }
+    ensures { λ r. ⌜ r ≡ written-as (fits (now (log .entry)) at (record-of head (units-view (net (now (links .entry))) (now (units .entry)) .begun) (values-view (net (now (links .entry))) (now (values .entry)) .wires .outs))) (record-of head (units-view (net (now (links .entry))) (now (units .entry)) .begun) (values-view (net (now (links .entry))) (now (values .entry)) .wires .outs)) ⌝ }
+    ensures { λ _. ⌜ Writes (now (log .entry)) (now (log .exit)) at (record-of head (units-view (net (now (links .entry))) (now (units .entry)) .begun) (values-view (net (now (links .entry))) (now (values .entry)) .wires .outs)) ⌝ }
+{
+    let n = units_begun(units);
+    let o = outputs_shown(links, head.stop);
+    let size = HEAD + 2 * n + 2 * o;
+    if log.len() / 8 < at + size {
+        return Written::Full;
+    }
+    write_head(log, at, head);
+    write_units(units, log, at + HEAD, n);
+    write_outputs(values, log, at + HEAD + 2 * n, o);
+    Written::Fits(size)
+}

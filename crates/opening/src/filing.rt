@@ -1,0 +1,172 @@
+// What the opening files in the lists of a tick: Fires, delivered events, stimuli. Each stops at the first that finds its list full.
+ghost use Prim.Native.Nat.{_+_, _*_, _<_, _≤_};
+ghost use mathlib.Core.Path.{_≡_};
+ghost use mathlib.Core.Bool.{_&&_};
+ghost use mathlib.Core.List.{[], _∷_, map};
+ghost use lib.Dec.{eqb};
+ghost use lib.ListN.{length};
+ghost use Rattle.schedule.specs.Schedule.{to-late, to-delivered, to-pending};
+ghost use Rattle.words.specs.Words.{words};
+ghost use Rattle.model.specs.Base.{joined};
+ghost use Rattle.model.specs.Value.{same};
+ghost use Rattle.model.specs.Circuit.{kind-of-gate, setting};
+ghost use Rattle.model.specs.Opening.{fire, delivered};
+ghost use Rattle.links.specs.Links.{net};
+ghost use Rattle.units.specs.View.{units as view};
+ghost use Rattle.opening.specs.Opening.{stimuli-of};
+ghost use Rattle.opening.specs.Stages.{Puts, event, heard-by, is-full};
+use links::first_gate;
+use links::kind_of_gate;
+use links::later_gates;
+use links::receivers;
+use links::setting;
+use lists::Filed;
+use model::Value;
+use units::Place;
+use units::entries::entry;
+use units::events::events;
+use units::events::sender;
+use units::raising::activate;
+use units::raising::deliver;
+use values::same;
+use words::get;
+
+// The forms of a Fire and of a stimulus.
+const FIRE: usize = 0;
+
+const WORLD: usize = 2;
+
+// Whether a list was full.
+pub fn is_full(r: Filed) -> bool
+    ensures { λ b. ⌜ b ≡ is-full r ⌝ }
+{
+    match r {
+        Filed::Full => true,
+        Filed::Done => false,
+    }
+}
+
+// n Fires of gate g, to late.
+pub fn fire_late(links: &[usize], units: &mut [u8], g: usize, n: usize) -> Filed
+    requires { ⌜ (length (now links) ≡ 4816) × (65536 ≤ length (now units)) × (g < 65536) ⌝ }
+    ensures { λ r. ⌜ Puts (net (now (links .entry))) (view (net (now (links .entry))) (now (units .entry))) (view (net (now (links .entry))) (now (units .exit))) r to-late (fire n g) ⌝ }
+{
+    let x = entry(g, FIRE, 0);
+    let mut k = 0;
+    while k < n {
+        let r = activate(links, units, Place::Late, x);
+        if is_full(r) {
+            return Filed::Full;
+        }
+        k += 1;
+    }
+    Filed::Done
+}
+
+// One Fire of gate g, to pending.
+pub fn fire_pending(links: &[usize], units: &mut [u8], g: usize) -> Filed
+    requires { ⌜ (length (now links) ≡ 4816) × (65536 ≤ length (now units)) × (g < 65536) ⌝ }
+    ensures { λ r. ⌜ Puts (net (now (links .entry))) (view (net (now (links .entry))) (now (units .entry))) (view (net (now (links .entry))) (now (units .exit))) r to-pending (fire 1 g) ⌝ }
+{
+    activate(links, units, Place::Pending, entry(g, FIRE, 0))
+}
+
+// ---- events
+
+// Whether gate r receives what a gate of this kind sends on this channel.
+fn receives(links: &[usize], kind: u64, channel: Value, r: usize) -> bool
+    requires { ⌜ length (now links) ≡ 4816 ⌝ }
+    ensures { λ b. ⌜ b ≡ (eqb (kind-of-gate (net (now (links .entry))) r) (kind + 2) && same channel (setting (net (now (links .entry))) r 0)) ⌝ }
+{
+    let k = kind_of_gate(links, r);
+    if k < 2 {
+        return false;
+    }
+    if k - 2 != kind {
+        return false;
+    }
+    same(channel, setting(links, r, 0))
+}
+
+// Event e, sent by a gate of this kind on this channel, to gate r, if r receives it.
+fn deliver_to(
+    links: &[usize],
+    units: &mut [u8],
+    kind: u64,
+    channel: Value,
+    e: usize,
+    r: usize,
+) -> Filed
+    requires { ⌜ (length (now links) ≡ 4816) × (65536 ≤ length (now units)) × (e < 65536) × (r < 65536) ⌝ }
+    ensures { λ b. ⌜ Puts (net (now (links .entry))) (view (net (now (links .entry))) (now (units .entry))) (view (net (now (links .entry))) (now (units .exit))) b to-delivered (heard-by (net (now (links .entry))) kind channel (event (view (net (now (links .entry))) (now (units .entry))) e .row) (r ∷ [])) ⌝ }
+{
+    if receives(links, kind, channel, r) {
+        return deliver(units, r, e);
+    }
+    Filed::Done
+}
+
+// Event e of the tick before, to the receivers of its channel, in their order.
+fn deliver_event(links: &[usize], units: &mut [u8], e: usize) -> Filed
+    requires { ⌜ (length (now links) ≡ 4816) × (65536 ≤ length (now units)) × (e < 65536) ⌝ }
+    ensures { λ r. ⌜ Puts (net (now (links .entry))) (view (net (now (links .entry))) (now (units .entry))) (view (net (now (links .entry))) (now (units .exit))) r to-delivered (delivered (net (now (links .entry))) (event (view (net (now (links .entry))) (now (units .entry))) e)) ⌝ }
+{
+    let g = sender(units, e);
+    let kind = kind_of_gate(links, g);
+    let channel = setting(links, g, 1);
+    let mut d = receivers(links);
+    let mut r = first_gate(d);
+    while r < 64 {
+        d = later_gates(d);
+        let b = deliver_to(links, units, kind, channel, e, r);
+        if is_full(b) {
+            return Filed::Full;
+        }
+        r = first_gate(d);
+    }
+    Filed::Done
+}
+
+// All events of the tick before, in the order sent.
+pub fn deliver_all(links: &[usize], units: &mut [u8]) -> Filed
+    requires { ⌜ (length (now links) ≡ 4816) × (65536 ≤ length (now units)) ⌝ }
+    ensures { λ r. ⌜ Puts (net (now (links .entry))) (view (net (now (links .entry))) (now (units .entry))) (view (net (now (links .entry))) (now (units .exit))) r to-delivered (joined (map (delivered (net (now (links .entry)))) (view (net (now (links .entry))) (now (units .entry)) .events))) ⌝ }
+{
+    let n = events(units);
+    let mut e = 0;
+    while e < n {
+        let r = deliver_event(links, units, e);
+        if is_full(r) {
+            return Filed::Full;
+        }
+        e += 1;
+    }
+    Filed::Done
+}
+
+// ---- stimuli
+
+// n stimuli of the script, in their order.
+pub fn stimulate(
+    links: &[usize],
+    units: &mut [u8],
+    script: &[u8],
+    gates_at: usize,
+    constants_at: usize,
+    n: usize,
+) -> Filed
+    requires { ⌜ (length (now links) ≡ 4816) × (65536 ≤ length (now units)) × ((«gates_at» + n) * 8 ≤ length (now script)) × ((«constants_at» + n) * 8 ≤ length (now script)) ⌝ }
+    ensures { λ r. ⌜ Puts (net (now (links .entry))) (view (net (now (links .entry))) (now (units .entry))) (view (net (now (links .entry))) (now (units .exit))) r to-late (stimuli-of (net (now (links .entry))) (words (now (script .entry))) «gates_at» «constants_at» n) ⌝ }
+{
+    let mut k = 0;
+    while k < n {
+        let g = get(script, gates_at + k) as usize;
+        let constant = get(script, constants_at + k) as usize;
+        let r = activate(links, units, Place::Late, entry(g, WORLD, constant));
+        if is_full(r) {
+            return Filed::Full;
+        }
+        k += 1;
+    }
+    Filed::Done
+}

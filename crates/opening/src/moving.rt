@@ -1,0 +1,304 @@
+// The gates that move on by a tick: buffers and Queues, Clocks, Stopwatches. What they hand out is shown, and what they raise is filed.
+ghost use Prim.Native.Nat.{_+_, _^_, _<_, _≤_};
+ghost use mathlib.Core.Path.{_≡_};
+ghost use mathlib.Core.Bool.{true};
+ghost use mathlib.Core.List.{[], _∷_};
+ghost use lib.ListN.{length};
+ghost use Rattle.schedule.specs.Schedule.{to-late, to-pending};
+ghost use Rattle.model.specs.declared.Value.the-variants.{Float};
+ghost use Rattle.model.specs.Base.{if_then_else_, both, each};
+ghost use Rattle.model.specs.Value.{value-of, as-float, bit, one-point-zero};
+ghost use Rattle.model.specs.Circuit.{output, setting};
+ghost use Rattle.model.specs.Wires.{look, set-outs};
+ghost use Rattle.model.specs.Opening.{advance-buffer, advance-clock, advance-timer};
+ghost use Rattle.links.specs.Links.{net};
+ghost use Rattle.wires.specs.View.{values as wiring, with-wires};
+ghost use Rattle.states.specs.View.{delays as states, is-queue, Lent};
+ghost use Rattle.areas.specs.Areas.{areas};
+ghost use Rattle.opening.specs.Opening.{unopened, Opens};
+ghost use Rattle.opening.specs.Stages.{Moves-on, landing, releasing};
+use crate::filing::fire_late;
+use crate::filing::fire_pending;
+use crate::filing::is_full;
+use delays::buffer::Optional;
+use links::buffers;
+use links::clocks;
+use links::first_gate;
+use links::input;
+use links::kind_of_gate;
+use links::later_gates;
+use links::output;
+use links::setting;
+use links::stopwatches;
+use lists::Filed;
+use model::Value;
+use parts::queue_advance;
+use states::slots::buffer_advance;
+use states::slots::clock_advance;
+use states::slots::fires_advance;
+use states::slots::stopwatch_advance;
+use values::as_float;
+use values::enabled;
+use values::value_of;
+use wires;
+use wires::look;
+use wires::ready;
+use wires::set_out;
+
+// 1.0
+const ONE: u64 = 0x3FF0_0000_0000_0000;
+
+// ---- buffers and Queues
+
+// Eight values, to the outputs from o on.
+fn set_row(links: &[usize], values: &mut [u8], o: usize, kinds: [u64; 8], contents: [u64; 8])
+    requires { ⌜ (length (now links) ≡ 4816) × (65536 ≤ length (now values)) × (o + 8 < 2 ^ 64) ⌝ }
+    ensures { λ _. ⌜ wiring (net (now (links .entry))) (now (values .exit)) ≡ with-wires (wiring (net (now (links .entry))) (now (values .entry))) (set-outs (net (now (links .entry))) (wiring (net (now (links .entry))) (now (values .entry)) .wires) o (both value-of kinds contents)) ⌝ }
+{
+    let mut k = 0;
+    while k < 8 {
+        let v = value_of(kinds[k], contents[k]);
+        set_out(links, values, o + k, v);
+        k += 1;
+    }
+}
+
+// Value buffer g moves on, and shows what lands.
+fn land(links: &[usize], values: &mut [u8], delays: &mut [u8], g: usize, dt: u32)
+    requires { ⌜ (length (now links) ≡ 4816) × (65536 ≤ length (now values)) × Lent (net (now links)) (now delays) ⌝ }
+    ensures { λ _. ⌜ Moves-on (wiring (net (now (links .entry))) (now (values .entry))) (wiring (net (now (links .entry))) (now (values .exit))) (states (net (now (links .entry))) (now (delays .entry))) (states (net (now (links .entry))) (now (delays .exit))) (landing (net (now (links .entry))) dt g) to-late g 0 ⌝ }
+    ensures { λ _. ⌜ Lent (net (now (links .entry))) (now (delays .exit)) ⌝ }
+{
+    let landed = buffer_advance(links, delays, g, dt);
+    match landed {
+        Optional::None => {}
+        Optional::Some(v) => set_out(links, values, output(links, g, 0), v),
+    }
+}
+
+// Queue g moves on, and shows the record that leaves: whether one does.
+fn release(links: &[usize], values: &mut [u8], delays: &mut [u8], g: usize, dt: u32) -> bool
+    requires { ⌜ (length (now links) ≡ 4816) × (65536 ≤ length (now values)) × Lent (net (now links)) (now delays) × (is-queue (net (now links)) g ≡ true) ⌝ }
+    ensures { λ r. ⌜ Moves-on (wiring (net (now (links .entry))) (now (values .entry))) (wiring (net (now (links .entry))) (now (values .exit))) (states (net (now (links .entry))) (now (delays .entry))) (states (net (now (links .entry))) (now (delays .exit))) (releasing (net (now (links .entry))) dt g) to-late g (bit r) ⌝ }
+    ensures { λ _. ⌜ Lent (net (now (links .entry))) (now (delays .exit)) ⌝ }
+{
+    let r = queue_advance(links, delays, g, dt);
+    if r.due {
+        let kinds = r.front.kinds;
+        let contents = r.front.contents;
+        set_row(links, values, output(links, g, 1), kinds, contents);
+        return true;
+    }
+    false
+}
+
+// Queue g moves on, and fires if a record leaves.
+fn advance_queue(
+    links: &[usize],
+    values: &mut [u8],
+    units: &mut [u8],
+    delays: &mut [u8],
+    g: usize,
+    dt: u32,
+) -> Filed
+    requires { ⌜ (length (now links) ≡ 4816) × (65536 ≤ length (now values)) × (65536 ≤ length (now units)) × Lent (net (now links)) (now delays) × (g < 65536) × (is-queue (net (now links)) g ≡ true) ⌝ }
+    ensures { λ r. ⌜ Opens (net (now (links .entry))) (areas (net (now (links .entry))) (now (values .entry)) (now (units .entry)) (now (delays .entry))) (areas (net (now (links .entry))) (now (values .exit)) (now (units .exit)) (now (delays .exit))) r (releasing (net (now (links .entry))) dt g (areas (net (now (links .entry))) (now (values .entry)) (now (units .entry)) (now (delays .entry)) .state)) ⌝ }
+    ensures { λ _. ⌜ Lent (net (now (links .entry))) (now (delays .exit)) ⌝ }
+{
+    if release(links, values, delays, g, dt) {
+        return fire_late(links, units, g, 1);
+    }
+    Filed::Done
+}
+
+// Gate g, a buffer or a Queue, moves on by a tick of the length dt in f32 bits.
+fn advance_buffer(
+    links: &[usize],
+    values: &mut [u8],
+    units: &mut [u8],
+    delays: &mut [u8],
+    g: usize,
+    dt: u32,
+) -> Filed
+    requires { ⌜ (length (now links) ≡ 4816) × (65536 ≤ length (now values)) × (65536 ≤ length (now units)) × Lent (net (now links)) (now delays) × (g < 65536) ⌝ }
+    ensures { λ r. ⌜ Opens (net (now (links .entry))) (areas (net (now (links .entry))) (now (values .entry)) (now (units .entry)) (now (delays .entry))) (areas (net (now (links .entry))) (now (values .exit)) (now (units .exit)) (now (delays .exit))) r (advance-buffer (net (now (links .entry))) dt (unopened (areas (net (now (links .entry))) (now (values .entry)) (now (units .entry)) (now (delays .entry)) .state)) g) ⌝ }
+    ensures { λ _. ⌜ Lent (net (now (links .entry))) (now (delays .exit)) ⌝ }
+{
+    match kind_of_gate(links, g) {
+        // a value buffer, in ticks or in seconds
+        10 | 12 => {
+            land(links, values, delays, g, dt);
+            Filed::Done
+        }
+        // a buffer in exec mode
+        11 | 13 => {
+            let n = fires_advance(links, delays, g, dt);
+            fire_late(links, units, g, n)
+        }
+        // a Queue
+        16..=17 => advance_queue(links, values, units, delays, g, dt),
+        _ => Filed::Done,
+    }
+}
+
+// All buffers and Queues, in their order.
+pub fn advance_buffers(
+    links: &[usize],
+    values: &mut [u8],
+    units: &mut [u8],
+    delays: &mut [u8],
+    dt: u32,
+) -> Filed
+    requires { ⌜ (length (now links) ≡ 4816) × (65536 ≤ length (now values)) × (65536 ≤ length (now units)) × Lent (net (now links)) (now delays) ⌝ }
+    ensures { λ r. ⌜ Opens (net (now (links .entry))) (areas (net (now (links .entry))) (now (values .entry)) (now (units .entry)) (now (delays .entry))) (areas (net (now (links .entry))) (now (values .exit)) (now (units .exit)) (now (delays .exit))) r (each (advance-buffer (net (now (links .entry))) dt) (unopened (areas (net (now (links .entry))) (now (values .entry)) (now (units .entry)) (now (delays .entry)) .state)) (net (now (links .entry)) .buffers)) ⌝ }
+    ensures { λ _. ⌜ Lent (net (now (links .entry))) (now (delays .exit)) ⌝ }
+{
+    let mut d = buffers(links);
+    let mut g = first_gate(d);
+    while g < 64 {
+        d = later_gates(d);
+        let r = advance_buffer(links, values, units, delays, g, dt);
+        if is_full(r) {
+            return Filed::Full;
+        }
+        g = first_gate(d);
+    }
+    Filed::Done
+}
+
+// ---- Clocks
+
+// The interval of Clock g: what input i reads, else its setting, else 1.0.
+fn interval(links: &[usize], values: &[u8], g: usize, i: usize) -> u64
+    requires { ⌜ (length (now links) ≡ 4816) × (65536 ≤ length (now values)) ⌝ }
+    ensures { λ r. ⌜ r ≡ as-float (as-float one-point-zero (setting (net (now (links .entry))) g 2)) (look (net (now (links .entry))) (wiring (net (now (links .entry))) (now (values .entry)) .wires) i) ⌝ }
+{
+    let other = as_float(setting(links, g, 2), ONE);
+    as_float(look(links, values, i), other)
+}
+
+// Clock g moves on: whether it fires. Both inputs are read, also where it is not enabled.
+fn move_clock(links: &[usize], values: &mut [u8], delays: &mut [u8], g: usize) -> bool
+    requires { ⌜ (length (now links) ≡ 4816) × (65536 ≤ length (now values)) × Lent (net (now links)) (now delays) ⌝ }
+    ensures { λ r. ⌜ Moves-on (wiring (net (now (links .entry))) (now (values .entry))) (wiring (net (now (links .entry))) (now (values .exit))) (states (net (now (links .entry))) (now (delays .entry))) (states (net (now (links .entry))) (now (delays .exit))) (λ s. advance-clock (net (now (links .entry))) (unopened s) g) to-pending g (bit r) ⌝ }
+    ensures { λ _. ⌜ Lent (net (now (links .entry))) (now (delays .exit)) ⌝ }
+{
+    let i = input(links, g, 0);
+    ready(links, values, i);
+    ready(links, values, i + 1);
+    let seconds = interval(links, values, g, i + 1);
+    let on = enabled(look(links, values, i));
+    let dt = wires::dt(links, values);
+    clock_advance(links, delays, g, dt, seconds, on)
+}
+
+// Clock g moves on, and fires if it comes to its interval.
+fn advance_clock(
+    links: &[usize],
+    values: &mut [u8],
+    units: &mut [u8],
+    delays: &mut [u8],
+    g: usize,
+) -> Filed
+    requires { ⌜ (length (now links) ≡ 4816) × (65536 ≤ length (now values)) × (65536 ≤ length (now units)) × Lent (net (now links)) (now delays) × (g < 65536) ⌝ }
+    ensures { λ r. ⌜ Opens (net (now (links .entry))) (areas (net (now (links .entry))) (now (values .entry)) (now (units .entry)) (now (delays .entry))) (areas (net (now (links .entry))) (now (values .exit)) (now (units .exit)) (now (delays .exit))) r (advance-clock (net (now (links .entry))) (unopened (areas (net (now (links .entry))) (now (values .entry)) (now (units .entry)) (now (delays .entry)) .state)) g) ⌝ }
+    ensures { λ _. ⌜ Lent (net (now (links .entry))) (now (delays .exit)) ⌝ }
+{
+    if move_clock(links, values, delays, g) {
+        return fire_pending(links, units, g);
+    }
+    Filed::Done
+}
+
+// All Clocks, in their order.
+pub fn advance_clocks(
+    links: &[usize],
+    values: &mut [u8],
+    units: &mut [u8],
+    delays: &mut [u8],
+) -> Filed
+    requires { ⌜ (length (now links) ≡ 4816) × (65536 ≤ length (now values)) × (65536 ≤ length (now units)) × Lent (net (now links)) (now delays) ⌝ }
+    ensures { λ r. ⌜ Opens (net (now (links .entry))) (areas (net (now (links .entry))) (now (values .entry)) (now (units .entry)) (now (delays .entry))) (areas (net (now (links .entry))) (now (values .exit)) (now (units .exit)) (now (delays .exit))) r (each (advance-clock (net (now (links .entry)))) (unopened (areas (net (now (links .entry))) (now (values .entry)) (now (units .entry)) (now (delays .entry)) .state)) (net (now (links .entry)) .clocks)) ⌝ }
+    ensures { λ _. ⌜ Lent (net (now (links .entry))) (now (delays .exit)) ⌝ }
+{
+    let mut d = clocks(links);
+    let mut g = first_gate(d);
+    while g < 64 {
+        d = later_gates(d);
+        let r = advance_clock(links, values, units, delays, g);
+        if is_full(r) {
+            return Filed::Full;
+        }
+        g = first_gate(d);
+    }
+    Filed::Done
+}
+
+// ---- Stopwatches
+
+// Stopwatch g shows its time, if it shows it anew.
+fn show_time(links: &[usize], values: &mut [u8], g: usize, shows: bool, time: u64)
+    requires { ⌜ (length (now links) ≡ 4816) × (65536 ≤ length (now values)) ⌝ }
+    ensures { λ _. ⌜ wiring (net (now (links .entry))) (now (values .exit)) ≡ with-wires (wiring (net (now (links .entry))) (now (values .entry))) (set-outs (net (now (links .entry))) (wiring (net (now (links .entry))) (now (values .entry)) .wires) (output (net (now (links .entry))) g 0) (if shows then Float time ∷ [] else [])) ⌝ }
+{
+    if shows {
+        set_out(links, values, output(links, g, 0), Value::Float(time));
+    }
+}
+
+// Stopwatch g moves on, and shows its time: whether it expires. Its limit is read, also where it stands still.
+fn move_timer(links: &[usize], values: &mut [u8], delays: &mut [u8], g: usize) -> bool
+    requires { ⌜ (length (now links) ≡ 4816) × (65536 ≤ length (now values)) × Lent (net (now links)) (now delays) ⌝ }
+    ensures { λ r. ⌜ Moves-on (wiring (net (now (links .entry))) (now (values .entry))) (wiring (net (now (links .entry))) (now (values .exit))) (states (net (now (links .entry))) (now (delays .entry))) (states (net (now (links .entry))) (now (delays .exit))) (λ s. advance-timer (net (now (links .entry))) (unopened s) g) to-late g (bit r) ⌝ }
+    ensures { λ _. ⌜ Lent (net (now (links .entry))) (now (delays .exit)) ⌝ }
+{
+    let i = input(links, g, 3);
+    ready(links, values, i);
+    let limit = as_float(look(links, values, i), 0);
+    let dt = wires::dt(links, values);
+    let s = stopwatch_advance(links, delays, g, dt, limit);
+    show_time(links, values, g, s.shows, s.time);
+    s.expired
+}
+
+// Stopwatch g moves on, and fires if it expires.
+fn advance_timer(
+    links: &[usize],
+    values: &mut [u8],
+    units: &mut [u8],
+    delays: &mut [u8],
+    g: usize,
+) -> Filed
+    requires { ⌜ (length (now links) ≡ 4816) × (65536 ≤ length (now values)) × (65536 ≤ length (now units)) × Lent (net (now links)) (now delays) × (g < 65536) ⌝ }
+    ensures { λ r. ⌜ Opens (net (now (links .entry))) (areas (net (now (links .entry))) (now (values .entry)) (now (units .entry)) (now (delays .entry))) (areas (net (now (links .entry))) (now (values .exit)) (now (units .exit)) (now (delays .exit))) r (advance-timer (net (now (links .entry))) (unopened (areas (net (now (links .entry))) (now (values .entry)) (now (units .entry)) (now (delays .entry)) .state)) g) ⌝ }
+    ensures { λ _. ⌜ Lent (net (now (links .entry))) (now (delays .exit)) ⌝ }
+{
+    if move_timer(links, values, delays, g) {
+        return fire_late(links, units, g, 1);
+    }
+    Filed::Done
+}
+
+// All Stopwatches, in their order.
+pub fn advance_timers(
+    links: &[usize],
+    values: &mut [u8],
+    units: &mut [u8],
+    delays: &mut [u8],
+) -> Filed
+    requires { ⌜ (length (now links) ≡ 4816) × (65536 ≤ length (now values)) × (65536 ≤ length (now units)) × Lent (net (now links)) (now delays) ⌝ }
+    ensures { λ r. ⌜ Opens (net (now (links .entry))) (areas (net (now (links .entry))) (now (values .entry)) (now (units .entry)) (now (delays .entry))) (areas (net (now (links .entry))) (now (values .exit)) (now (units .exit)) (now (delays .exit))) r (each (advance-timer (net (now (links .entry)))) (unopened (areas (net (now (links .entry))) (now (values .entry)) (now (units .entry)) (now (delays .entry)) .state)) (net (now (links .entry)) .stopwatches)) ⌝ }
+    ensures { λ _. ⌜ Lent (net (now (links .entry))) (now (delays .exit)) ⌝ }
+{
+    let mut d = stopwatches(links);
+    let mut g = first_gate(d);
+    while g < 64 {
+        d = later_gates(d);
+        let r = advance_timer(links, values, units, delays, g);
+        if is_full(r) {
+            return Filed::Full;
+        }
+        g = first_gate(d);
+    }
+    Filed::Done
+}

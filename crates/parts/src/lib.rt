@@ -1,0 +1,149 @@
+// The records of Queues in the lent area `delays`, each Queue in its own part, and the area at the start of a run.
+ghost use mathlib.Core.Path.{_≡_};
+ghost use mathlib.Core.Bool.{true};
+ghost use mathlib.Core.List.{[]};
+ghost use Prim.Native.Nat.{_*_, _≤_};
+ghost use lib.Dec.{eqb};
+ghost use lib.ListN.{length, replicate};
+ghost use Rattle.words.specs.Words.{words, tail};
+ghost use Rattle.model.specs.Base.{both};
+ghost use Rattle.model.specs.Value.{value-of};
+ghost use Rattle.model.specs.Circuit.{kind-of-gate};
+ghost use Rattle.model.specs.Questions.{queues};
+ghost use Rattle.model.specs.State.{idle};
+ghost use Rattle.model.specs.Delays.{queue-record, advance-records};
+ghost use Rattle.delays.specs.States.{counted};
+ghost use Rattle.links.specs.Links.{net};
+ghost use Rattle.queue.specs.Queue.{released};
+// The definition `delays` is named `view` here, beside the slice of that name.
+ghost use Rattle.states.specs.View.{delays as view, delay-in, with-delay, is-queue, queue-at, queue-countdown, Lent, Moves};
+ghost use Rattle.parts.specs.Start.{Cleared, given, next-part, Numbered};
+use delays::countdown::Countdown;
+use delays::countdown::in_seconds;
+use delays::countdown::in_ticks;
+use links::gates;
+use links::kind_of_gate;
+use model::Value;
+use queue::Record;
+use queue::Released;
+use queue::advance;
+use queue::push;
+use values::as_float;
+use values::as_int;
+use words::get;
+use words::put;
+use words::write;
+
+// The kind of a Queue whose records wait for ticks.
+const TICKS: u64 = 16;
+
+// The kind of a Queue whose records wait for seconds.
+const SECONDS: u64 = 17;
+
+// Where the parts begin, and how many words and bytes each has.
+const PARTS: usize = 2816;
+
+const PART: usize = 4354;
+
+const PART_BYTES: usize = 34832;
+
+// The countdown that a record starts by its wait.
+fn countdown(seconds: bool, wait: Value) -> Countdown
+    ensures { λ r. ⌜ counted r ≡ queue-countdown seconds wait ⌝ }
+{
+    if seconds {
+        in_seconds(as_float(wait, 0))
+    } else {
+        in_ticks(as_int(wait, 0))
+    }
+}
+
+// A new record of Queue g: eight values and its wait. With 256 records it is dropped.
+pub fn queue_record(
+    links: &[usize],
+    delays: &mut [u8],
+    g: usize,
+    kinds: [u64; 8],
+    contents: [u64; 8],
+    wait: Value,
+)
+    requires { ⌜ (length (now links) ≡ 4816) × Lent (net (now links)) (now delays) × (is-queue (net (now links)) g ≡ true) ⌝ }
+    ensures { λ _. ⌜ view (net (now (links .entry))) (now (delays .exit)) ≡ with-delay (view (net (now (links .entry))) (now (delays .entry))) g (queue-record (delay-in (view (net (now (links .entry))) (now (delays .entry))) g) (both value-of kinds contents) (queue-countdown (eqb (kind-of-gate (net (now (links .entry))) g) 17) wait)) ⌝ }
+{
+    let left = countdown(kind_of_gate(links, g) == SECONDS, wait);
+    let r = Record {
+        kinds,
+        contents,
+        left,
+    };
+    let p = get(delays, g) as usize;
+    let a = (PARTS + PART * p) * 8;
+    let e = a + PART_BYTES;
+    push(&mut delays[a..e], r);
+}
+
+// Queue g moves on by a tick of the length dt in f32 bits: the front record, if it is due.
+pub fn queue_advance(links: &[usize], delays: &mut [u8], g: usize, dt: u32) -> Released
+    requires { ⌜ (length (now links) ≡ 4816) × Lent (net (now links)) (now delays) × (is-queue (net (now links)) g ≡ true) ⌝ }
+    ensures { λ r. ⌜ Moves (view (net (now (links .entry))) (now (delays .entry))) (view (net (now (links .entry))) (now (delays .exit))) g (advance-records dt (delay-in (view (net (now (links .entry))) (now (delays .entry))) g)) (released r [] .row) (released r [] .fires) ⌝ }
+{
+    let seconds = kind_of_gate(links, g) == SECONDS;
+    let p = get(delays, g) as usize;
+    let a = (PARTS + PART * p) * 8;
+    let e = a + PART_BYTES;
+    advance(&mut delays[a..e], seconds, dt)
+}
+
+// ---- the start
+
+// The table of parts and the slots are cleared.
+fn clear(delays: &mut [u8])
+    requires { ⌜ 22528 ≤ length (now delays) ⌝ }
+    ensures { λ _. ⌜ Cleared 2816 (words (now (delays .entry))) (words (now (delays .exit))) × (tail (now (delays .exit)) ≡ tail (now (delays .entry))) ⌝ }
+{
+    let mut k: usize = 0;
+    while k < PARTS {
+        put(delays, k, 0);
+        k += 1;
+    }
+}
+
+// Gate g, if it is a Queue, has part n, with no records: the part that the next Queue has.
+fn give_part(links: &[usize], delays: &mut [u8], g: usize, n: usize) -> usize
+    requires { ⌜ (length (now links) ≡ 4816) × (n ≤ 64) ⌝ }
+    ensures { λ r. ⌜ (words (now (delays .exit)) ≡ given (net (now (links .entry))) g n (words (now (delays .entry)))) × (tail (now (delays .exit)) ≡ tail (now (delays .entry))) × (r ≡ next-part (net (now (links .entry))) g n) ⌝ }
+{
+    let kind = kind_of_gate(links, g);
+    if kind < TICKS {
+        return n;
+    }
+    if SECONDS < kind {
+        return n;
+    }
+    write(delays, g, n as u64);
+    write(delays, PARTS + PART * n + 1, 0);
+    n + 1
+}
+
+// Each Queue has the part of its number.
+fn give_parts(links: &[usize], delays: &mut [u8])
+    requires { ⌜ (length (now links) ≡ 4816) × (queue-at (queues (net (now links))) * 8 ≤ length (now delays)) ⌝ }
+    ensures { λ _. ⌜ Numbered (net (now (links .entry))) (length (net (now (links .entry)) .kinds)) (words (now (delays .entry))) (words (now (delays .exit))) × (tail (now (delays .exit)) ≡ tail (now (delays .entry))) ⌝ }
+{
+    let count = gates(links);
+    let mut n: usize = 0;
+    let mut g: usize = 0;
+    while g < count {
+        n = give_part(links, delays, g, n);
+        g += 1;
+    }
+}
+
+// The small states at the start of a run, whatever the area held.
+pub fn start(links: &[usize], delays: &mut [u8])
+    requires { ⌜ (length (now links) ≡ 4816) × (queue-at (queues (net (now links))) * 8 ≤ length (now delays)) ⌝ }
+    ensures { λ _. ⌜ (view (net (now (links .entry))) (now (delays .exit)) .delays ≡ replicate (length (net (now (links .entry)) .kinds)) idle) × (view (net (now (links .entry))) (now (delays .exit)) .rest ≡ view (net (now (links .entry))) (now (delays .entry)) .rest) × Lent (net (now (links .entry))) (now (delays .exit)) ⌝ }
+{
+    clear(delays);
+    give_parts(links, delays);
+}

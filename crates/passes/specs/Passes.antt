@@ -1,0 +1,34 @@
+-- What a pass makes of the areas.
+use Prim.Native.Nat.{ℕ, _-_}
+use mathlib.Core.Path.{_≡_}
+use mathlib.Core.List.{List, _++_, map}
+use lib.ListN.{length}
+use Rattle.schedule.specs.Schedule.{most-units, Passed, acts}
+use Rattle.model.specs.Circuit.{Circuit}
+use Rattle.model.specs.State.{Act}
+use Rattle.model.specs.Unit.{World, state≔}
+use Rattle.units.specs.View.{Lists, Begun}
+use Rattle.areas.specs.Areas.{Areas, Kept}
+use Rattle.chain.specs.declared.Ran.{Ran}
+use Rattle.passes.specs.Waiting.{bare}
+
+-- a unit begun
+abbrev pub begun-as : Act → Begun
+begun-as a = record { gate = a .gate; form = a .form }
+
+-- all but the units begun
+abbrev pub with-begun : Kept → List Begun → Kept
+with-begun k b =
+    record { begun = b; events = k .events; parts = k .parts; behind-values = k .behind-values; behind-units = k .behind-units; behind-delays = k .behind-delays }
+
+-- the units that a tick may still begin
+abbrev pub units-left : Areas → ℕ
+units-left a = most-units - length (a .kept .begun)
+
+-- The areas a became b, with the answer r, as the pass p, from the world w on; h is what waits for it.
+pub record Passes (c : Circuit) (limit : ℕ) {Q : Type 0} (h : Lists → Q) (a b : Areas) (r : Ran) (w : World) (p : Passed (bare c limit) Q) : Type 0 where
+  pub world : p .world ≡ state≔ w (r .left) (b .state)
+  pub queue : p .queue ≡ h (b .lists)
+  pub stop : p .stop ≡ r .stop
+  pub left : p .left ≡ units-left b
+  pub kept : b .kept ≡ with-begun (a .kept) (a .kept .begun ++ map begun-as (acts (bare c limit) (p .turns)))

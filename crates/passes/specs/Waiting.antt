@@ -1,0 +1,36 @@
+-- What waits in the areas, as the scheduler has it: activations without identities.
+use Prim.Native.Nat.{ℕ}
+use mathlib.Core.List.{map}
+use Rattle.schedule.specs.Schedule.{Setup, plain, Activation, LateQ, MainQ, OpenQ, list-full}
+use Rattle.lists.specs.declared.Filed.{Filed}
+use Rattle.lists.specs.declared.Filed.the-variants.{Full, Done}
+use Rattle.model.specs.Circuit.{Circuit}
+use Rattle.model.specs.State.{Act}
+use Rattle.model.specs.Run.{machine}
+use Rattle.units.specs.View.{Lists}
+
+-- the stop of an answer
+unfoldable pub stop-of : Filed → ℕ
+stop-of Full = list-full
+stop-of Done = 0
+
+module _ (c : Circuit) (limit : ℕ) where
+  -- the machine of a circuit, scheduled without identities
+  abbrev pub bare : Setup
+  bare = plain (machine c limit)
+
+  -- an activation
+  abbrev pub waiting : Act → Activation bare
+  waiting a = record { act = a; tag = tt }
+
+  -- what waits for the late pass
+  abbrev pub for-late : Lists → LateQ (Activation bare)
+  for-late l = record { late = map waiting (l .late); delivered = map waiting (l .delivered) }
+
+  -- what waits for the main pass, and what is carried
+  abbrev pub for-main : Lists → MainQ (Activation bare)
+  for-main l = record { pending = map waiting (l .pending); carried = map waiting (l .carried) }
+
+  -- what waits while a tick opens
+  abbrev pub for-both : Lists → OpenQ (Activation bare)
+  for-both l = record { lateq = for-late l; pending = map waiting (l .pending) }

@@ -1,0 +1,262 @@
+-- The rounds of settling, one after the other: one law for each way out of a function.
+use Prim.Native.Nat.{ℕ, zero, suc, _+_, _-_, _*_, _≤_, _<_}
+use mathlib.Core.Path.{_≡_, refl, sym, ap, ap₂, subst, _∙_}
+use mathlib.Core.Bool.{false}
+use mathlib.Core.List.{List, [], _∷_, _++_}
+use mathlib.Core.Option.{Option, none, some}
+use native.Mathlib.Nat.{mul-le-mul}
+use native.Mathlib.Omega.{arith}
+use native.Mathlib.Numerals.{add-one}
+use lib.ListN.{length, set}
+use Rattle.lists.specs.declared.Filed.{Filed as Answer}
+use Rattle.lists.specs.declared.Filed.the-variants.{Full as NoRoom, Done as Room}
+use Rattle.model.specs.Circuit.{Circuit}
+use Rattle.model.specs.State.{State, Wires, wires≔, to-check≔}
+use Rattle.model.specs.Wires.{refresh-all}
+use Rattle.model.specs.Settle.{Settled, calm, check, check-on, settle}
+use Rattle.wires.specs.declared.Waiting.{Waiting}
+use Rattle.wires.specs.declared.Waiting.the-variants.{Input, Nothing as NoInput}
+use Rattle.wires.specs.View.{Values, with-wires}
+use Rattle.wires.specs.Checks.{waiting, oldest, taken}
+use Rattle.states.specs.View.{Delays}
+use Rattle.units.specs.declared.Place.{Place}
+use Rattle.units.specs.View.{act-of, Lists, Units}
+use Rattle.units.specs.Raising.{with-lists, activate, answer, lists-after, Went, raise-into}
+use Rattle.areas.specs.Areas.{Areas, together, with-went}
+use Rattle.settling.specs.declared.Raised.{Raised}
+use Rattle.settling.specs.declared.Raised.the-variants.{Nothing as NoRaise, Entry}
+use Rattle.settling.specs.declared.Round.{Round}
+use Rattle.settling.specs.declared.Round.the-variants.{Idle, Done, Full}
+use Rattle.settling.specs.Settling.{settled, filed-into}
+use Rattle.settling.specs.Rounds.{Acts, goes-on, round-of, answer-of, round-answer, after-round}
+use Rattle.settling.proofs.Rounds.{raised-on, raised-full, raised-one, first-on, to-be-checked, raised-before}
+
+-- ---- one round, then the others
+
+-- what follows where there was room
+abbrev then-on : Went → (State → Lists → Went) → Went
+then-on w f = elim (w .answer) [ NoRoom ↦ w | Room ↦ f (w .state) (w .lists) ]
+
+-- what follows a round
+abbrev rest-of : State → Lists → (State → Lists → Went) → Option Went → Went
+rest-of s l f o = elim o [ none ↦ record { state = s; lists = l; answer = Room } | some w ↦ then-on w f ]
+
+module _ (c : Circuit) (to : Place) where
+  -- what was raised first is filed first
+  filed-first : (n : ℕ) (z : Settled) (l : Lists) → filed-into c to (check-on c n z) l ≡ then-on (filed-into c to z l) (goes-on c to n)
+  unfolding filed-into goes-on
+  filed-first n z l =
+      ap (λ (y : Settled). filed-into c to y l) (raised-before c n (z .state) (z .raises)) ∙ by-answer (filed-into c to z l .answer) refl
+    where
+      by-answer :
+          (a : Answer) → filed-into c to z l .answer ≡ a →
+          raise-into (λ _. activate c to) (z .raises ++ check-on c n (calm (z .state)) .raises) l (check-on c n (calm (z .state)) .state)
+          ≡ (elim a [ NoRoom ↦ filed-into c to z l | Room ↦ goes-on c to n (filed-into c to z l .state) (filed-into c to z l .lists) ])
+      by-answer NoRoom h = raised-full (λ _. activate c to) (z .raises) (check-on c n (calm (z .state)) .raises) l (z .state) (check-on c n (calm (z .state)) .state) h
+      by-answer Room h =
+          let p = raised-on (λ _. activate c to) (z .raises) (check-on c n (calm (z .state)) .raises) l (z .state) (check-on c n (calm (z .state)) .state) h in
+          p .1 ∙ ap (λ (t : State). goes-on c to n t (filed-into c to z l .lists)) (sym (p .0))
+
+  -- a round, then the others
+  pub round-first : (n : ℕ) (s : State) (l : Lists) → goes-on c to (suc n) s l ≡ rest-of s l (goes-on c to n) (round-of c to s l)
+  unfolding goes-on round-of oldest taken check-on calm filed-into raise-into
+  round-first n s l = go (s .wires .to-check)
+    where
+      go :
+          (x : List ℕ) →
+          filed-into c to (first-on x (calm s) (λ i is. check-on c n (record { state = check c (to-be-checked c s i is) i .state; raises = [] ++ check c (to-be-checked c s i is) i .raises }))) l
+          ≡ rest-of s l (goes-on c to n)
+          (elim (first-on x none (λ i is. some i)) [
+            | none ↦ none
+            | some i ↦ some (filed-into c to (check c (wires≔ s (first-on x (s .wires) (λ j is. to-check≔ (s .wires) is (set (s .wires .queued) j false)))) i) l)
+          ])
+      go [] = refl
+      go (i ∷ is) = filed-first n (record { state = check c (to-be-checked c s i is) i .state; raises = [] ++ check c (to-be-checked c s i is) i .raises }) l
+
+-- ---- what a round comes to
+
+-- the answer, by that of the list
+pub filed-full : (a b : Answer) → a ≡ b → a ≡ NoRoom → Full ≡ answer-of b
+unfolding answer-of
+filed-full a b e h = ap answer-of (sym h ∙ e)
+
+pub filed-done : (a b : Answer) → a ≡ b → a ≡ Room → Done ≡ answer-of b
+unfolding answer-of
+filed-done a b e h = ap answer-of (sym h ∙ e)
+
+-- nothing is taken where nothing waits
+none-taken : (w : Wires) → none ≡ oldest w → taken w ≡ w
+unfolding oldest taken
+none-taken w e = go (w .to-check) e
+  where
+    go : (x : List ℕ) → _≡_ {A = Option ℕ} none (first-on x none (λ i is. some i)) → first-on x w (λ i is. to-check≔ w is (set (w .queued) i false)) ≡ w
+    go [] h = refl
+    go (i ∷ is) h = cc
+
+-- one round, by what waits and what the check raises
+module _ (c : Circuit) (to : Place) (v v₁ : Values) (u : Units) (d : Delays) (n : Waiting) (en : (waiting n ≡ oldest (v .wires)) × (v₁ ≡ with-wires v (taken (v .wires)))) where
+  pub next-idle :
+      n ≡ NoInput →
+      (Idle ≡ round-answer (round-of c to (together v u d .state) (u .lists))) × (together v₁ u d ≡ after-round (together v u d) (round-of c to (together v u d .state) (u .lists)))
+  unfolding round-of round-answer after-round waiting
+  next-idle e =
+      let q : none ≡ oldest (v .wires) = ap waiting (sym e) ∙ en .0 in
+      let p : round-of c to (together v u d .state) (u .lists) ≡ none = rw (← q, round-of) in
+      (ap round-answer (sym p), ap (λ (y : Values). together y u d) (en .1) ∙ ap (λ (w : Wires). together (with-wires v w) u d) (none-taken (v .wires) q) ∙ ap (after-round (together v u d)) (sym p))
+
+  module _ (i : ℕ) (v₂ : Values) (e : Delays) (r : Raised) (ei : n ≡ Input i) (ec : Acts c v₁ d v₂ e (λ s. check c s i) r) where
+    -- what the check leads to
+    abbrev found : Settled
+    found = check c (wires≔ (together v u d .state) (taken (v .wires))) i
+
+    -- in the state in which it is made
+    acts : Acts c (with-wires v (taken (v .wires))) d v₂ e (λ s. check c s i) r
+    acts = subst (λ (y : Values). Acts c y d v₂ e (λ s. check c s i) r) (en .1) ec
+
+    -- so the round comes to what it raises, filed
+    round-is : round-of c to (together v u d .state) (u .lists) ≡ some (filed-into c to found (u .lists))
+    unfolding round-of waiting
+    round-is = let q : some i ≡ oldest (v .wires) = ap waiting (sym ei) ∙ en .0 in rw (← q, round-of)
+
+    pub next-calm :
+        r ≡ NoRaise →
+        (Done ≡ round-answer (round-of c to (together v u d .state) (u .lists))) × (together v₂ u e ≡ after-round (together v u d) (round-of c to (together v u d .state) (u .lists)))
+    unfolding filed-into raise-into settled round-answer answer-of after-round wires≔
+    next-calm er =
+        let p : round-of c to (together v u d .state) (u .lists) ≡ some (record { state = found .state; lists = u .lists; answer = Room }) =
+        round-is ∙ ap (λ (z : Settled). some (filed-into c to z (u .lists))) (sym (acts u .1) ∙ ap (settled c (found .state)) er) in
+        (ap round-answer (sym p), acts u .0 ∙ ap (after-round (together v u d)) (sym p))
+
+    pub next-entry :
+        (x : ℕ) (q : Round) (u₂ : Units) → r ≡ Entry x →
+        (q ≡ answer-of (answer (activate c to (act-of c x) (u .lists)))) × (u₂ ≡ with-lists u (lists-after (u .lists) (activate c to (act-of c x) (u .lists)))) →
+        (q ≡ round-answer (round-of c to (together v u d .state) (u .lists))) × (together v₂ u₂ e ≡ after-round (together v u d) (round-of c to (together v u d .state) (u .lists)))
+    unfolding filed-into settled round-answer after-round wires≔
+    next-entry x q u₂ er eq =
+        let k = activate c to (act-of c x) (u .lists) in
+        let p : round-of c to (together v u d .state) (u .lists) ≡ some (record { state = found .state; lists = lists-after (u .lists) k; answer = answer k }) =
+        round-is
+        ∙ ap (λ (z : Settled). some (filed-into c to z (u .lists))) (sym (acts u .1) ∙ ap (settled c (found .state)) er)
+        ∙ ap (λ (w : Went). some w) (raised-one (λ _. activate c to) tt (act-of c x) (u .lists) (found .state)) in
+        (eq .0 ∙ ap round-answer (sym p), ap (λ (y : Units). together v₂ y e) (eq .1) ∙ acts (with-lists u (lists-after (u .lists) k)) .0 ∙ ap (after-round (together v u d)) (sym p))
+
+-- ---- one turn of the loop
+
+-- the three answers differ
+idle-not-done : {A : Type 0} → _≡_ {A = Round} Idle Done → A
+idle-not-done h = let z : _≡_ {A = ℕ} 0 1 = cc in absurd (omega (arith, z))
+
+idle-not-full : {A : Type 0} → _≡_ {A = Round} Idle Full → A
+idle-not-full h = let z : _≡_ {A = ℕ} 0 1 = cc in absurd (omega (arith, z))
+
+done-not-full : {A : Type 0} → _≡_ {A = Round} Done Full → A
+done-not-full h = let z : _≡_ {A = ℕ} 0 1 = cc in absurd (omega (arith, z))
+
+module _ (c : Circuit) (to : Place) (a b : Areas) (x : Round)
+    (ex : (x ≡ round-answer (round-of c to (a .state) (a .lists))) × (b ≡ after-round a (round-of c to (a .state) (a .lists)))) where
+  -- what is left of an area's rounds
+  abbrev left : ℕ → Areas → Went
+  left k y = goes-on c to k (y .state) (y .lists)
+
+  -- of which this round is the first
+  one-more : (k : ℕ) → 0 < k → left k a ≡ rest-of (a .state) (a .lists) (goes-on c to (k - 1)) (round-of c to (a .state) (a .lists))
+  one-more zero h = absurd (omega (arith, h))
+  one-more (suc j) h = let q : suc j - 1 ≡ j = omega arith in rw q (round-first c to j (a .state) (a .lists))
+
+  pub turn-idle : (k : ℕ) → 0 < k → x ≡ Idle → (b ≡ with-went a (left k a)) × (Room ≡ left k a .answer)
+  unfolding round-answer after-round answer-of
+  turn-idle k h e = go (round-of c to (a .state) (a .lists)) (sym e ∙ ex .0) (ex .1) (one-more k h)
+    where
+      go :
+          (o : Option Went) → Idle ≡ round-answer o → b ≡ after-round a o → left k a ≡ rest-of (a .state) (a .lists) (goes-on c to (k - 1)) o →
+          (b ≡ with-went a (left k a)) × (Room ≡ left k a .answer)
+      go none f g p = (g ∙ ap (with-went a) (sym p), ap (λ (w : Went). w .answer) (sym p))
+      go (some w) f g p = no (w .answer) f
+        where
+          no : {A : Type 0} (y : Answer) → Idle ≡ answer-of y → A
+          no NoRoom q = idle-not-full q
+          no Room q = idle-not-done q
+
+  pub turn-full : (k : ℕ) → 0 < k → x ≡ Full → (b ≡ with-went a (left k a)) × (NoRoom ≡ left k a .answer)
+  unfolding round-answer after-round answer-of
+  turn-full k h e = go (round-of c to (a .state) (a .lists)) (sym e ∙ ex .0) (ex .1) (one-more k h)
+    where
+      by : (w : Went) (y : Answer) → w .answer ≡ y → Full ≡ answer-of y → b ≡ with-went a w →
+          left k a ≡ (elim y [ NoRoom ↦ w | Room ↦ goes-on c to (k - 1) (w .state) (w .lists) ]) → (b ≡ with-went a (left k a)) × (NoRoom ≡ left k a .answer)
+      by w NoRoom m f g p = (g ∙ ap (with-went a) (sym p), sym m ∙ ap (λ (w : Went). w .answer) (sym p))
+      by w Room m f g p = done-not-full (sym f)
+
+      go :
+          (o : Option Went) → Full ≡ round-answer o → b ≡ after-round a o → left k a ≡ rest-of (a .state) (a .lists) (goes-on c to (k - 1)) o →
+          (b ≡ with-went a (left k a)) × (NoRoom ≡ left k a .answer)
+      go none f g p = idle-not-full (sym f)
+      go (some w) f g p = by w (w .answer) refl f g p
+
+  pub turn-done :
+      (k : ℕ) → 0 < k → x ≡ Done → (with-went b (left (k - 1) b) ≡ with-went a (left k a)) × (left (k - 1) b .answer ≡ left k a .answer)
+  unfolding round-answer after-round answer-of
+  turn-done k h e = go (round-of c to (a .state) (a .lists)) (sym e ∙ ex .0) (ex .1) (one-more k h)
+    where
+      by : (w : Went) (y : Answer) → w .answer ≡ y → Done ≡ answer-of y → b ≡ with-went a w →
+          left k a ≡ (elim y [ NoRoom ↦ w | Room ↦ goes-on c to (k - 1) (w .state) (w .lists) ]) →
+          (with-went b (left (k - 1) b) ≡ with-went a (left k a)) × (left (k - 1) b .answer ≡ left k a .answer)
+      by w NoRoom m f g p = done-not-full f
+      by w Room m f g p = (
+        ap (λ (y : Areas). with-went y (left (k - 1) y)) g ∙ ap (with-went a) (sym p),
+        ap (λ (y : Areas). left (k - 1) y .answer) g ∙ ap (λ (w : Went). w .answer) (sym p),
+      )
+
+      go :
+          (o : Option Went) → Done ≡ round-answer o → b ≡ after-round a o → left k a ≡ rest-of (a .state) (a .lists) (goes-on c to (k - 1)) o →
+          (with-went b (left (k - 1) b) ≡ with-went a (left k a)) × (left (k - 1) b .answer ≡ left k a .answer)
+      go none f g p = idle-not-done (sym f)
+      go (some w) f g p = by w (w .answer) refl f g p
+
+-- ---- the loop
+
+-- what is left of the rounds leads to what all of them lead to
+abbrev pub Left : Circuit → Place → ℕ → Areas → ℕ → Areas → Type 0
+Left c to k a n b =
+    (with-went a (goes-on c to k (a .state) (a .lists)) ≡ with-went b (goes-on c to n (b .state) (b .lists)))
+    × (goes-on c to k (a .state) (a .lists) .answer ≡ goes-on c to n (b .state) (b .lists) .answer)
+
+module _ (c : Circuit) (to : Place) (a b z : Areas) (x : Round) (k n : ℕ) (h : 0 < k) (i : Left c to k a n z)
+    (ex : (x ≡ round-answer (round-of c to (a .state) (a .lists))) × (b ≡ after-round a (round-of c to (a .state) (a .lists)))) where
+  pub left-idle : x ≡ Idle → (b ≡ with-went z (goes-on c to n (z .state) (z .lists))) × (Room ≡ goes-on c to n (z .state) (z .lists) .answer)
+  left-idle e = let t = turn-idle c to a b x ex k h e in (t .0 ∙ i .0, t .1 ∙ i .1)
+
+  pub left-full : x ≡ Full → (b ≡ with-went z (goes-on c to n (z .state) (z .lists))) × (NoRoom ≡ goes-on c to n (z .state) (z .lists) .answer)
+  left-full e = let t = turn-full c to a b x ex k h e in (t .0 ∙ i .0, t .1 ∙ i .1)
+
+  pub left-next : x ≡ Done → Left c to (k - 1) b n z
+  left-next e = let t = turn-done c to a b x ex k h e in (t .0 ∙ i .0, t .1 ∙ i .1)
+
+pub left-none :
+    (c : Circuit) (to : Place) (a z : Areas) (k n : ℕ) → k ≤ 0 → Left c to k a n z →
+    (a ≡ with-went z (goes-on c to n (z .state) (z .lists))) × (Room ≡ goes-on c to n (z .state) (z .lists) .answer)
+unfolding goes-on filed-into check-on raise-into calm
+left-none c to a z zero n h i = i
+left-none c to a z (suc k) n h i = absurd (omega (arith, h))
+
+-- ---- settling
+
+-- how many rounds there are at the most
+pub rounds-few : (i o : ℕ) → i ≤ 640 → o ≤ 576 → (i + 1) * (o + 1) ≤ 641 * 577
+rounds-few i o h k = let a : i + 1 ≤ 641 = omega arith in let b : o + 1 ≤ 577 = omega arith in mul-le-mul a b
+
+pub settled-all :
+    (c : Circuit) (to : Place) (v v₁ : Values) (u : Units) (d : Delays) (b : Areas) (r : Answer) (i o : ℕ) → v₁ ≡ with-wires v (refresh-all c (v .wires)) →
+    (i ≡ length (c .pins)) × (i ≤ 640) → (o ≡ length (c .outputs)) × (o ≤ 576) →
+    (b ≡ with-went (together v₁ u d) (goes-on c to ((i + 1) * (o + 1)) (together v₁ u d .state) (u .lists)))
+    × (r ≡ goes-on c to ((i + 1) * (o + 1)) (together v₁ u d .state) (u .lists) .answer) →
+    (b ≡ with-went (together v u d) (filed-into c to (settle c (together v u d .state)) (u .lists))) × (r ≡ filed-into c to (settle c (together v u d .state)) (u .lists) .answer)
+unfolding settle goes-on wires≔
+settled-all c to v v₁ u d b r i o ev ei eo h =
+    let q : (i + 1) * (o + 1) ≡ suc (length (c .pins)) * suc (length (c .outputs)) = ap₂ (λ (x y : ℕ). x * y) (add-one i ∙ ap suc (ei .0)) (add-one o ∙ ap suc (eo .0)) in (
+      h .0
+          ∙ ap (λ (y : Values). with-went (together y u d) (goes-on c to ((i + 1) * (o + 1)) (together y u d .state) (u .lists))) ev
+          ∙ ap (λ (k : ℕ). with-went (together v u d) (goes-on c to k (wires≔ (together v u d .state) (refresh-all c (v .wires))) (u .lists))) q,
+      h .1
+          ∙ ap (λ (y : Values). goes-on c to ((i + 1) * (o + 1)) (together y u d .state) (u .lists) .answer) ev
+          ∙ ap (λ (k : ℕ). goes-on c to k (wires≔ (together v u d .state) (refresh-all c (v .wires))) (u .lists) .answer) q,
+    )

@@ -1,0 +1,73 @@
+use Rattle.settling.proofs.Turns.{next-idle, next-calm, next-entry}
+use borrow.Author.Needs.{needs}
+use Rattle.settling.proofs.check_next.Statement.{statement}
+use Rattle.settling.proofs.check_next.Tie as tie
+
+take-check-requires : tie.Need-take-check-requires
+take-check-requires c κs = search needs
+
+enum-told : tie.Need-enum-told
+enum-told c = search needs
+
+enum-known-next : tie.Need-enum-known-next
+enum-known-next c = search needs
+
+check-requires : tie.Need-check-requires
+check-requires c κs = search needs
+
+enum-told-2 : tie.Need-enum-told-2
+enum-told-2 c = search needs
+
+enum-known-raised : tie.Need-enum-known-raised
+enum-known-raised c = search needs
+
+file-requires : tie.Need-file-requires
+file-requires c κs = search needs
+
+same-length : tie.Need-same-length
+same-length c = search needs
+
+returns : tie.Need-returns
+returns c = (next-idle _ _ _ _ _ _ _ (c .before .before .before .before .take-check .ensures) (c .enum-told .given .1), c .before .before .before .before .before .before .before .before .before .before .pre .3)
+
+same-length-2 : tie.Need-same-length-2
+same-length-2 c = search needs
+
+same-length-3 : tie.Need-same-length-3
+same-length-3 c = search needs
+
+returns-2 : tie.Need-returns-2
+returns-2 c = (next-calm _ _ _ _ _ _ _ (c .before .before .before .before .before .before .before .before .before .before .before .before .before .before .take-check .ensures) _ _ _ _ (c .before .before .before .before .before .before .before .before .before .before .next .given .1) (c .before .before .before .before .before .before .check .ensures .0) (c .enum-told2 .given .1), c .before .before .before .before .before .before .check .ensures .1)
+
+same-length-4 : tie.Need-same-length-4
+same-length-4 c = search needs
+
+same-length-5 : tie.Need-same-length-5
+same-length-5 c = search needs
+
+same-length-6 : tie.Need-same-length-6
+same-length-6 c = search needs
+
+returns-3 : tie.Need-returns-3
+returns-3 c = (next-entry _ _ _ _ _ _ _ (c .before .before .before .before .before .before .before .before .before .before .before .before .before .before .before .before .before .before .before .take-check .ensures) _ _ _ _ (c .before .before .before .before .before .before .before .before .before .before .before .before .before .before .before .next .given .1) (c .before .before .before .before .before .before .before .before .before .before .before .check .ensures .0) _ _ _ (c .before .before .before .before .before .raised .given .1) (c .before .before .file .ensures), c .before .before .before .before .before .before .before .before .before .before .before .check .ensures .1)
+
+pub check-next-spec : {M : Type 1} → statement M
+check-next-spec =
+    tie.close
+    (tie.spec
+    take-check-requires
+    enum-told
+    enum-known-next
+    check-requires
+    enum-told-2
+    enum-known-raised
+    file-requires
+    same-length
+    returns
+    same-length-2
+    same-length-3
+    returns-2
+    same-length-4
+    same-length-5
+    same-length-6
+    returns-3)

@@ -1,0 +1,279 @@
+// Settling: each watched input that a change reached is read again and acted on.
+ghost use mathlib.Core.Path.{_≡_};
+ghost use mathlib.Core.Bool.{true};
+ghost use Prim.Native.Nat.{ℕ, _+_, _-_, _<_, _≤_};
+ghost use lib.ListN.{length};
+ghost use Rattle.model.specs.Base.{if_then_else_};
+ghost use Rattle.model.specs.Value.{truthy};
+ghost use Rattle.model.specs.Circuit.{Circuit, input, output};
+ghost use Rattle.model.specs.State.{State, wires≔};
+ghost use Rattle.model.specs.Settle.{Settled, calm, raise, pulse, edge, check, settle};
+ghost use Rattle.links.specs.Links.{net};
+ghost use Rattle.wires.specs.View.{values as values-view};
+ghost use Rattle.states.specs.View.{Delays, delays as delays-view, Lent};
+ghost use Rattle.units.specs.View.{act-of, Units, units as units-view};
+ghost use Rattle.units.specs.Raising.{with-lists, activate, answer, lists-after};
+ghost use Rattle.areas.specs.Areas.{together, areas, with-state, with-went};
+ghost use Rattle.settling.specs.declared.Raised.the-variants.{Nothing};
+ghost use Rattle.settling.specs.Settling.{settled, filed-into};
+ghost use Rattle.settling.specs.Rounds.{Acts, acted, hit-by, goes-on, round-of, answer-of, round-answer, after-round};
+use floats::lt64;
+use links::gate_at_input;
+use links::input;
+use links::inputs;
+use links::kind_of_gate;
+use links::output;
+use links::outputs;
+use lists::Filed;
+use model::Value;
+use states::slots::buffer_input;
+use units::Place;
+use units::entries::entry;
+use units::raising::activate;
+use values::as_float;
+use values::same;
+use values::truthy;
+use wires::Remembered;
+use wires::Waiting;
+use wires::last;
+use wires::look;
+use wires::pulse;
+use wires::ready;
+use wires::refresh_all;
+use wires::set_last;
+use wires::take_check;
+
+// The forms of an activation: Fire, by a pin, by an output.
+const FIRE: usize = 0;
+
+const BY_PIN: usize = 16;
+
+const BY_OUTPUT: usize = 32;
+
+// A form is below this.
+const FORMS: usize = 0x1_0000;
+
+// What a check raises: nothing, or the activation of an entry.
+pub enum Raised {
+    Nothing,
+    Entry(u64),
+}
+
+// How a value moved.
+enum Edge {
+    Rising,
+    Falling,
+    Level,
+}
+
+// What a round came to: nothing waits, a check was made, or what it raised found its list full.
+enum Round {
+    Idle,
+    Done,
+    Full,
+}
+
+// How a value moved, as a Float; nothing is 0.0.
+fn edge_of(was: Value, v: Value) -> Edge
+    ensures { λ r. ⌜ ((c : Circuit) (s : State) (hit : State → ℕ → Settled) → hit-by r s hit ≡ edge c s was v hit) ⌝ }
+{
+    let before = as_float(was, 0);
+    let after = as_float(v, 0);
+    if lt64(before, after) {
+        return Edge::Rising;
+    }
+    if lt64(after, before) {
+        return Edge::Falling;
+    }
+    Edge::Level
+}
+
+// An Edge: its output for the direction goes up.
+fn edge_pulse(links: &[usize], values: &mut [u8], g: usize, was: Value, v: Value)
+    requires { ⌜ (length (now links) ≡ 4816) × (65536 ≤ length (now values)) ⌝ }
+    ensures { λ _. ⌜ ((d : Delays) → Acts (net (now (links .entry))) (values-view (net (now (links .entry))) (now (values .entry))) d (values-view (net (now (links .entry))) (now (values .exit))) d (λ s. edge (net (now (links .entry))) s was v (λ t o. calm (wires≔ t (pulse (net (now (links .entry))) (t .wires) (output (net (now (links .entry))) g o))))) Nothing) ⌝ }
+{
+    let e = edge_of(was, v);
+    match e {
+        Edge::Rising => {
+            pulse(links, values, output(links, g, 0));
+        }
+        Edge::Falling => {
+            pulse(links, values, output(links, g, 1));
+        }
+        Edge::Level => {}
+    }
+}
+
+// An EdgeExec: it is raised, by its output for the direction.
+fn edge_raised(g: usize, was: Value, v: Value) -> Raised
+    ensures { λ r. ⌜ (g < 65536 → (c : Circuit) (s : State) → settled c s r ≡ edge c s was v (λ t o. raise t g (32 + o))) ⌝ }
+{
+    let e = edge_of(was, v);
+    match e {
+        Edge::Rising => Raised::Entry(entry(g, BY_OUTPUT, 0)),
+        Edge::Falling => Raised::Entry(entry(g, BY_OUTPUT + 1, 0)),
+        Edge::Level => Raised::Nothing,
+    }
+}
+
+// How far i is past the first, and 0 where it is before.
+fn past(i: usize, first: usize) -> usize
+    ensures { λ r. ⌜ r ≡ i - first ⌝ }
+{
+    if i < first {
+        return 0;
+    }
+    i - first
+}
+
+// Input i of gate g, an exec pin: the gate is raised where the value is true.
+fn pin_raised(links: &[usize], g: usize, i: usize, v: Value) -> Raised
+    requires { ⌜ length (now links) ≡ 4816 ⌝ }
+    ensures { λ r. ⌜ (g < 65536 → (truthy v ≡ true → i < 640) → (s : State) → settled (net (now (links .entry))) s r ≡ (if truthy v then raise s g (16 + (i - input (net (now (links .entry))) g 0)) else calm s)) ⌝ }
+{
+    if truthy(v) {
+        let p = past(i, input(links, g, 0));
+        return Raised::Entry(entry(g, BY_PIN + p % FORMS, 0));
+    }
+    Raised::Nothing
+}
+
+// What watched input i reads changed from `was` to v: a detector, a value buffer, or an exec pin.
+fn detect(
+    links: &[usize],
+    values: &mut [u8],
+    delays: &mut [u8],
+    i: usize,
+    was: Value,
+    v: Value,
+) -> Raised
+    requires { ⌜ (length (now links) ≡ 4816) × (65536 ≤ length (now values)) × Lent (net (now links)) (now delays) ⌝ }
+    ensures { λ r. ⌜ ((truthy v ≡ true → i < 640) → Acts (net (now (links .entry))) (values-view (net (now (links .entry))) (now (values .entry))) (delays-view (net (now (links .entry))) (now (delays .entry))) (values-view (net (now (links .entry))) (now (values .exit))) (delays-view (net (now (links .entry))) (now (delays .exit))) (acted (net (now (links .entry))) i was v) r) ⌝ }
+    ensures { λ _. ⌜ Lent (net (now (links .entry))) (now (delays .exit)) ⌝ }
+{
+    let g = gate_at_input(links, i);
+    match kind_of_gate(links, g) {
+        // a ChangeDetector
+        6 => Raised::Entry(entry(g, FIRE, 0)),
+        // an Edge
+        7 => {
+            edge_pulse(links, values, g, was, v);
+            Raised::Nothing
+        }
+        // a Change
+        8 => {
+            pulse(links, values, output(links, g, 0));
+            Raised::Nothing
+        }
+        // an EdgeExec
+        9 => edge_raised(g, was, v),
+        // a buffer
+        10 | 12 => {
+            buffer_input(links, delays, g, v);
+            Raised::Nothing
+        }
+        // an exec pin
+        _ => pin_raised(links, g, i, v),
+    }
+}
+
+// Watched input i is read again, and acted on if it changed.
+pub fn check(links: &[usize], values: &mut [u8], delays: &mut [u8], i: usize) -> Raised
+    requires { ⌜ (length (now links) ≡ 4816) × (65536 ≤ length (now values)) × Lent (net (now links)) (now delays) ⌝ }
+    ensures { λ r. ⌜ ((u : Units) → (together (values-view (net (now (links .entry))) (now (values .exit))) u (delays-view (net (now (links .entry))) (now (delays .exit))) ≡ with-state (together (values-view (net (now (links .entry))) (now (values .entry))) u (delays-view (net (now (links .entry))) (now (delays .entry)))) (check (net (now (links .entry))) (together (values-view (net (now (links .entry))) (now (values .entry))) u (delays-view (net (now (links .entry))) (now (delays .entry))) .state) i .state)) × (settled (net (now (links .entry))) (check (net (now (links .entry))) (together (values-view (net (now (links .entry))) (now (values .entry))) u (delays-view (net (now (links .entry))) (now (delays .entry))) .state) i .state) r ≡ check (net (now (links .entry))) (together (values-view (net (now (links .entry))) (now (values .entry))) u (delays-view (net (now (links .entry))) (now (delays .entry))) .state) i)) ⌝ }
+    ensures { λ _. ⌜ Lent (net (now (links .entry))) (now (delays .exit)) ⌝ }
+{
+    let was = last(links, values, i);
+    ready(links, values, i);
+    let v = look(links, values, i);
+    set_last(links, values, i, v);
+    match was {
+        Remembered::Nothing => detect(links, values, delays, i, Value::Nothing, v),
+        Remembered::Read(u) => {
+            if same(u, v) {
+                return Raised::Nothing;
+            }
+            detect(links, values, delays, i, u, v)
+        }
+    }
+}
+
+// Entry x is filed where `to` says.
+fn file(links: &[usize], units: &mut [u8], to: Place, x: u64) -> Round
+    requires { ⌜ (length (now links) ≡ 4816) × (65536 ≤ length (now units)) ⌝ }
+    ensures { λ r. ⌜ (r ≡ answer-of (answer (activate (net (now (links .entry))) to (act-of (net (now (links .entry))) x) (units-view (net (now (links .entry))) (now (units .entry)) .lists)))) × (units-view (net (now (links .entry))) (now (units .exit)) ≡ with-lists (units-view (net (now (links .entry))) (now (units .entry))) (lists-after (units-view (net (now (links .entry))) (now (units .entry)) .lists) (activate (net (now (links .entry))) to (act-of (net (now (links .entry))) x) (units-view (net (now (links .entry))) (now (units .entry)) .lists)))) ⌝ }
+{
+    let filed = activate(links, units, to, x);
+    match filed {
+        Filed::Full => Round::Full,
+        Filed::Done => Round::Done,
+    }
+}
+
+// A round: the input that waits longest is checked, and what this raises is filed.
+fn check_next(
+    links: &[usize],
+    values: &mut [u8],
+    units: &mut [u8],
+    delays: &mut [u8],
+    to: Place,
+) -> Round
+    requires { ⌜ (length (now links) ≡ 4816) × (65536 ≤ length (now values)) × (65536 ≤ length (now units)) × Lent (net (now links)) (now delays) ⌝ }
+    ensures { λ r. ⌜ (r ≡ round-answer (round-of (net (now (links .entry))) to (areas (net (now (links .entry))) (now (values .entry)) (now (units .entry)) (now (delays .entry)) .state) (areas (net (now (links .entry))) (now (values .entry)) (now (units .entry)) (now (delays .entry)) .lists))) × (areas (net (now (links .entry))) (now (values .exit)) (now (units .exit)) (now (delays .exit)) ≡ after-round (areas (net (now (links .entry))) (now (values .entry)) (now (units .entry)) (now (delays .entry))) (round-of (net (now (links .entry))) to (areas (net (now (links .entry))) (now (values .entry)) (now (units .entry)) (now (delays .entry)) .state) (areas (net (now (links .entry))) (now (values .entry)) (now (units .entry)) (now (delays .entry)) .lists))) ⌝ }
+    ensures { λ _. ⌜ Lent (net (now (links .entry))) (now (delays .exit)) ⌝ }
+{
+    let next = take_check(links, values);
+    match next {
+        Waiting::Nothing => Round::Idle,
+        Waiting::Input(i) => {
+            let raised = check(links, values, delays, i);
+            match raised {
+                Raised::Nothing => Round::Done,
+                Raised::Entry(x) => file(links, units, to, x),
+            }
+        }
+    }
+}
+
+// At most n rounds, up to the first that finds nothing waiting or a list full.
+fn settle_on(
+    links: &[usize],
+    values: &mut [u8],
+    units: &mut [u8],
+    delays: &mut [u8],
+    to: Place,
+    n: usize,
+) -> Filed
+    requires { ⌜ (length (now links) ≡ 4816) × (65536 ≤ length (now values)) × (65536 ≤ length (now units)) × Lent (net (now links)) (now delays) ⌝ }
+    ensures { λ r. ⌜ (areas (net (now (links .entry))) (now (values .exit)) (now (units .exit)) (now (delays .exit)) ≡ with-went (areas (net (now (links .entry))) (now (values .entry)) (now (units .entry)) (now (delays .entry))) (goes-on (net (now (links .entry))) to n (areas (net (now (links .entry))) (now (values .entry)) (now (units .entry)) (now (delays .entry)) .state) (areas (net (now (links .entry))) (now (values .entry)) (now (units .entry)) (now (delays .entry)) .lists))) × (r ≡ goes-on (net (now (links .entry))) to n (areas (net (now (links .entry))) (now (values .entry)) (now (units .entry)) (now (delays .entry)) .state) (areas (net (now (links .entry))) (now (values .entry)) (now (units .entry)) (now (delays .entry)) .lists) .answer) ⌝ }
+    ensures { λ _. ⌜ Lent (net (now (links .entry))) (now (delays .exit)) ⌝ }
+{
+    let mut k = n;
+    while k > 0 {
+        let round = check_next(links, values, units, delays, to);
+        match round {
+            Round::Idle => return Filed::Done,
+            Round::Full => return Filed::Full,
+            Round::Done => k -= 1,
+        }
+    }
+    Filed::Done
+}
+
+// What is stale is refreshed, then each input that waits is checked; what this raises goes where `to` says, up to the first that finds its list full.
+pub fn settle(
+    links: &[usize],
+    values: &mut [u8],
+    units: &mut [u8],
+    delays: &mut [u8],
+    to: Place,
+) -> Filed
+    requires { ⌜ (length (now links) ≡ 4816) × (65536 ≤ length (now values)) × (65536 ≤ length (now units)) × Lent (net (now links)) (now delays) ⌝ }
+    ensures { λ r. ⌜ (areas (net (now (links .entry))) (now (values .exit)) (now (units .exit)) (now (delays .exit)) ≡ with-went (areas (net (now (links .entry))) (now (values .entry)) (now (units .entry)) (now (delays .entry))) (filed-into (net (now (links .entry))) to (settle (net (now (links .entry))) (areas (net (now (links .entry))) (now (values .entry)) (now (units .entry)) (now (delays .entry)) .state)) (areas (net (now (links .entry))) (now (values .entry)) (now (units .entry)) (now (delays .entry)) .lists))) × (r ≡ filed-into (net (now (links .entry))) to (settle (net (now (links .entry))) (areas (net (now (links .entry))) (now (values .entry)) (now (units .entry)) (now (delays .entry)) .state)) (areas (net (now (links .entry))) (now (values .entry)) (now (units .entry)) (now (delays .entry)) .lists) .answer) ⌝ }
+    ensures { λ _. ⌜ Lent (net (now (links .entry))) (now (delays .exit)) ⌝ }
+{
+    refresh_all(links, values);
+    let rounds = (inputs(links) + 1) * (outputs(links) + 1);
+    settle_on(links, values, units, delays, to, rounds)
+}

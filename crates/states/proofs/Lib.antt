@@ -1,0 +1,4 @@
+pub mod Lists
+pub mod Stores
+pub mod Lending
+pub mod Firing

@@ -1,0 +1,469 @@
+// The slot of a gate: value buffers, buffers in exec mode, Clocks and Stopwatches. Each gate has room for all of them, whatever its kind.
+ghost use mathlib.Core.Path.{_≡_};
+ghost use mathlib.Core.Bool.{true, cond};
+ghost use mathlib.Core.List.{[]};
+ghost use mathlib.Core.Option.{some};
+ghost use Prim.Native.Nat.{_≤_};
+ghost use lib.Dec.{leb, ltb};
+ghost use lib.ListN.{length, take};
+ghost use Rattle.words.specs.Words.{words};
+ghost use Rattle.lists.specs.declared.Filed.the-variants.{Full, Done};
+ghost use Rattle.model.specs.Value.{truthy, bit};
+ghost use Rattle.model.specs.Circuit.{part, kind-of-gate};
+ghost use Rattle.model.specs.State.{flight≔, fires≔};
+ghost use Rattle.model.specs.Delays.{launch, buffer-input, advance-flight, advance-fires, advance-elapsed, advance-time, pressed};
+ghost use Rattle.model.specs.Exec.{countdown, most-fires};
+ghost use Rattle.delays.specs.States.{counted, counts-seconds, flight-of, later-of, row-of, fires-of, add-fire, stopwatch-moved};
+ghost use Rattle.links.specs.Links.{net};
+// The definition `delays` is named `view` here, beside the slice of that name.
+ghost use Rattle.states.specs.View.{flight-in, later-in, fires-in, delays as view, delay-in, with-delay, Lent, Moves};
+ghost use Rattle.states.specs.Slots.{Becomes, Becomes-any, Becomes-by, Turns, Turns-any, Added};
+use delays::buffer::Buffer;
+use delays::buffer::Flight;
+use delays::buffer::Optional;
+use delays::clock::Clock;
+use delays::countdown::Countdown;
+use delays::countdown::buffer_countdown;
+use delays::countdown::of_word;
+use delays::fires::Fires;
+use delays::stopwatch::Stopwatch;
+use links::gates;
+use links::kind_of_gate;
+use links::setting;
+use lists::Filed;
+use model::Value;
+use values::content_of;
+use values::kind_of;
+use values::truthy;
+use values::value_of;
+use words::get;
+use words::put;
+
+// Where the words of a slot stand. First the seconds so far, and a mark if it runs.
+const ELAPSED: usize = 0;
+
+const RUNNING: usize = 1;
+
+// The value in flight: a mark, its kind, its content and its countdown.
+const FLIGHT: usize = 2;
+
+const FLIGHT_KIND: usize = 3;
+
+const FLIGHT_CONTENT: usize = 4;
+
+const FLIGHT_LEFT: usize = 5;
+
+// The later input: a mark, its kind and its content.
+const LATER: usize = 6;
+
+const LATER_KIND: usize = 7;
+
+const LATER_CONTENT: usize = 8;
+
+// The fires under way: where the first one stands, how many they are, and where their places begin.
+const FIRST: usize = 9;
+
+const COUNT: usize = 10;
+
+const FIRES: usize = 11;
+
+// The most fires that can be under way.
+const MOST: usize = 32;
+
+// Where the slots begin, and how many words and bytes each has.
+const SLOTS: usize = 64;
+
+const SLOT: usize = 43;
+
+const SLOT_BYTES: usize = 344;
+
+// From this kind on countdowns are in seconds.
+const SECONDS: u64 = 12;
+
+// ---- a slot
+
+// v is in flight, with its countdown.
+fn launch(slot: &mut [u8], v: Value, k: Countdown)
+    requires { ⌜ length (now slot) ≡ 344 ⌝ }
+    ensures { λ _. ⌜ Becomes (counts-seconds (counted k)) (words (now (slot .entry))) (words (now (slot .exit))) (λ d. flight≔ d (launch v (counted k)) (d .later)) ⌝ }
+{
+    put(slot, FLIGHT, 1);
+    put(slot, FLIGHT_KIND, kind_of(v));
+    put(slot, FLIGHT_CONTENT, content_of(v));
+    put(slot, FLIGHT_LEFT, k.word());
+}
+
+// v is the last later input.
+fn remember(slot: &mut [u8], v: Value)
+    requires { ⌜ length (now slot) ≡ 344 ⌝ }
+    ensures { λ _. ⌜ Becomes-any (words (now (slot .entry))) (words (now (slot .exit))) (λ d. flight≔ d (d .flight) (some v)) ⌝ }
+{
+    put(slot, LATER, 1);
+    put(slot, LATER_KIND, kind_of(v));
+    put(slot, LATER_CONTENT, content_of(v));
+}
+
+// What is in flight goes into the slot.
+fn store_flight(slot: &mut [u8], flight: Flight)
+    requires { ⌜ length (now slot) ≡ 344 ⌝ }
+    ensures { λ _. ⌜ Becomes-by (flight-of flight) (words (now (slot .entry))) (words (now (slot .exit))) (λ d. flight≔ d (flight-of flight) (d .later)) ⌝ }
+{
+    match flight {
+        Flight::Empty => put(slot, FLIGHT, 0),
+        Flight::Of(v, k) => launch(slot, v, k),
+    }
+}
+
+// The last later input goes into the slot, or that there is none.
+fn store_later(slot: &mut [u8], later: Optional)
+    requires { ⌜ length (now slot) ≡ 344 ⌝ }
+    ensures { λ _. ⌜ Becomes-any (words (now (slot .entry))) (words (now (slot .exit))) (λ d. flight≔ d (d .flight) (later-of later)) ⌝ }
+{
+    match later {
+        Optional::None => put(slot, LATER, 0),
+        Optional::Some(v) => remember(slot, v),
+    }
+}
+
+// A value buffer goes into the slot.
+fn store_buffer(slot: &mut [u8], b: Buffer)
+    requires { ⌜ length (now slot) ≡ 344 ⌝ }
+    ensures { λ _. ⌜ Becomes-by (flight-of (b .flight)) (words (now (slot .entry))) (words (now (slot .exit))) (λ d. flight≔ d (flight-of (b .flight)) (later-of (b .later))) ⌝ }
+{
+    let flight = b.flight;
+    let later = b.later;
+    store_flight(slot, flight);
+    store_later(slot, later);
+}
+
+// What is in flight in the slot.
+fn load_flight(slot: &[u8], seconds: bool) -> Flight
+    requires { ⌜ length (now slot) ≡ 344 ⌝ }
+    ensures { λ r. ⌜ flight-of r ≡ flight-in seconds (words (now (slot .entry))) ⌝ }
+{
+    if get(slot, FLIGHT) == 0 {
+        return Flight::Empty;
+    }
+    let v = value_of(get(slot, FLIGHT_KIND), get(slot, FLIGHT_CONTENT));
+    Flight::Of(v, of_word(seconds, get(slot, FLIGHT_LEFT)))
+}
+
+// The last later input in the slot, or none.
+fn load_later(slot: &[u8]) -> Optional
+    requires { ⌜ length (now slot) ≡ 344 ⌝ }
+    ensures { λ r. ⌜ later-of r ≡ later-in (words (now (slot .entry))) ⌝ }
+{
+    if get(slot, LATER) == 0 {
+        return Optional::None;
+    }
+    Optional::Some(value_of(get(slot, LATER_KIND), get(slot, LATER_CONTENT)))
+}
+
+// The value buffer in the slot.
+fn load_buffer(slot: &[u8], seconds: bool) -> Buffer
+    requires { ⌜ length (now slot) ≡ 344 ⌝ }
+    ensures { λ r. ⌜ (flight-of (r .flight) ≡ flight-in seconds (words (now (slot .entry)))) × (later-of (r .later) ≡ later-in (words (now (slot .entry)))) ⌝ }
+{
+    let flight = load_flight(slot, seconds);
+    let later = load_later(slot);
+    Buffer {
+        flight: flight,
+        later: later,
+        landed: Optional::None,
+    }
+}
+
+// A new input with its countdown.
+fn input(slot: &mut [u8], seconds: bool, v: Value, k: Countdown)
+    requires { ⌜ (length (now slot) ≡ 344) × (counts-seconds (counted k) ≡ seconds) ⌝ }
+    ensures { λ _. ⌜ Becomes seconds (words (now (slot .entry))) (words (now (slot .exit))) (λ d. buffer-input d v (counted k)) ⌝ }
+{
+    let b = load_buffer(slot, seconds);
+    let next = b.input(v, k);
+    store_buffer(slot, next);
+}
+
+// One tick: the value in flight lands when its countdown is due.
+fn fly(links: &[usize], slot: &mut [u8], g: usize, seconds: bool, dt: u32) -> Optional
+    requires { ⌜ (length (now links) ≡ 4816) × (length (now slot) ≡ 344) × (seconds ≡ leb 12 (kind-of-gate (net (now links)) g)) ⌝ }
+    ensures { λ r. ⌜ Turns seconds (words (now (slot .entry))) (words (now (slot .exit))) (advance-flight (λ v. countdown (net (now (links .entry))) g (truthy v)) dt) (row-of r) 0 ⌝ }
+{
+    if get(slot, FLIGHT) == 0 {
+        return Optional::None;
+    }
+    let b = load_buffer(slot, seconds);
+    let next = b.advance(dt, seconds, setting(links, g, 1), setting(links, g, 2));
+    let landed = next.landed;
+    store_buffer(slot, next);
+    landed
+}
+
+// The places of the fires in the slot.
+fn load_places(slot: &[u8]) -> [u64; 32]
+    requires { ⌜ length (now slot) ≡ 344 ⌝ }
+    ensures { λ r. ⌜ r ≡ part (words (now (slot .entry))) 11 32 ⌝ }
+{
+    let mut places = [0; 32];
+    let mut i: usize = 0;
+    while i < MOST {
+        places[i] = get(slot, FIRES + i);
+        i += 1;
+    }
+    places
+}
+
+// The places of the fires go into the slot.
+fn store_places(slot: &mut [u8], places: [u64; 32])
+    requires { ⌜ length (now slot) ≡ 344 ⌝ }
+    ensures { λ _. ⌜ (take 11 (words (now (slot .exit))) ≡ take 11 (words (now (slot .entry)))) × (part (words (now (slot .exit))) 11 32 ≡ places) ⌝ }
+{
+    let mut i: usize = 0;
+    while i < MOST {
+        put(slot, FIRES + i, places[i]);
+        i += 1;
+    }
+}
+
+// The buffer in exec mode in the slot.
+fn load_fires(slot: &[u8], seconds: bool) -> Fires
+    requires { ⌜ length (now slot) ≡ 344 ⌝ }
+    ensures { λ r. ⌜ (r .seconds ≡ seconds) × (fires-of r ≡ fires-in seconds (words (now (slot .entry)))) ⌝ }
+{
+    let first = get(slot, FIRST) as usize;
+    let count = get(slot, COUNT) as usize;
+    let words = load_places(slot);
+    Fires {
+        seconds,
+        first,
+        count,
+        words,
+        fired: 0,
+    }
+}
+
+// A buffer in exec mode goes into the slot.
+fn store_fires(slot: &mut [u8], fires: Fires)
+    requires { ⌜ length (now slot) ≡ 344 ⌝ }
+    ensures { λ _. ⌜ Becomes (fires .seconds) (words (now (slot .entry))) (words (now (slot .exit))) (λ d. fires≔ d (fires-of fires)) ⌝ }
+{
+    put(slot, FIRST, fires.first as u64);
+    put(slot, COUNT, fires.count as u64);
+    let places = fires.words;
+    store_places(slot, places);
+}
+
+// One fire more, if there is room.
+fn start_fire(links: &[usize], slot: &mut [u8], g: usize, seconds: bool) -> Filed
+    requires { ⌜ (length (now links) ≡ 4816) × (length (now slot) ≡ 344) × (seconds ≡ leb 12 (kind-of-gate (net (now links)) g)) ⌝ }
+    ensures { λ r. ⌜ Added seconds (words (now (slot .entry))) (words (now (slot .exit))) (countdown (net (now (links .entry))) g true) r ⌝ }
+{
+    if MOST <= get(slot, COUNT) as usize {
+        return Filed::Full;
+    }
+    let fires = load_fires(slot, seconds);
+    let next = fires.add(setting(links, g, 1));
+    store_fires(slot, next);
+    Filed::Done
+}
+
+// A tick of the length dt: all fires count down, and those due leave from the front and fire.
+fn run_fires(slot: &mut [u8], seconds: bool, dt: u32) -> usize
+    requires { ⌜ length (now slot) ≡ 344 ⌝ }
+    ensures { λ r. ⌜ Turns seconds (words (now (slot .entry))) (words (now (slot .exit))) (advance-fires dt) [] r ⌝ }
+    ensures { λ r. ⌜ r ≤ 32 ⌝ }
+{
+    if get(slot, COUNT) == 0 {
+        return 0;
+    }
+    let fires = load_fires(slot, seconds);
+    let next = fires.advance(dt);
+    store_fires(slot, next);
+    next.fired
+}
+
+// A mark as a word.
+fn bit_of(mark: bool) -> u64
+    ensures { λ r. ⌜ r ≡ bit mark ⌝ }
+{
+    if mark { 1 } else { 0 }
+}
+
+// A Clock moves on by a tick: whether it fires. Disabled it keeps its time.
+fn run_clock(slot: &mut [u8], dt: u64, interval: u64, enabled: bool) -> bool
+    requires { ⌜ length (now slot) ≡ 344 ⌝ }
+    ensures { λ r. ⌜ Turns-any (words (now (slot .entry))) (words (now (slot .exit))) (advance-elapsed dt interval enabled) [] (bit r) ⌝ }
+{
+    if !enabled {
+        return false;
+    }
+    let clock = Clock {
+        elapsed: get(slot, ELAPSED),
+        fired: false,
+    };
+    let next = clock.advance(dt, interval, enabled);
+    put(slot, ELAPSED, next.elapsed);
+    put(slot, RUNNING, 0);
+    next.fired
+}
+
+// A Stopwatch moves on by a tick, if it runs.
+fn run_stopwatch(slot: &mut [u8], dt: u64, limit: u64) -> Stopwatch
+    requires { ⌜ length (now slot) ≡ 344 ⌝ }
+    ensures { λ r. ⌜ Turns-any (words (now (slot .entry))) (words (now (slot .exit))) (advance-time dt limit) (stopwatch-moved r .row) (stopwatch-moved r .fires) ⌝ }
+{
+    let time = get(slot, ELAPSED);
+    let running = get(slot, RUNNING) != 0;
+    let stopwatch = Stopwatch {
+        time,
+        running,
+        shows: false,
+        expired: false,
+    };
+    if !running {
+        return stopwatch;
+    }
+    let next = stopwatch.advance(dt, limit);
+    put(slot, ELAPSED, next.time);
+    put(slot, RUNNING, bit_of(next.running));
+    next
+}
+
+// A pin of a Stopwatch: 0 Restart, 2 Resume, any other Pause.
+fn press(slot: &mut [u8], p: usize)
+    requires { ⌜ length (now slot) ≡ 344 ⌝ }
+    ensures { λ _. ⌜ Becomes-any (words (now (slot .entry))) (words (now (slot .exit))) (pressed p) ⌝ }
+{
+    if p == 0 {
+        put(slot, ELAPSED, 0);
+        put(slot, RUNNING, 1);
+        return;
+    }
+    put(slot, RUNNING, bit_of(p == 2));
+}
+
+// ---- gates
+
+// Gate g, a value buffer, gets a new input.
+pub fn buffer_input(links: &[usize], delays: &mut [u8], g: usize, v: Value)
+    requires { ⌜ (length (now links) ≡ 4816) × Lent (net (now links)) (now delays) ⌝ }
+    ensures { λ _. ⌜ view (net (now (links .entry))) (now (delays .exit)) ≡ with-delay (view (net (now (links .entry))) (now (delays .entry))) g (buffer-input (delay-in (view (net (now (links .entry))) (now (delays .entry))) g) v (countdown (net (now (links .entry))) g (truthy v))) ⌝ }
+{
+    if gates(links) <= g {
+        return;
+    }
+    let seconds = SECONDS <= kind_of_gate(links, g);
+    let k = buffer_countdown(
+        seconds,
+        truthy(v),
+        setting(links, g, 1),
+        setting(links, g, 2),
+    );
+    let a = (SLOTS + SLOT * g) * 8;
+    let e = a + SLOT_BYTES;
+    input(&mut delays[a..e], seconds, v, k);
+}
+
+// Gate g, a value buffer, moves on by a tick of the length dt in f32 bits: what lands.
+pub fn buffer_advance(links: &[usize], delays: &mut [u8], g: usize, dt: u32) -> Optional
+    requires { ⌜ (length (now links) ≡ 4816) × Lent (net (now links)) (now delays) ⌝ }
+    ensures { λ r. ⌜ Moves (view (net (now (links .entry))) (now (delays .entry))) (view (net (now (links .entry))) (now (delays .exit))) g (advance-flight (λ v. countdown (net (now (links .entry))) g (truthy v)) dt (delay-in (view (net (now (links .entry))) (now (delays .entry))) g)) (row-of r) 0 ⌝ }
+{
+    if gates(links) <= g {
+        return Optional::None;
+    }
+    let seconds = SECONDS <= kind_of_gate(links, g);
+    let a = (SLOTS + SLOT * g) * 8;
+    let e = a + SLOT_BYTES;
+    fly(links, &mut delays[a..e], g, seconds, dt)
+}
+
+// One fire more of gate g, a buffer in exec mode, if there is room.
+pub fn add_fire(links: &[usize], delays: &mut [u8], g: usize) -> Filed
+    requires { ⌜ (length (now links) ≡ 4816) × Lent (net (now links)) (now delays) ⌝ }
+    ensures { λ r. ⌜ (r ≡ cond (ltb (length (delay-in (view (net (now (links .entry))) (now (delays .entry))) g .fires)) most-fires) Done Full) × (view (net (now (links .entry))) (now (delays .exit)) ≡ with-delay (view (net (now (links .entry))) (now (delays .entry))) g (add-fire (delay-in (view (net (now (links .entry))) (now (delays .entry))) g) (countdown (net (now (links .entry))) g true))) ⌝ }
+{
+    if gates(links) <= g {
+        return Filed::Done;
+    }
+    let seconds = SECONDS <= kind_of_gate(links, g);
+    let a = (SLOTS + SLOT * g) * 8;
+    let e = a + SLOT_BYTES;
+    start_fire(links, &mut delays[a..e], g, seconds)
+}
+
+// Gate g, a buffer in exec mode, moves on by a tick: how many fire.
+pub fn fires_advance(links: &[usize], delays: &mut [u8], g: usize, dt: u32) -> usize
+    requires { ⌜ (length (now links) ≡ 4816) × Lent (net (now links)) (now delays) ⌝ }
+    ensures { λ r. ⌜ Moves (view (net (now (links .entry))) (now (delays .entry))) (view (net (now (links .entry))) (now (delays .exit))) g (advance-fires dt (delay-in (view (net (now (links .entry))) (now (delays .entry))) g)) [] r ⌝ }
+    ensures { λ r. ⌜ r ≤ 32 ⌝ }
+{
+    if gates(links) <= g {
+        return 0;
+    }
+    let seconds = SECONDS <= kind_of_gate(links, g);
+    let a = (SLOTS + SLOT * g) * 8;
+    let e = a + SLOT_BYTES;
+    run_fires(&mut delays[a..e], seconds, dt)
+}
+
+// Gate g, a Clock, moves on by a tick of dt seconds: whether it fires.
+pub fn clock_advance(
+    links: &[usize],
+    delays: &mut [u8],
+    g: usize,
+    dt: u64,
+    interval: u64,
+    enabled: bool,
+) -> bool
+    requires { ⌜ (length (now links) ≡ 4816) × Lent (net (now links)) (now delays) ⌝ }
+    ensures { λ r. ⌜ Moves (view (net (now (links .entry))) (now (delays .entry))) (view (net (now (links .entry))) (now (delays .exit))) g (advance-elapsed dt interval enabled (delay-in (view (net (now (links .entry))) (now (delays .entry))) g)) [] (bit r) ⌝ }
+{
+    if gates(links) <= g {
+        let clock = Clock {
+            elapsed: 0,
+            fired: false,
+        };
+        let next = clock.advance(dt, interval, enabled);
+        return next.fired;
+    }
+    let a = (SLOTS + SLOT * g) * 8;
+    let e = a + SLOT_BYTES;
+    run_clock(&mut delays[a..e], dt, interval, enabled)
+}
+
+// Gate g, a Stopwatch, moves on by a tick of dt seconds: its state, with what it shows and whether it expires.
+pub fn stopwatch_advance(
+    links: &[usize],
+    delays: &mut [u8],
+    g: usize,
+    dt: u64,
+    limit: u64,
+) -> Stopwatch
+    requires { ⌜ (length (now links) ≡ 4816) × Lent (net (now links)) (now delays) ⌝ }
+    ensures { λ r. ⌜ Moves (view (net (now (links .entry))) (now (delays .entry))) (view (net (now (links .entry))) (now (delays .exit))) g (advance-time dt limit (delay-in (view (net (now (links .entry))) (now (delays .entry))) g)) (stopwatch-moved r .row) (stopwatch-moved r .fires) ⌝ }
+{
+    if gates(links) <= g {
+        return Stopwatch {
+            time: 0,
+            running: false,
+            shows: false,
+            expired: false,
+        };
+    }
+    let a = (SLOTS + SLOT * g) * 8;
+    let e = a + SLOT_BYTES;
+    run_stopwatch(&mut delays[a..e], dt, limit)
+}
+
+// A pin of gate g, a Stopwatch: 0 Restart, 2 Resume, any other Pause.
+pub fn stopwatch_press(links: &[usize], delays: &mut [u8], g: usize, p: usize)
+    requires { ⌜ (length (now links) ≡ 4816) × Lent (net (now links)) (now delays) ⌝ }
+    ensures { λ _. ⌜ view (net (now (links .entry))) (now (delays .exit)) ≡ with-delay (view (net (now (links .entry))) (now (delays .entry))) g (pressed p (delay-in (view (net (now (links .entry))) (now (delays .entry))) g)) ⌝ }
+{
+    if gates(links) <= g {
+        return;
+    }
+    let a = (SLOTS + SLOT * g) * 8;
+    let e = a + SLOT_BYTES;
+    press(&mut delays[a..e], p);
+}

@@ -1,0 +1,6 @@
+pub mod Rows
+pub mod Making
+pub mod Wiring
+pub mod Timing
+pub mod Arms
+pub mod Far

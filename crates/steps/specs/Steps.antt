@@ -1,0 +1,25 @@
+-- What the code's step answers, and what it makes of the areas.
+use Prim.Native.Nat.{ℕ, _^_, min}
+use mathlib.Core.Path.{_≡_}
+use mathlib.Core.Bool.{true, false}
+use mathlib.Core.Option.{none, some}
+use Rattle.model.specs.State.{State}
+use Rattle.model.specs.Exec.{Stepped}
+use Rattle.areas.specs.Areas.{Areas, with-state}
+use Rattle.steps.specs.declared.Step.{Step}
+use Rattle.steps.specs.declared.Step.the-variants.{Fires, Ends, Full}
+
+-- a state and an answer, as the definition has them
+unfoldable pub stepped : State → Step → Stepped
+stepped s (Fires o) = record { state = s; next = some o; full = false }
+stepped s Ends = record { state = s; next = none; full = false }
+stepped s Full = record { state = s; next = none; full = true }
+
+-- the areas a became b, with the answer r, as the definition's step d
+pub record Makes (a b : Areas) (r : Step) (d : Stepped) : Type 0 where
+  pub state : b ≡ with-state a (d .state)
+  pub answer : stepped (d .state) r ≡ d
+
+-- No circuit has an input from 2 ^ 63 on, and the code takes them all for this one.
+unfoldable pub near : ℕ → ℕ
+near i = min i (2 ^ 63)

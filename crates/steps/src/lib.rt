@@ -1,0 +1,255 @@
+// One step of a chain: a gate, entered through one of its inputs, by kind.
+ghost use Prim.Native.Nat.{_-_, _^_, _≤_};
+ghost use mathlib.Core.Path.{_≡_};
+ghost use mathlib.Core.Bool.{true};
+ghost use lib.Dec.{eqb};
+ghost use lib.ListN.{length};
+ghost use Rattle.model.specs.Circuit.{kind-of-gate, input};
+ghost use Rattle.model.specs.Exec.{var, exec-Buffer, exec-Stopwatch, exec-Queue, exec-VarGet, exec-VarSet, exec-Branch, exec-Union, exec-Toggle, exec-Cycle, exec-SendEvent, exec-gate};
+ghost use Rattle.links.specs.Links.{net};
+ghost use Rattle.wires.specs.View.{Values, values as values-view};
+ghost use Rattle.units.specs.View.{Units, units as units-view};
+ghost use Rattle.states.specs.View.{Delays, delays as delays-view, is-queue, queue-countdown, Lent};
+ghost use Rattle.areas.specs.Areas.{together, areas};
+ghost use Rattle.steps.specs.Steps.{Makes, near};
+use cycle::cycle_next;
+use links::gate_at_input;
+use links::input;
+use links::kind_of_gate;
+use links::output;
+use links::setting;
+use lists::Filed;
+use model::Value;
+use parts::queue_record;
+use reading::look_row;
+use reading::readied;
+use states::slots::add_fire;
+use states::slots::stopwatch_press;
+use units::events::has_sent;
+use units::events::send;
+use values::as_int;
+use values::truthy;
+use wires::look;
+use wires::pass;
+use wires::passed;
+use wires::ready;
+use wires::record_write;
+use wires::set_out;
+use wires::show;
+use wires::shown;
+
+pub mod reading;
+
+// No circuit has an input from here on.
+const FAR: usize = 0x8000_0000_0000_0000;
+
+// What a step comes to: the output to fire next; the chain ends there; or a list was full.
+pub enum Step {
+    Fires(usize),
+    Ends,
+    Full,
+}
+
+// ---- Vars
+
+// The output of the Var that setting 1 of gate g names.
+fn var(links: &[usize], g: usize) -> usize
+    requires { ⌜ length (now links) ≡ 4816 ⌝ }
+    ensures { λ r. ⌜ r ≡ var (net (now (links .entry))) g ⌝ }
+{
+    let n = as_int(setting(links, g, 1), 0);
+    if n < 0 {
+        return output(links, 0, 0);
+    }
+    output(links, n as usize, 0)
+}
+
+// 18 VarGet: the Var's value, as it stands in storage, to Value.
+fn exec_var_get(links: &[usize], values: &mut [u8], g: usize) -> Step
+    requires { ⌜ (length (now links) ≡ 4816) × (65536 ≤ length (now values)) ⌝ }
+    ensures { λ r. ⌜ ((u : Units) → (d : Delays) → Makes (together (values-view (net (now (links .entry))) (now (values .entry))) u d) (together (values-view (net (now (links .entry))) (now (values .exit))) u d) r (exec-VarGet (net (now (links .entry))) (together (values-view (net (now (links .entry))) (now (values .entry))) u d .state) g)) ⌝ }
+{
+    let v = shown(links, values, var(links, g));
+    set_out(links, values, output(links, g, 1), v);
+    Step::Fires(output(links, g, 0))
+}
+
+// 19 VarSet: Value, as it reads, to the Var, with no conversion; direct readers see it at once.
+fn exec_var_set(links: &[usize], values: &mut [u8], g: usize) -> Step
+    requires { ⌜ (length (now links) ≡ 4816) × (65536 ≤ length (now values)) ⌝ }
+    ensures { λ r. ⌜ ((u : Units) → (d : Delays) → Makes (together (values-view (net (now (links .entry))) (now (values .entry))) u d) (together (values-view (net (now (links .entry))) (now (values .exit))) u d) r (exec-VarSet (net (now (links .entry))) (together (values-view (net (now (links .entry))) (now (values .entry))) u d .state) g)) ⌝ }
+{
+    let i = input(links, g, 2);
+    let o = var(links, g);
+    ready(links, values, i);
+    let v = look(links, values, i);
+    show(links, values, o, v);
+    record_write(links, values, o);
+    Step::Fires(output(links, g, 0))
+}
+
+// ---- Branch, Union, Toggle, Cycle
+
+// 20 Branch: a condition that is true to ExecOutA, else to ExecOutB.
+fn exec_branch(links: &[usize], values: &mut [u8], g: usize) -> Step
+    requires { ⌜ (length (now links) ≡ 4816) × (65536 ≤ length (now values)) ⌝ }
+    ensures { λ r. ⌜ ((u : Units) → (d : Delays) → Makes (together (values-view (net (now (links .entry))) (now (values .entry))) u d) (together (values-view (net (now (links .entry))) (now (values .exit))) u d) r (exec-Branch (net (now (links .entry))) (together (values-view (net (now (links .entry))) (now (values .entry))) u d .state) g)) ⌝ }
+{
+    let i = input(links, g, 1);
+    ready(links, values, i);
+    let v = look(links, values, i);
+    if truthy(v) {
+        return Step::Fires(output(links, g, 0));
+    }
+    Step::Fires(output(links, g, 1))
+}
+
+// 21 Union: it passes once a tick.
+fn exec_union(links: &[usize], values: &mut [u8], g: usize) -> Step
+    requires { ⌜ (length (now links) ≡ 4816) × (65536 ≤ length (now values)) ⌝ }
+    ensures { λ r. ⌜ ((u : Units) → (d : Delays) → Makes (together (values-view (net (now (links .entry))) (now (values .entry))) u d) (together (values-view (net (now (links .entry))) (now (values .exit))) u d) r (exec-Union (net (now (links .entry))) (together (values-view (net (now (links .entry))) (now (values .entry))) u d .state) g)) ⌝ }
+{
+    if passed(links, values, g) {
+        return Step::Ends;
+    }
+    pass(links, values, g);
+    Step::Fires(output(links, g, 0))
+}
+
+// 22 Toggle: what is true becomes false, anything else true.
+fn exec_toggle(links: &[usize], values: &mut [u8], g: usize) -> Step
+    requires { ⌜ (length (now links) ≡ 4816) × (65536 ≤ length (now values)) ⌝ }
+    ensures { λ r. ⌜ ((u : Units) → (d : Delays) → Makes (together (values-view (net (now (links .entry))) (now (values .entry))) u d) (together (values-view (net (now (links .entry))) (now (values .exit))) u d) r (exec-Toggle (net (now (links .entry))) (together (values-view (net (now (links .entry))) (now (values .entry))) u d .state) g)) ⌝ }
+{
+    let o = output(links, g, 1);
+    let v = shown(links, values, o);
+    set_out(links, values, o, Value::Bool(!truthy(v)));
+    Step::Fires(output(links, g, 0))
+}
+
+// 23 Cycle, entered through pin p: pin 0 up, pin 1 down, each to its own output.
+fn exec_cycle(links: &[usize], values: &mut [u8], g: usize, p: usize) -> Step
+    requires { ⌜ (length (now links) ≡ 4816) × (65536 ≤ length (now values)) × (p ≤ 2 ^ 63) ⌝ }
+    ensures { λ r. ⌜ ((u : Units) → (d : Delays) → Makes (together (values-view (net (now (links .entry))) (now (values .entry))) u d) (together (values-view (net (now (links .entry))) (now (values .exit))) u d) r (exec-Cycle (net (now (links .entry))) (together (values-view (net (now (links .entry))) (now (values .entry))) u d .state) g p)) ⌝ }
+{
+    let i = input(links, g, 2);
+    let o = output(links, g, 2);
+    ready(links, values, i);
+    let now = as_int(shown(links, values, o), 0);
+    let count = as_int(look(links, values, i), 0);
+    let n = cycle_next(p == 1, count, now);
+    set_out(links, values, o, Value::Int(n));
+    Step::Fires(output(links, g, 0) + p)
+}
+
+// ---- buffers, Stopwatches, Queues
+
+// 11, 13, a buffer in exec mode: one fire more is under way.
+fn exec_buffer(links: &[usize], delays: &mut [u8], g: usize) -> Step
+    requires { ⌜ (length (now links) ≡ 4816) × Lent (net (now links)) (now delays) ⌝ }
+    ensures { λ r. ⌜ ((v : Values) → (u : Units) → Makes (together v u (delays-view (net (now (links .entry))) (now (delays .entry)))) (together v u (delays-view (net (now (links .entry))) (now (delays .exit)))) r (exec-Buffer (net (now (links .entry))) (together v u (delays-view (net (now (links .entry))) (now (delays .entry))) .state) g)) ⌝ }
+{
+    match add_fire(links, delays, g) {
+        Filed::Done => Step::Ends,
+        Filed::Full => Step::Full,
+    }
+}
+
+// 15, a Stopwatch, entered through pin p: Restart shows 0.0 at once.
+fn exec_stopwatch(links: &[usize], values: &mut [u8], delays: &mut [u8], g: usize, p: usize) -> Step
+    requires { ⌜ (length (now links) ≡ 4816) × (65536 ≤ length (now values)) × Lent (net (now links)) (now delays) ⌝ }
+    ensures { λ r. ⌜ ((u : Units) → Makes (together (values-view (net (now (links .entry))) (now (values .entry))) u (delays-view (net (now (links .entry))) (now (delays .entry)))) (together (values-view (net (now (links .entry))) (now (values .exit))) u (delays-view (net (now (links .entry))) (now (delays .exit)))) r (exec-Stopwatch (net (now (links .entry))) (together (values-view (net (now (links .entry))) (now (values .entry))) u (delays-view (net (now (links .entry))) (now (delays .entry))) .state) g p)) ⌝ }
+{
+    stopwatch_press(links, delays, g, p);
+    if p != 0 {
+        return Step::Ends;
+    }
+    set_out(links, values, output(links, g, 0), Value::Float(0));
+    Step::Ends
+}
+
+// 16, 17, a Queue: all nine inputs are read, also for a record that is dropped.
+fn exec_queue(links: &[usize], values: &mut [u8], delays: &mut [u8], g: usize) -> Step
+    requires { ⌜ (length (now links) ≡ 4816) × (65536 ≤ length (now values)) × Lent (net (now links)) (now delays) × (is-queue (net (now links)) g ≡ true) ⌝ }
+    ensures { λ r. ⌜ ((u : Units) → Makes (together (values-view (net (now (links .entry))) (now (values .entry))) u (delays-view (net (now (links .entry))) (now (delays .entry)))) (together (values-view (net (now (links .entry))) (now (values .exit))) u (delays-view (net (now (links .entry))) (now (delays .exit)))) r (exec-Queue (net (now (links .entry))) (together (values-view (net (now (links .entry))) (now (values .entry))) u (delays-view (net (now (links .entry))) (now (delays .entry))) .state) g (queue-countdown (eqb (kind-of-gate (net (now (links .entry))) g) 17)))) ⌝ }
+{
+    let i = input(links, g, 1);
+    readied(links, values, i, 9);
+    let row = look_row(links, values, i);
+    let wait = look(links, values, i + 8);
+    let kinds = row.kinds;
+    let contents = row.contents;
+    queue_record(links, delays, g, kinds, contents, wait);
+    Step::Ends
+}
+
+// ---- events
+
+// 24, 25, a sender of events: the eight values are read, also for a second event of the gate in this tick, which is ignored.
+fn exec_send(links: &[usize], values: &mut [u8], units: &mut [u8], g: usize) -> Step
+    requires { ⌜ (length (now links) ≡ 4816) × (65536 ≤ length (now values)) × (65536 ≤ length (now units)) ⌝ }
+    ensures { λ r. ⌜ ((d : Delays) → Makes (together (values-view (net (now (links .entry))) (now (values .entry))) (units-view (net (now (links .entry))) (now (units .entry))) d) (together (values-view (net (now (links .entry))) (now (values .exit))) (units-view (net (now (links .entry))) (now (units .exit))) d) r (exec-SendEvent (net (now (links .entry))) (together (values-view (net (now (links .entry))) (now (values .entry))) (units-view (net (now (links .entry))) (now (units .entry))) d .state) g)) ⌝ }
+{
+    let i = input(links, g, 2);
+    readied(links, values, i, 8);
+    if has_sent(units, g) {
+        return Step::Fires(output(links, g, 0));
+    }
+    let row = look_row(links, values, i);
+    let kinds = row.kinds;
+    let contents = row.contents;
+    send(units, g, kinds, contents);
+    Step::Fires(output(links, g, 0))
+}
+
+// ---- by kind
+
+// The pin of gate g that input i is.
+fn pin(links: &[usize], g: usize, i: usize) -> usize
+    requires { ⌜ length (now links) ≡ 4816 ⌝ }
+    ensures { λ r. ⌜ r ≡ i - input (net (now (links .entry))) g 0 ⌝ }
+{
+    let first = input(links, g, 0);
+    if i < first {
+        return 0;
+    }
+    i - first
+}
+
+// Input i, and one input for all that no circuit has.
+fn near(i: usize) -> usize
+    ensures { λ r. ⌜ (r ≡ near i) × (r ≤ 2 ^ 63) ⌝ }
+{
+    if i < FAR { i } else { FAR }
+}
+
+// The gate that has input i, entered through it.
+pub fn exec(
+    links: &[usize],
+    values: &mut [u8],
+    units: &mut [u8],
+    delays: &mut [u8],
+    i: usize,
+) -> Step
+    requires { ⌜ (length (now links) ≡ 4816) × (65536 ≤ length (now values)) × (65536 ≤ length (now units)) × Lent (net (now links)) (now delays) ⌝ }
+    ensures { λ r. ⌜ Makes (areas (net (now (links .entry))) (now (values .entry)) (now (units .entry)) (now (delays .entry))) (areas (net (now (links .entry))) (now (values .exit)) (now (units .exit)) (now (delays .exit))) r (exec-gate (net (now (links .entry))) (areas (net (now (links .entry))) (now (values .entry)) (now (units .entry)) (now (delays .entry)) .state) (near i)) ⌝ }
+    ensures { λ _. ⌜ Lent (net (now (links .entry))) (now (delays .exit)) ⌝ }
+{
+    let j = near(i);
+    let g = gate_at_input(links, j);
+    let p = pin(links, g, j);
+    match kind_of_gate(links, g) {
+        2 => Step::Fires(output(links, g, 0)),
+        11 | 13 => exec_buffer(links, delays, g),
+        15 => exec_stopwatch(links, values, delays, g, p),
+        16..=17 => exec_queue(links, values, delays, g),
+        18 => exec_var_get(links, values, g),
+        19 => exec_var_set(links, values, g),
+        20 => exec_branch(links, values, g),
+        21 => exec_union(links, values, g),
+        22 => exec_toggle(links, values, g),
+        23 => exec_cycle(links, values, g, p),
+        24..=25 => exec_send(links, values, units, g),
+        _ => Step::Ends,
+    }
+}
