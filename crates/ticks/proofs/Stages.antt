@@ -1,0 +1,151 @@
+-- The stages of a tick after its opening.
+use Prim.Native.Nat.{ℕ, _+_, _-_}
+use mathlib.Core.Path.{_≡_, refl, sym, ap, _∙_, subst}
+use mathlib.Core.Bool.{Bool, true, false}
+use mathlib.Core.List.{List, append-nil}
+use native.Mathlib.Omega.{arith}
+use borrow.Author.Tests.{ne-eqb}
+use lib.ListN.{length}
+use Rattle.schedule.specs.Schedule.{no-turn, pass, next-late, next-main, activate-late, activate-main, late-pass, main-pass}
+use Rattle.lists.specs.declared.Filed.{Filed as Answer}
+use Rattle.lists.specs.declared.Filed.the-variants.{Full, Done}
+use Rattle.model.specs.Base.{if_then_else_}
+use Rattle.model.specs.Circuit.{Circuit, rank-of-gate}
+use Rattle.model.specs.Wires.{refresh-all}
+use Rattle.model.specs.Unit.{World, state≔}
+use Rattle.wires.specs.View.{Values, with-wires}
+use Rattle.units.specs.declared.Place.the-variants.{Late, After}
+use Rattle.units.specs.View.{Lists, Units}
+use Rattle.areas.specs.Areas.{Areas}
+use Rattle.chain.specs.declared.Ran.{Ran}
+use Rattle.passes.specs.Waiting.{stop-of, bare, waiting, for-late, for-main}
+use Rattle.passes.specs.Passes.{with-begun, units-left, Passes}
+use Rattle.passes.proofs.Filing.{late-files, main-files}
+use Rattle.passes.proofs.Turns.{stopped}
+use Rattle.log.specs.declared.Head.{Head}
+use Rattle.log.specs.declared.Written.{Written}
+use Rattle.log.specs.declared.Written.the-variants.{Fits, Full as Too-long}
+use Rattle.log.specs.Log.{record-of, fits, written-as, Writes}
+use Rattle.ticks.specs.declared.Ticked.{Ticked}
+use Rattle.ticks.specs.Stages.{Ran-late, Ran-main, steps-made, outputs-read, head-of, words-of, ticked-as, Closes}
+
+-- ---- the passes
+
+-- no turn is made after a stop
+no-turns :
+    (c : Circuit) (k : ℕ) {Q : Type 0} (h : Lists → Q) (a : Areas) (left stop : ℕ) (w : World) → w .state ≡ a .state → w .left ≡ left →
+    Passes c k h a a (record { left = left; stop = stop }) w (no-turn (bare c k) (units-left a) tt (h (a .lists)) w stop)
+unfolding state≔
+no-turns c k {Q} h a left stop w e f =
+    record {
+      world = rw (sym e, sym f) refl;
+      queue = refl;
+      stop = refl;
+      left = refl;
+      kept = ap (λ (b : List _). with-begun (a .kept) b) (sym (append-nil (a .kept .begun)));
+    }
+
+-- a list was full
+pub late-stopped : (c : Circuit) (a : Areas) (left : ℕ) (o : Answer) → o ≡ Full → Ran-late c a a left (stop-of o) (record { left = left; stop = 12 })
+unfolding stop-of late-pass
+late-stopped c a left o h =
+    rw h
+    (record {
+      passes = λ k w e f.
+          rw (stopped c k (for-late c k) (next-late (bare c k)) (activate-late (bare c k)) (λ _. Late) (λ u b l. late-files c k (waiting c k u) b l) (units-left a) 12 w (a .lists) (λ z. omega (arith, z)))
+          (no-turns c k (for-late c k) a left 12 w e f);
+      pending = refl;
+      carried = refl;
+    })
+
+pub late-ran :
+    (c : Circuit) (a b : Areas) (left : ℕ) (o : Answer) (r : Ran) → o ≡ Done →
+    ((k : ℕ) (w : World) → w .state ≡ a .state → w .left ≡ left → Passes c k (for-late c k) a b r w (late-pass (bare c k) (units-left a) tt (for-late c k (a .lists)) w 0)) →
+    (b .lists .pending ≡ a .lists .pending) × (b .lists .carried ≡ a .lists .carried) →
+    Ran-late c a b left (stop-of o) r
+unfolding stop-of
+late-ran c a b left o r e p h = rw e (record { passes = p; pending = h .0; carried = h .1 })
+
+-- the late pass stopped
+pub main-stopped : (c : Circuit) (a : Areas) (r : Ran) → (r .stop ≡ 0 → ⊥) → Ran-main c a a (r .left) (r .stop) r
+unfolding main-pass
+main-stopped c a r h =
+    record {
+      passes = λ k w e f.
+          rw (stopped c k (for-main c k) (next-main (bare c k)) (activate-main (bare c k)) (λ u. After (rank-of-gate c (u .gate))) (λ u b l. main-files c k (waiting c k u) b l) (units-left a) (r .stop) w (a .lists) h)
+          (no-turns c k (for-main c k) a (r .left) (r .stop) w e f);
+    }
+
+pub main-ran :
+    (c : Circuit) (a b : Areas) (l r : Ran) → l .stop ≡ 0 →
+    ((k : ℕ) (w : World) → w .state ≡ a .state → w .left ≡ l .left → Passes c k (for-main c k) a b r w (main-pass (bare c k) (units-left a) tt (for-main c k (a .lists)) w 0)) →
+    Ran-main c a b (l .left) (l .stop) r
+main-ran c a b l r z p = rw z (record { passes = p })
+
+-- ---- the record
+
+-- the steps made
+pub steps-runaway : (limit left stop n : ℕ) → n ≡ limit - left → stop ≡ 11 → n + 1 ≡ steps-made limit left stop
+unfolding steps-made if_then_else_
+steps-runaway limit left stop n e h = rw (h, e) refl
+
+pub steps-other : (limit left stop n : ℕ) → n ≡ limit - left → (stop ≡ 11 → ⊥) → n ≡ steps-made limit left stop
+unfolding steps-made if_then_else_
+steps-other limit left stop n e h = rw (ne-eqb stop 11 h, e) (omega arith)
+
+-- the outputs of a stopped tick are not read
+pub unread : (c : Circuit) (v : Values) (stop : ℕ) → (stop ≡ 0 → ⊥) → v ≡ with-wires v (outputs-read c (v .wires) stop)
+unfolding outputs-read if_then_else_
+unread c v stop h = rw (ne-eqb stop 0 h) refl
+
+pub read-all : (c : Circuit) (v b : Values) (stop : ℕ) → stop ≡ 0 → b ≡ with-wires v (refresh-all c (v .wires)) → b ≡ with-wires v (outputs-read c (v .wires) stop)
+unfolding outputs-read if_then_else_
+read-all c v b stop h e = rw h e
+
+-- the head of the record
+pub head-is :
+    (limit late left stop n tick made main carried : ℕ) (v : Values) (u : Units) →
+    n ≡ length (u .begun) → tick ≡ v .wires .tick → made ≡ steps-made limit left stop → main ≡ n - late → carried ≡ length (u .lists .carried) →
+    _≡_ {A = Head} (record { tick = tick; steps = made; late = late; main = main; carried = carried; stop = stop }) (head-of limit late left stop v u)
+unfolding head-of
+head-is limit late left stop n tick made main carried v u e₁ e₂ e₃ e₄ e₅ = rw (e₂, e₃, e₄, e₁, e₅) refl
+
+-- the record fits
+pub closes-fit :
+    (c : Circuit) (limit late : ℕ) (r : Ran) (v b : Values) (u : Units) (before after : List ℕ) (at n : ℕ) (h : Head) (x : Written) →
+    b ≡ with-wires v (outputs-read c (v .wires) (r .stop)) → h ≡ head-of limit late (r .left) (r .stop) b u →
+    x ≡ written-as (fits before at (record-of h (u .begun) (b .wires .outs))) (record-of h (u .begun) (b .wires .outs)) → Writes before after at (record-of h (u .begun) (b .wires .outs)) → x ≡ Fits n →
+    Closes c limit late r v b u before after at (record { size = n; stop = r .stop })
+unfolding words-of written-as ticked-as
+closes-fit c limit late r v b u before after at n h x e₁ e₂ e₃ e₄ e₅ =
+    let rs = words-of limit late r b u in
+    let same : record-of h (u .begun) (b .wires .outs) ≡ rs = ap (λ (y : Head). record-of y (u .begun) (b .wires .outs)) e₂ in
+    record {
+      values = e₁;
+      answer = go rs (fits before at rs) (sym e₅ ∙ e₃ ∙ ap (λ (y : List ℕ). written-as (fits before at y) y) same);
+      log = subst (λ (y : List ℕ). Writes before after at y) same e₄;
+    }
+  where
+    go : (rs : List ℕ) (t : Bool) → Fits n ≡ written-as t rs → _≡_ {A = Ticked} (record { size = n; stop = r .stop }) (ticked-as t rs (r .stop))
+    go rs true q = let z : n ≡ length rs = cc in rw z refl
+    go rs false q = let z : _≡_ {A = ℕ} 0 1 = cc in absurd (omega arith)
+
+-- it does not
+pub closes-full :
+    (c : Circuit) (limit late : ℕ) (r : Ran) (v b : Values) (u : Units) (before after : List ℕ) (at : ℕ) (h : Head) (x : Written) →
+    b ≡ with-wires v (outputs-read c (v .wires) (r .stop)) → h ≡ head-of limit late (r .left) (r .stop) b u →
+    x ≡ written-as (fits before at (record-of h (u .begun) (b .wires .outs))) (record-of h (u .begun) (b .wires .outs)) → Writes before after at (record-of h (u .begun) (b .wires .outs)) → x ≡ Too-long →
+    Closes c limit late r v b u before after at (record { size = 0; stop = 13 })
+unfolding words-of written-as ticked-as
+closes-full c limit late r v b u before after at h x e₁ e₂ e₃ e₄ e₅ =
+    let rs = words-of limit late r b u in
+    let same : record-of h (u .begun) (b .wires .outs) ≡ rs = ap (λ (y : Head). record-of y (u .begun) (b .wires .outs)) e₂ in
+    record {
+      values = e₁;
+      answer = go rs (fits before at rs) (sym e₅ ∙ e₃ ∙ ap (λ (y : List ℕ). written-as (fits before at y) y) same);
+      log = subst (λ (y : List ℕ). Writes before after at y) same e₄;
+    }
+  where
+    go : (rs : List ℕ) (t : Bool) → Too-long ≡ written-as t rs → _≡_ {A = Ticked} (record { size = 0; stop = 13 }) (ticked-as t rs (r .stop))
+    go rs true q = let z : _≡_ {A = ℕ} 0 1 = cc in absurd (omega arith)
+    go rs false q = refl

@@ -1,0 +1,61 @@
+-- The stages of a tick after its opening: the late pass, the main pass, the record.
+use Prim.Native.Nat.{ℕ, _+_, _-_}
+use mathlib.Core.Path.{_≡_}
+use mathlib.Core.Bool.{Bool, true, false}
+use mathlib.Core.List.{List}
+use lib.Dec.{eqb}
+use lib.ListN.{length}
+use Rattle.schedule.specs.Schedule.{log-full, late-pass, main-pass}
+use Rattle.model.specs.Base.{if_then_else_}
+use Rattle.model.specs.Circuit.{Circuit}
+use Rattle.model.specs.State.{Wires}
+use Rattle.model.specs.Wires.{refresh-all}
+use Rattle.model.specs.Chain.{runaway}
+use Rattle.model.specs.Unit.{World}
+use Rattle.wires.specs.View.{Values, with-wires}
+use Rattle.units.specs.View.{Units}
+use Rattle.areas.specs.Areas.{Areas}
+use Rattle.chain.specs.declared.Ran.{Ran}
+use Rattle.passes.specs.Waiting.{bare, for-late, for-main}
+use Rattle.passes.specs.Passes.{units-left, Passes}
+use Rattle.log.specs.declared.Head.{Head}
+use Rattle.log.specs.Log.{record-of, fits, Writes}
+use Rattle.ticks.specs.declared.Ticked.{Ticked}
+
+-- The areas a became b, with the answer r, as the late pass, with so many steps left and this stop.
+pub record Ran-late (c : Circuit) (a b : Areas) (left stop : ℕ) (r : Ran) : Type 0 where
+  pub passes : (k : ℕ) (w : World) → w .state ≡ a .state → w .left ≡ left → Passes c k (for-late c k) a b r w (late-pass (bare c k) (units-left a) tt (for-late c k (a .lists)) w stop)
+  pub pending : b .lists .pending ≡ a .lists .pending
+  pub carried : b .lists .carried ≡ a .lists .carried
+
+-- The areas a became b, with the answer r, as the main pass, with so many steps left and this stop.
+pub record Ran-main (c : Circuit) (a b : Areas) (left stop : ℕ) (r : Ran) : Type 0 where
+  pub passes : (k : ℕ) (w : World) → w .state ≡ a .state → w .left ≡ left → Passes c k (for-main c k) a b r w (main-pass (bare c k) (units-left a) tt (for-main c k (a .lists)) w stop)
+
+-- the steps made of a tick that may make `limit`; those of one stopped by 11 include the one not made
+unfoldable pub steps-made : ℕ → ℕ → ℕ → ℕ
+steps-made limit left stop = limit - left + (if eqb stop runaway then 1 else 0)
+
+-- the outputs as they are read at a tick's end
+unfoldable pub outputs-read : Circuit → Wires → ℕ → Wires
+outputs-read c w stop = if eqb stop 0 then refresh-all c w else w
+
+-- the head of a tick's record
+unfoldable pub head-of : ℕ → ℕ → ℕ → ℕ → Values → Units → Head
+head-of limit late left stop v u =
+    record { tick = v .wires .tick; steps = steps-made limit left stop; late = late; main = length (u .begun) - late; carried = length (u .lists .carried); stop = stop }
+
+-- the words of a tick's record
+unfoldable pub words-of : ℕ → ℕ → Ran → Values → Units → List ℕ
+words-of limit late r v u = record-of (head-of limit late (r .left) (r .stop) v u) (u .begun) (v .wires .outs)
+
+-- the answer of a tick, by whether its record fits
+unfoldable pub ticked-as : Bool → List ℕ → ℕ → Ticked
+ticked-as true rs stop = record { size = length rs; stop = stop }
+ticked-as false rs stop = record { size = 0; stop = log-full }
+
+-- The end of a tick after the passes' answer r: the outputs are read, v became b, and the record is written to the log, which became `after`.
+pub record Closes (c : Circuit) (limit late : ℕ) (r : Ran) (v b : Values) (u : Units) (before after : List ℕ) (at : ℕ) (t : Ticked) : Type 0 where
+  pub values : b ≡ with-wires v (outputs-read c (v .wires) (r .stop))
+  pub answer : t ≡ ticked-as (fits before at (words-of limit late r b u)) (words-of limit late r b u) (r .stop)
+  pub log : Writes before after at (words-of limit late r b u)

@@ -1,0 +1,200 @@
+// A tick: its opening, its passes, its record.
+ghost use Prim.Native.Nat.{_+_, _-_, _*_, _^_, _<_, _≤_};
+ghost use mathlib.Core.Path.{_≡_};
+ghost use mathlib.Core.List.{map};
+ghost use lib.ListN.{length};
+ghost use Rattle.words.specs.Words.{words};
+ghost use Rattle.schedule.specs.Schedule.{tick};
+ghost use Rattle.model.specs.Unit.{World};
+ghost use Rattle.links.specs.Links.{net};
+// The definitions `values` and `units` are named for what they hold, beside the slices of their names.
+ghost use Rattle.wires.specs.View.{values as values-view, with-wires};
+ghost use Rattle.units.specs.View.{units as units-view};
+ghost use Rattle.states.specs.View.{Lent};
+ghost use Rattle.areas.specs.Areas.{areas};
+ghost use Rattle.opening.specs.Opening.{stimuli-of};
+ghost use Rattle.passes.specs.Waiting.{stop-of, bare, waiting};
+ghost use Rattle.unit.specs.Unit.{Few-calls};
+ghost use Rattle.ticks.specs.Stages.{Ran-late, Ran-main, steps-made, outputs-read, head-of, Closes};
+ghost use Rattle.ticks.specs.Ticks.{Ticks};
+use chain::Ran;
+use lists::Filed;
+use log::Head;
+use log::Written;
+use log::write_record;
+use opening::open;
+use passes::late_pass;
+use passes::main_pass;
+use units::begun::begun;
+use units::raising::carried;
+use wires;
+use wires::refresh_all;
+
+// What a tick comes to: how many words its record has, 0 where it does not fit, and its stop, or 0.
+pub struct Ticked {
+    pub size: usize,
+    pub stop: u64,
+}
+
+// More steps than a tick may make.
+const RUNAWAY: u64 = 11;
+
+// A list was full.
+const LIST_FULL: u64 = 12;
+
+// A record did not fit.
+const LOG_FULL: u64 = 13;
+
+// The late pass, unless the opening found a list full.
+fn run_late(
+    links: &[usize],
+    values: &mut [u8],
+    units: &mut [u8],
+    delays: &mut [u8],
+    opened: Filed,
+    limit: u64,
+) -> Ran
+    requires { ⌜ (length (now links) ≡ 4816) × (65536 ≤ length (now values)) × (65536 ≤ length (now units)) × Lent (net (now links)) (now delays) × Few-calls (net (now links)) ⌝ }
+    ensures { λ r. ⌜ Ran-late (net (now (links .entry))) (areas (net (now (links .entry))) (now (values .entry)) (now (units .entry)) (now (delays .entry))) (areas (net (now (links .entry))) (now (values .exit)) (now (units .exit)) (now (delays .exit))) limit (stop-of opened) r ⌝ }
+    ensures { λ _. ⌜ Lent (net (now (links .entry))) (now (delays .exit)) ⌝ }
+{
+    match opened {
+        Filed::Full => Ran {
+            left: limit,
+            stop: LIST_FULL,
+        },
+        Filed::Done => late_pass(links, values, units, delays, limit),
+    }
+}
+
+// The main pass, unless the late pass stopped.
+fn run_main(
+    links: &[usize],
+    values: &mut [u8],
+    units: &mut [u8],
+    delays: &mut [u8],
+    late: Ran,
+) -> Ran
+    requires { ⌜ (length (now links) ≡ 4816) × (65536 ≤ length (now values)) × (65536 ≤ length (now units)) × Lent (net (now links)) (now delays) × Few-calls (net (now links)) ⌝ }
+    ensures { λ r. ⌜ Ran-main (net (now (links .entry))) (areas (net (now (links .entry))) (now (values .entry)) (now (units .entry)) (now (delays .entry))) (areas (net (now (links .entry))) (now (values .exit)) (now (units .exit)) (now (delays .exit))) (late .left) (late .stop) r ⌝ }
+    ensures { λ _. ⌜ Lent (net (now (links .entry))) (now (delays .exit)) ⌝ }
+{
+    if late.stop != 0 {
+        return late;
+    }
+    main_pass(links, values, units, delays, late.left)
+}
+
+// a - b, or 0 where b is above.
+fn less(a: u64, b: u64) -> u64
+    ensures { λ r. ⌜ r ≡ a - b ⌝ }
+{
+    if b < a { a - b } else { 0 }
+}
+
+// The steps made, where so many are left; of a tick stopped by 11 with the one not made.
+fn steps(limit: u64, left: u64, stop: u64) -> u64
+    requires { ⌜ limit < 2 ^ 63 ⌝ }
+    ensures { λ r. ⌜ r ≡ steps-made limit left stop ⌝ }
+{
+    let made = less(limit, left);
+    if stop == RUNAWAY { made + 1 } else { made }
+}
+
+// Where the tick has no stop its record shows the outputs, so what is stale is refreshed.
+fn read_outputs(links: &[usize], values: &mut [u8], stop: u64)
+    requires { ⌜ (length (now links) ≡ 4816) × (65536 ≤ length (now values)) ⌝ }
+    ensures { λ _. ⌜ values-view (net (now (links .entry))) (now (values .exit)) ≡ with-wires (values-view (net (now (links .entry))) (now (values .entry))) (outputs-read (net (now (links .entry))) (values-view (net (now (links .entry))) (now (values .entry)) .wires) stop) ⌝ }
+{
+    if stop != 0 {
+        return;
+    }
+    refresh_all(links, values);
+}
+
+// The head of the tick's record, where `late` units began in the late pass.
+fn head(
+    links: &[usize],
+    values: &[u8],
+    units: &[u8],
+    limit: u64,
+    late: usize,
+    left: u64,
+    stop: u64,
+) -> Head
+    requires { ⌜ (length (now links) ≡ 4816) × (65536 ≤ length (now values)) × (65536 ≤ length (now units)) × (limit < 2 ^ 63) ⌝ }
+    ensures { λ r. ⌜ r ≡ head-of limit late left stop (values-view (net (now (links .entry))) (now (values .entry))) (units-view (net (now (links .entry))) (now (units .entry))) ⌝ }
+{
+    let n = begun(units) as u64;
+    Head {
+        tick: wires::tick(links, values),
+        steps: steps(limit, left, stop),
+        late: late as u64,
+        main: less(n, late as u64),
+        carried: carried(units) as u64,
+        stop,
+    }
+}
+
+// The end of a tick after the passes' answer r, where `late` units began in the late pass: its record becomes the words of the log from word `at` on, if it fits there.
+fn close(
+    links: &[usize],
+    values: &mut [u8],
+    units: &[u8],
+    log: &mut [u8],
+    at: usize,
+    limit: u64,
+    late: usize,
+    r: Ran,
+) -> Ticked
+    requires { ⌜ (length (now links) ≡ 4816) × (65536 ≤ length (now values)) × (65536 ≤ length (now units)) × (at * 8 ≤ length (now log)) × (limit < 2 ^ 63) ⌝ }
+    ensures { λ t. ⌜ Closes (net (now (links .entry))) limit late r (values-view (net (now (links .entry))) (now (values .entry))) (values-view (net (now (links .entry))) (now (values .exit))) (units-view (net (now (links .entry))) (now (units .entry))) (now (log .entry)) (now (log .exit)) at t ⌝ }
+{
+    let left = r.left;
+    let stop = r.stop;
+    read_outputs(links, values, stop);
+    let h = head(links, values, units, limit, late, left, stop);
+    match write_record(links, values, units, log, at, h) {
+        Written::Fits(n) => Ticked { size: n, stop },
+        Written::Full => Ticked {
+            size: 0,
+            stop: LOG_FULL,
+        },
+    }
+}
+
+// A tick of the length dt that may make `limit` steps, with n stimuli: their gates and constants stand in the script from these words on. Its record becomes the words of the log from word `at` on, if it fits there.
+pub fn tick(
+    links: &[usize],
+    values: &mut [u8],
+    units: &mut [u8],
+    delays: &mut [u8],
+    script: &[u8],
+    gates_at: usize,
+    constants_at: usize,
+    n: usize,
+    dt: u64,
+    log: &mut [u8],
+    at: usize,
+    limit: u64,
+) -> Ticked
+    requires { ⌜ (length (now links) ≡ 4816) × (65536 ≤ length (now values)) × (65536 ≤ length (now units)) × Lent (net (now links)) (now delays) × Few-calls (net (now links)) × ((«gates_at» + n) * 8 ≤ length (now script)) × ((«constants_at» + n) * 8 ≤ length (now script)) × (areas (net (now links)) (now values) (now units) (now delays) .state .wires .tick + 1 < 2 ^ 64) × (at * 8 ≤ length (now log)) × (limit < 2 ^ 63) ⌝ }
+    ensures { λ r. ⌜ ((w : World) → w .state ≡ areas (net (now (links .entry))) (now (values .entry)) (now (units .entry)) (now (delays .entry)) .state → w .room ≡ length (now (log .entry)) - 8 * at → Ticks (net (now (links .entry))) limit (areas (net (now (links .entry))) (now (values .entry)) (now (units .entry)) (now (delays .entry))) (areas (net (now (links .entry))) (now (values .exit)) (now (units .exit)) (now (delays .exit))) (now (log .entry)) (now (log .exit)) at (r .size) (r .stop) w (tick (bare (net (now (links .entry))) limit) w (record { dt = dt; stimuli = stimuli-of (net (now (links .entry))) (words (now (script .entry))) «gates_at» «constants_at» n }) (map (waiting (net (now (links .entry))) limit) (areas (net (now (links .entry))) (now (values .entry)) (now (units .entry)) (now (delays .entry)) .lists .carried)) tt)) ⌝ }
+    ensures { λ _. ⌜ Lent (net (now (links .entry))) (now (delays .exit)) ⌝ }
+{
+    let opened = open(
+        links,
+        values,
+        units,
+        delays,
+        script,
+        gates_at,
+        constants_at,
+        n,
+        dt,
+    );
+    let first = run_late(links, values, units, delays, opened, limit);
+    let late = begun(units);
+    let second = run_main(links, values, units, delays, first);
+    close(links, values, units, log, at, limit, late, second)
+}
