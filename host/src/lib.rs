@@ -5,7 +5,7 @@
 
 mod player;
 
-pub use player::check;
+pub use player::{Answer, check, run, text};
 
 // Each takes and gives numbers, and is proved to have a result for all of them.
 unsafe extern "C" {

@@ -1,8 +1,15 @@
 // The player as C functions, for a host program in Rust or C.
 ghost use mathlib.Core.Path.{_≡_};
-ghost use mathlib.Core.Option.{none};
+ghost use mathlib.Core.Option.{none, some};
+ghost use lib.ListN.{set};
 ghost use Rattle.model.specs.Questions.{refusal};
+ghost use Rattle.model.specs.Answer.{number, log-after, area-after};
+ghost use Rattle.model.specs.Order.{Whole-run-in-order};
+ghost use Rattle.run.specs.Told.{lent, answered};
+ghost use Rattle.player.specs.Numbers.{number-of, ticks-of, bytes-of, words-told};
+ghost use lib.ListN.{length};
 use circuit::check;
+use run::Answer;
 
 // The number of the first question whose answer is no, for a call that is lent no areas; 0 where all are yes.
 #[no_mangle]
@@ -10,4 +17,69 @@ pub extern "C" fn hazhirun_check(circuit: &[u8], script: &[u8]) -> u64
     ensures { λ r. ⌜ r ≡ refusal none (now (circuit .entry)) (now (script .entry)) ⌝ }
 {
     check(circuit, script)
+}
+
+// The number of an answer.
+fn number_of(a: Answer) -> u64
+    ensures { λ r. ⌜ r ≡ number-of a ⌝ }
+{
+    match a {
+        Answer::Refused(n) => n,
+        Answer::Played(stop, _, _) => stop,
+    }
+}
+
+// The ticks done.
+fn ticks_of(a: Answer) -> u64
+    ensures { λ r. ⌜ r ≡ ticks-of a ⌝ }
+{
+    match a {
+        Answer::Refused(_) => 0,
+        Answer::Played(_, ticks, _) => ticks,
+    }
+}
+
+// The bytes of the log that hold records.
+fn bytes_of(a: Answer) -> u64
+    ensures { λ r. ⌜ r ≡ bytes-of a ⌝ }
+{
+    match a {
+        Answer::Refused(_) => 0,
+        Answer::Played(_, _, bytes) => bytes,
+    }
+}
+
+// Word i becomes v, if there is such a word.
+fn put_at(told: &mut [u64], i: usize, v: u64)
+    ensures { λ _. ⌜ now (told .exit) ≡ set (now (told .entry)) i v ⌝ }
+{
+    if i < told.len() {
+        told[i] = v;
+    }
+}
+
+// Asks the ten questions, and where none of them refuses the call plays the script over the circuit. The number of the answer; the words of `told` become the ticks
+// done and the bytes of the log that hold records.
+#[no_mangle]
+pub extern "C" fn hazhirun_run(
+    circuit: &[u8],
+    script: &[u8],
+    log: &mut [u8],
+    values: &mut [u8],
+    units: &mut [u8],
+    delays: &mut [u8],
+    told: &mut [u64],
+) -> u64
+    ensures { λ r. ⌜ r ≡ number (answered (now (circuit .entry)) (now (script .entry)) (now (log .entry)) (now (values .entry)) (now (units .entry)) (now (delays .entry))) ⌝ }
+    ensures { λ _. ⌜ now (told .exit) ≡ words-told (answered (now (circuit .entry)) (now (script .entry)) (now (log .entry)) (now (values .entry)) (now (units .entry)) (now (delays .entry))) (now (told .entry)) ⌝ }
+    ensures { λ _. ⌜ now (log .exit) ≡ log-after (answered (now (circuit .entry)) (now (script .entry)) (now (log .entry)) (now (values .entry)) (now (units .entry)) (now (delays .entry))) (now (log .entry)) ⌝ }
+    ensures { λ _. ⌜ now (values .exit) ≡ area-after (answered (now (circuit .entry)) (now (script .entry)) (now (log .entry)) (now (values .entry)) (now (units .entry)) (now (delays .entry))) (now (values .entry)) ⌝ }
+    ensures { λ _. ⌜ now (units .exit) ≡ area-after (answered (now (circuit .entry)) (now (script .entry)) (now (log .entry)) (now (values .entry)) (now (units .entry)) (now (delays .entry))) (now (units .entry)) ⌝ }
+    ensures { λ _. ⌜ now (delays .exit) ≡ area-after (answered (now (circuit .entry)) (now (script .entry)) (now (log .entry)) (now (values .entry)) (now (units .entry)) (now (delays .entry))) (now (delays .entry)) ⌝ }
+    ensures { λ _. ⌜ ((refusal (some (lent (now (values .entry)) (now (units .entry)) (now (delays .entry)))) (now (circuit .entry)) (now (script .entry)) ≡ 0) → Whole-run-in-order (lent (now (values .entry)) (now (units .entry)) (now (delays .entry))) (length (now (log .entry))) (now (circuit .entry)) (now (script .entry))) ⌝ }
+{
+    let a = run::run(circuit, script, log, values, units, delays);
+    put_at(told, 0, ticks_of(a));
+    put_at(told, 1, bytes_of(a));
+    number_of(a)
 }

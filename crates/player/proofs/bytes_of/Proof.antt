@@ -1,0 +1,19 @@
+use Rattle.player.proofs.Numbers.{bytes-refused, bytes-played}
+use borrow.Author.Needs.{needs}
+use Rattle.player.proofs.bytes_of.Statement.{statement}
+use Rattle.player.proofs.bytes_of.Tie as tie
+
+enum-told : tie.Need-enum-told
+enum-told c = search needs
+
+enum-known-a : tie.Need-enum-known-a
+enum-known-a c = search needs
+
+returns : tie.Need-returns
+returns c = bytes-refused _ _ (c .enum-told .given .1)
+
+returns-2 : tie.Need-returns-2
+returns-2 c = bytes-played _ _ _ _ (c .before .a .given .1)
+
+pub bytes-of-spec : {M : Type 1} → statement M
+bytes-of-spec = tie.close (tie.spec enum-told enum-known-a returns returns-2)

@@ -1,0 +1,468 @@
+-- A tick counts up the number of ticks by one: its opening does at its start, and nothing after that changes the number.
+use mathlib.Core.Path.{_≡_, refl}
+use mathlib.Core.Bool.{Bool, true, false, not, _&&_}
+use mathlib.Core.List.{List, [], _∷_, _++_}
+use mathlib.Core.Option.{Option, none, some}
+use Prim.Native.Nat.{ℕ, zero, suc}
+use lib.Dec.{eqb}
+use lib.ListN.{length, set}
+use Rattle.schedule.specs.Schedule.{Raise, Outcome, Closed, Place, to-late, to-delivered, Machine, Setup, plain, Took, empty, took, Filed, full, filed, MainQ, OpenQ, Activation, raise-on, raise-all, Passed, turning, no-turn, pass-on, pass, push-all, activate-open, next-late, activate-late, next-main, activate-main, late-pass, main-pass, most-units, outcome, tick, list-full}
+use Rattle.schedule.specs.Promise.{All, [·], _∷·_}
+use Rattle.schedule.specs.Keeping.{Did-keep}
+use Rattle.model.specs.declared.Value.{Value}
+use Rattle.model.specs.Base.{each, from}
+use Rattle.model.specs.Circuit.{Circuit, output, gate-at-input, inputs-of, gates}
+use Rattle.model.specs.Script.{Given}
+use Rattle.model.specs.State.{Wires, State, Countdown, Delay, Act, Send, outs≔, dirty≔, to-check≔, times≔, last≔, pulses≔, written≔, unions-passed≔, wires≔, delays≔, outbox≔}
+use Rattle.model.specs.Wires.{show, soil, clean, watch, is-dirty, behind, recompute, refresh-to, refresh, refresh-all, ready, mark-readers, invalidate, set-out, set-outs}
+use Rattle.model.specs.Delays.{Moved}
+use Rattle.model.specs.Exec.{Stepped, fires-next, ends, delay≔, set-output, readied, record-write, exec-Buffer, exec-Stopwatch, exec-Queue, exec-VarGet, exec-VarSet, exec-Branch, exec-Union, exec-Toggle, exec-Cycle, exec-SendEvent, exec-kind, exec-gate}
+use Rattle.model.specs.Chain.{Calls, Popped, pop, fit, Chained, chained, push-calls, run-chain, runaway}
+use Rattle.model.specs.Settle.{Settled, calm, raise, publish-writes, pulse, compared, check, check-on, settle}
+use Rattle.model.specs.Opening.{wires-fresh, wires-at-start, start, Opened, raised-to, fire, next-tick, begin-tick, lower, advanced, advance-buffer, advance-clock, advance-timer, open-tick}
+use Rattle.model.specs.Unit.{World, state≔, raises-in, enter, run-unit, finish-chain}
+use Rattle.model.specs.Record.{read-outputs, write, close}
+use Rattle.model.specs.Run.{opening, body, closing, machine}
+use Rattle.model.proofs.Lists.{if-both, each-keeps, all-append, map-all, all-of}
+use Rattle.model.proofs.Checks.{detect-keeps}
+use Rattle.model.proofs.Sized.{behind-keeps, mark-readers-keeps}
+
+-- ---- the scheduler: what holds when a tick has opened, and is kept by each unit and by the record, holds after the tick
+
+module _ (S : Setup) where
+  open Setup S using (Tag, after)
+  open Machine (S .machine) using (W, In, Act, opening as opens, body as runs, closing as closes)
+
+  module _ (P : W → Type 0) (ran : (w : W) (a : Act) → P w → Did-keep P (runs w a)) where
+    raise-all-keeps :
+        {Pl Q : Type 0} (activate : Pl → Activation S → Q → Filed Q) (rs : List (Raise W Act Pl)) (t : Tag) (q : Q) (w : W) (s : ℕ) →
+        P w → All (λ r. P (r .at)) rs → P (raise-all S activate rs t q w s .world)
+    unfolding raise-all
+    raise-all-keeps activate [] t q w s p a = p
+    raise-all-keeps activate (r ∷ rs) t q w s p (_∷·_ h a) =
+        go (activate (r .place) (record { act = r .act; tag = t }) q) (λ q₁. raise-all-keeps activate rs (after t) q₁ w s p a)
+      where
+        go :
+            (x : Filed _) → ((q₁ : _) → P (raise-all S activate rs (after t) q₁ w s .world)) →
+            P (raise-on S x (record { act = r .act; tag = t })
+            (record { raised = []; queue = q; next = t; world = r .at; stop = list-full })
+            (λ q₁. raise-all S activate rs (after t) q₁ w s) .world)
+        go full rec = h
+        go (filed q₁) rec = rec q₁
+
+    module _ {Q : Type 0} (next : Q → Took (Activation S) Q) (activate : Activation S → Activation S → Q → Filed Q) where
+      -- one unit, and the pass after it
+      turn : ℕ → Tag → W → Activation S → Q → Passed S Q
+      turn n t w u q =
+          let d = runs w (u .act) in
+          let k = raise-all S (λ (p : Unit {0}). activate u) (d .raises) t q (d .world) (d .stop) in
+          turning S u w (k .raised) (eqb (d .stop) 0) (pass S next activate n (k .next) (k .queue) (k .world) (k .stop))
+
+      pass-keeps : (n : ℕ) (t : Tag) (q : Q) (w : W) (s : ℕ) → P w → P (pass S next activate n t q w s .world)
+      unfolding pass turn
+      pass-keeps zero t q w zero p = go (next q)
+        where
+          go : (x : Took (Activation S) Q) → P (pass-on S x (no-turn S zero t q w 0) (λ u q′. no-turn S zero t q w list-full) .world)
+          go empty = p
+          go (took u q′) = p
+      pass-keeps zero t q w (suc s) p = p
+      pass-keeps (suc n) t q w zero p = go (next q) (λ t₁ q₁ w₁ s₁ p₁. pass-keeps n t₁ q₁ w₁ s₁ p₁)
+        where
+          go :
+              (x : Took (Activation S) Q) →
+              ((t₁ : Tag) (q₁ : Q) (w₁ : W) (s₁ : ℕ) → P w₁ → P (pass S next activate n t₁ q₁ w₁ s₁ .world)) →
+              P (pass-on S x (no-turn S (suc n) t q w 0) (turn n t w) .world)
+          go empty rec = p
+          go (took u q′) rec =
+              let d = ran w (u .act) p in
+              rec _ _ _ _ (raise-all-keeps (λ (p : Unit {0}). activate u) _ t q′ _ _ (d .world) (d .raises))
+      pass-keeps (suc n) t q w (suc s) p = p
+
+    pub tick-ends :
+        ((w : W) (o : Outcome Act) → P w → P (closes w o .world)) →
+        (w : W) (i : In) (came : List (Activation S)) (t : Tag) → Did-keep P (opens w i) → P (tick S w i came t .world)
+    unfolding tick late-pass main-pass
+    tick-ends closed w i came t h =
+        let d = opens w i in
+        let q₀ : OpenQ (Activation S) = record { lateq = record { late = push-all S came []; delivered = [] }; pending = [] } in
+        let o = raise-all S (activate-open S) (d .raises) t q₀ (d .world) (d .stop) in
+        let a = raise-all-keeps (activate-open S) (d .raises) t q₀ (d .world) (d .stop) (h .world) (h .raises) in
+        let l = pass S (next-late S) (activate-late S) most-units (o .next) (o .queue .lateq) (o .world) (o .stop) in
+        let b = pass-keeps (next-late S) (activate-late S) most-units (o .next) (o .queue .lateq) (o .world) (o .stop) a in
+        let q : MainQ (Activation S) = record { pending = o .queue .pending; carried = [] } in
+        let m = pass S (next-main S) (activate-main S) (l .left) (l .next) q (l .world) (l .stop) in
+        let e = pass-keeps (next-main S) (activate-main S) (l .left) (l .next) q (l .world) (l .stop) b in
+        closed (m .world) (outcome S (l .turns) (m .turns) (m .queue .carried) (m .stop)) e
+
+-- ---- the number of the tick
+
+-- the wires are those of tick n
+record Wires-at (n : ℕ) (w : Wires) : Type 0 where
+  number : w .tick ≡ n
+
+-- the state is one of tick n
+record State-at (n : ℕ) (s : State) : Type 0 where
+  wires : Wires-at n (s .wires)
+
+module _ (c : Circuit) (n : ℕ) where
+  -- ---- one change of the wires
+
+  show-at : (w : Wires) (o : ℕ) (v : Value) → Wires-at n w → Wires-at n (show w o v)
+  unfolding show outs≔
+  show-at w o v z = record { number = z .number }
+
+  soil-at : (w : Wires) (g : ℕ) → Wires-at n w → Wires-at n (soil w g)
+  unfolding soil dirty≔
+  soil-at w g z = record { number = z .number }
+
+  clean-at : (w : Wires) (g : ℕ) → Wires-at n w → Wires-at n (clean w g)
+  unfolding clean dirty≔
+  clean-at w g z = record { number = z .number }
+
+  to-check-at : {w : Wires} (is : List ℕ) (bs : List Bool) → Wires-at n w → Wires-at n (to-check≔ w is bs)
+  unfolding to-check≔
+  to-check-at is bs z = record { number = z .number }
+
+  last-at : {w : Wires} (x : List (Option Value)) → Wires-at n w → Wires-at n (last≔ w x)
+  unfolding last≔
+  last-at x z = record { number = z .number }
+
+  pulses-at : {w : Wires} (x : List ℕ) → Wires-at n w → Wires-at n (pulses≔ w x)
+  unfolding pulses≔
+  pulses-at x z = record { number = z .number }
+
+  written-at : {w : Wires} (x : List ℕ) → Wires-at n w → Wires-at n (written≔ w x)
+  unfolding written≔
+  written-at x z = record { number = z .number }
+
+  passed-at : {w : Wires} (x : List Bool) → Wires-at n w → Wires-at n (unions-passed≔ w x)
+  unfolding unions-passed≔
+  passed-at x z = record { number = z .number }
+
+  watch-at : (w : Wires) (i : ℕ) → Wires-at n w → Wires-at n (watch w i)
+  unfolding watch
+  watch-at w i z = if-both (Wires-at n) _ z (to-check-at _ _ z)
+
+  -- ---- refreshing and marking
+
+  recompute-at : (w : Wires) (g : ℕ) → Wires-at n w → Wires-at n (recompute c w g)
+  unfolding recompute
+  recompute-at w g z = clean-at _ g (show-at w _ _ z)
+
+  refresh-to-at : (m : ℕ) (w : Wires) (g : ℕ) → Wires-at n w → Wires-at n (refresh-to c m w g)
+  unfolding refresh-to
+  refresh-to-at zero w g z = z
+  refresh-to-at (suc m) w g z =
+      go (is-dirty w g)
+      (each-keeps (Wires-at n) (behind c (λ v h. refresh-to c m v h)) (behind-keeps c (Wires-at n) (λ v h. refresh-to c m v h) (λ v h y. refresh-to-at m v h y)) w (inputs-of c g) z)
+    where
+      go :
+          (b : Bool) → Wires-at n (each (behind c (λ v h. refresh-to c m v h)) w (inputs-of c g)) →
+          Wires-at n (elim b as (λ _. Wires) [ true ↦ recompute c (each (behind c (λ v h. refresh-to c m v h)) w (inputs-of c g)) g | false ↦ w ])
+      go true y = recompute-at _ g y
+      go false y = z
+
+  refresh-at : (w : Wires) (g : ℕ) → Wires-at n w → Wires-at n (refresh c w g)
+  unfolding refresh
+  refresh-at w g z = refresh-to-at _ w g z
+
+  refresh-all-at : (w : Wires) → Wires-at n w → Wires-at n (refresh-all c w)
+  unfolding refresh-all
+  refresh-all-at w z = each-keeps (Wires-at n) (refresh c) refresh-at w (gates c) z
+
+  ready-at : (w : Wires) (i : ℕ) → Wires-at n w → Wires-at n (ready c w i)
+  unfolding ready
+  ready-at w i z = behind-keeps c (Wires-at n) (refresh c) refresh-at w i z
+
+  mark-readers-at : (w : Wires) (o : ℕ) → Wires-at n w → Wires-at n (mark-readers c w o)
+  mark-readers-at = mark-readers-keeps c (Wires-at n) (λ w g _ z. soil-at w g z) watch-at
+
+  invalidate-at : (w : Wires) (g : ℕ) → Wires-at n w → Wires-at n (invalidate c w g)
+  unfolding invalidate
+  invalidate-at w g z = mark-readers-at _ _ (soil-at w g z)
+
+  set-out-at : (w : Wires) (o : ℕ) (v : Value) → Wires-at n w → Wires-at n (set-out c w o v)
+  unfolding set-out
+  set-out-at w o v z = if-both (Wires-at n) _ z (mark-readers-at _ o (show-at w o v z))
+
+  set-outs-at : (w : Wires) (o : ℕ) (vs : List Value) → Wires-at n w → Wires-at n (set-outs c w o vs)
+  unfolding set-outs
+  set-outs-at w o [] z = z
+  set-outs-at w o (v ∷ vs) z = set-outs-at (set-out c w o v) (suc o) vs (set-out-at w o v z)
+
+  -- ---- one change of the state
+
+  wires-at : {s : State} {w : Wires} → State-at n s → Wires-at n w → State-at n (wires≔ s w)
+  unfolding wires≔
+  wires-at z y = record { wires = y }
+
+  delay-at : {s : State} (g : ℕ) (d : Delay) → State-at n s → State-at n (delay≔ c s g d)
+  unfolding delay≔ delays≔
+  delay-at g d z = record { wires = z .wires }
+
+  outbox-at : {s : State} (x : List Send) → State-at n s → State-at n (outbox≔ s x)
+  unfolding outbox≔
+  outbox-at x z = record { wires = z .wires }
+
+  set-output-at : {s : State} (o : ℕ) (v : Value) → State-at n s → State-at n (set-output c s o v)
+  unfolding set-output
+  set-output-at o v z = wires-at z (set-out-at _ _ _ (z .wires))
+
+  readied-at : {s : State} (g p m : ℕ) → State-at n s → State-at n (readied c s g p m)
+  unfolding readied
+  readied-at g p m z = wires-at z (each-keeps (Wires-at n) (ready c) ready-at _ _ (z .wires))
+
+  -- ---- a step of a chain, by kind
+
+  abbrev Stepped-at : Stepped → Type 0
+  Stepped-at d = State-at n (d .state)
+
+  Buffer-at : (s : State) (g : ℕ) → State-at n s → Stepped-at (exec-Buffer c s g)
+  unfolding exec-Buffer ends
+  Buffer-at s g z = if-both Stepped-at _ (delay-at _ _ z) z
+
+  Stopwatch-at : (s : State) (g p : ℕ) → State-at n s → Stepped-at (exec-Stopwatch c s g p)
+  unfolding exec-Stopwatch ends
+  Stopwatch-at s g p z = if-both (State-at n) _ (set-output-at _ _ (delay-at _ _ z)) (delay-at _ _ z)
+
+  Queue-at : (s : State) (g : ℕ) (k : Value → Countdown) → State-at n s → Stepped-at (exec-Queue c s g k)
+  unfolding exec-Queue ends
+  Queue-at s g k z = delay-at _ _ (readied-at _ _ _ z)
+
+  record-write-at : {w : Wires} (o : ℕ) → Wires-at n w → Wires-at n (record-write c w o)
+  unfolding record-write
+  record-write-at o z = if-both (Wires-at n) _ z (written-at _ z)
+
+  VarSet-at : (s : State) (g : ℕ) → State-at n s → Stepped-at (exec-VarSet c s g)
+  unfolding exec-VarSet fires-next
+  VarSet-at s g z =
+      let y = readied-at _ _ _ z in
+      wires-at y (record-write-at _ (show-at _ _ _ (y .wires)))
+
+  Union-at : (s : State) (g : ℕ) → State-at n s → Stepped-at (exec-Union c s g)
+  unfolding exec-Union fires-next ends
+  Union-at s g z = if-both Stepped-at _ z (wires-at z (passed-at _ (z .wires)))
+
+  SendEvent-at : (s : State) (g : ℕ) → State-at n s → Stepped-at (exec-SendEvent c s g)
+  unfolding exec-SendEvent fires-next
+  SendEvent-at s g z = if-both (State-at n) _ (readied-at g 2 8 z) (outbox-at _ (readied-at g 2 8 z))
+
+  exec-kind-at : (k : ℕ) (s : State) (g p : ℕ) → State-at n s → Stepped-at (exec-kind c k s g p)
+  unfolding exec-kind fires-next ends exec-VarGet exec-Branch exec-Toggle exec-Cycle
+  exec-kind-at k s g p z =
+      if-both Stepped-at _ z
+      (if-both Stepped-at _ (Buffer-at s g z)
+      (if-both Stepped-at _ (Stopwatch-at s g p z)
+      (if-both Stepped-at _ (Queue-at s g _ z)
+      (if-both Stepped-at _ (Queue-at s g _ z)
+      (if-both Stepped-at _ (set-output-at _ _ z)
+      (if-both Stepped-at _ (VarSet-at s g z)
+      (if-both Stepped-at _ (readied-at _ _ _ z)
+      (if-both Stepped-at _ (Union-at s g z)
+      (if-both Stepped-at _ (set-output-at _ _ z)
+      (if-both Stepped-at _ (set-output-at _ _ (readied-at _ _ _ z))
+      (if-both Stepped-at _ (SendEvent-at s g z) z)))))))))))
+
+  exec-gate-at : (s : State) (i : ℕ) → State-at n s → Stepped-at (exec-gate c s i)
+  unfolding exec-gate
+  exec-gate-at s i z = exec-kind-at _ s _ _ z
+
+  -- ---- a chain
+
+  abbrev Chained-at : Chained → Type 0
+  Chained-at r = State-at n (r .state)
+
+  run-chain-at : (left : ℕ) (q : Calls) (s : State) → State-at n s → Chained-at (run-chain c left q s)
+  unfolding run-chain chained
+  run-chain-at zero q s z = go (pop (q .stack) (q .forks))
+    where
+      go : (x : Option Popped) → Chained-at (elim x as (λ _. Chained) [ none ↦ chained s 0 0 q | some t ↦ chained s 0 runaway q ])
+      go none = z
+      go (some t) = z
+  run-chain-at (suc left) q s z = go (pop (q .stack) (q .forks)) (λ r t y. run-chain-at left r t y)
+    where
+      go :
+          (x : Option Popped) → ((r : Calls) (t : State) → State-at n t → Chained-at (run-chain c left r t)) →
+          Chained-at (elim x as (λ _. Chained) [
+            | none ↦ chained s (suc left) 0 q
+            | some t ↦
+                let d = exec-gate c s (t .input) in
+                let r = push-calls c (d .next) (t .rest) in
+                elim (fit r && not (d .full)) [ true ↦ run-chain c left r (d .state) | false ↦ chained (d .state) left list-full r ]
+          ])
+      go none rec = z
+      go (some t) rec =
+          let d = exec-gate c s (t .input) in
+          let r = push-calls c (d .next) (t .rest) in
+          fits (fit r && not (d .full)) d r (exec-gate-at s (t .input) z)
+        where
+          fits :
+              (b : Bool) (d : Stepped) (r : Calls) → State-at n (d .state) →
+              Chained-at (elim b as (λ _. Chained) [ true ↦ run-chain c left r (d .state) | false ↦ chained (d .state) left list-full r ])
+          fits true d r y = rec r (d .state) y
+          fits false d r y = y
+
+  -- ---- settling
+
+  publish-writes-at : (w : Wires) → Wires-at n w → Wires-at n (publish-writes c w)
+  unfolding publish-writes
+  publish-writes-at w z = written-at [] (each-keeps (Wires-at n) (mark-readers c) mark-readers-at w (w .written) z)
+
+  -- each state in which something is raised
+  abbrev Raises-at : {P : Type 0} → List (Raise State Act P) → Type 0
+  Raises-at rs = All (λ r. State-at n (r .at)) rs
+
+  record Settled-at (z : Settled) : Type 0 where
+    state : State-at n (z .state)
+    raises : Raises-at (z .raises)
+
+  calm-at : {s : State} → State-at n s → Settled-at (calm s)
+  unfolding calm
+  calm-at z = record { state = z; raises = [·] }
+
+  raise-at : {s : State} (g form : ℕ) → State-at n s → Settled-at (raise s g form)
+  unfolding raise
+  raise-at g form z = record { state = z; raises = _∷·_ z [·] }
+
+  pulse-at : {w : Wires} (o : ℕ) → Wires-at n w → Wires-at n (pulse c w o)
+  unfolding pulse
+  pulse-at {w} o z = pulses-at _ (set-out-at w o _ z)
+
+  check-at : (s : State) (i : ℕ) → State-at n s → Settled-at (check c s i)
+  unfolding check compared wires≔
+  check-at s i z =
+      let y = wires-at (wires-at z (ready-at (s .wires) i (z .wires))) (last-at _ (ready-at (s .wires) i (z .wires))) in
+      if-both Settled-at _ (calm-at y)
+      (detect-keeps c Settled-at _ (gate-at-input c i) (calm-at y) (λ form. raise-at _ form y)
+      (λ o k e u l. calm-at (wires-at y (pulse-at _ (y .wires)))) (λ d. calm-at (delay-at _ d y)) _ _ _)
+
+  check-on-at : (m : ℕ) (z : Settled) → Settled-at z → Settled-at (check-on c m z)
+  unfolding check-on
+  check-on-at zero z y = y
+  check-on-at (suc m) z y = go (z .state .wires .to-check) (λ r x. check-on-at m r x)
+    where
+      go :
+          (q : List ℕ) → ((r : Settled) → Settled-at r → Settled-at (check-on c m r)) →
+          Settled-at (elim q as (λ _. Settled) [
+            | [] ↦ z
+            | (i ∷ is) ↦
+                let r = check c (wires≔ (z .state) (to-check≔ (z .state .wires) is (set (z .state .wires .queued) i false))) i in
+                check-on c m (record { state = r .state; raises = z .raises ++ r .raises })
+          ])
+      go [] rec = y
+      go (i ∷ is) rec =
+          let x = check-at _ i (wires-at (y .state) (to-check-at _ _ (y .state .wires))) in
+          rec _ (record { state = x .state; raises = all-append (y .raises) (x .raises) })
+
+  settle-at : (s : State) → State-at n s → Settled-at (settle c s)
+  unfolding settle
+  settle-at s z = check-on-at _ _ (calm-at (wires-at z (refresh-all-at (s .wires) (z .wires))))
+
+  -- ---- the opening of a tick
+
+  record Opened-at (z : Opened) : Type 0 where
+    state : State-at n (z .state)
+    raises : Raises-at (z .raises)
+
+  raised-to-at : (p : Place) (s : State) (acts : List Act) → State-at n s → Raises-at (raised-to p s acts)
+  unfolding raised-to
+  raised-to-at p s acts z = map-all (λ (r : Raise State Act Place). State-at n (r .at)) _ (all-of (λ a. z) acts)
+
+  lower-at : (w : Wires) (o : ℕ) → Wires-at n w → Wires-at n (lower c w o)
+  unfolding lower
+  lower-at w o z = if-both (Wires-at n) _ (set-out-at _ o _ (pulses-at _ z)) z
+
+  advanced-at :
+      (z : Opened) (s : State) (place : Place) (g p : ℕ) (m : Moved) → Raises-at (z .raises) → State-at n s → Opened-at (advanced c z s place g p m)
+  unfolding advanced
+  advanced-at z s place g p m r y =
+      let t = wires-at (delay-at g (m .state) y) (set-outs-at (s .wires) (output c g p) (m .row) (y .wires)) in
+      record { state = t; raises = all-append r (raised-to-at place _ (fire (m .fires) g) t) }
+
+  advance-buffer-at : (dt : ℕ) (z : Opened) (g : ℕ) → Opened-at z → Opened-at (advance-buffer c dt z g)
+  unfolding advance-buffer
+  advance-buffer-at dt z g y =
+      if-both Opened-at _ (advanced-at z _ _ g _ _ (y .raises) (y .state))
+      (if-both Opened-at _ (advanced-at z _ _ g _ _ (y .raises) (y .state))
+      (if-both Opened-at _ (advanced-at z _ _ g _ _ (y .raises) (y .state)) y))
+
+  advance-clock-at : (z : Opened) (g : ℕ) → Opened-at z → Opened-at (advance-clock c z g)
+  unfolding advance-clock
+  advance-clock-at z g y = advanced-at z _ _ g _ _ (y .raises) (readied-at g 0 2 (y .state))
+
+  advance-timer-at : (z : Opened) (g : ℕ) → Opened-at z → Opened-at (advance-timer c z g)
+  unfolding advance-timer
+  advance-timer-at z g y = advanced-at z _ _ g _ _ (y .raises) (readied-at g 3 1 (y .state))
+
+  -- from the moment on at which the next tick has begun
+  open-tick-at : (s : State) (given : Given) → State-at n (begin-tick s (given .dt)) → Opened-at (open-tick c s given)
+  unfolding open-tick
+  open-tick-at s given z =
+      let came = all-append (raised-to-at to-delivered _ _ z) (raised-to-at to-late _ (given .stimuli) z) in
+      let z₂ = wires-at z (each-keeps (Wires-at n) (lower c) lower-at _ (from 0 (length (c .outputs))) (z .wires)) in
+      let b = each-keeps Opened-at (advance-buffer c _) (advance-buffer-at _) _ (c .buffers) (record { state = z₂; raises = came }) in
+      let k = each-keeps Opened-at (advance-clock c) advance-clock-at _ (c .clocks) b in
+      let t = each-keeps Opened-at (advance-timer c) advance-timer-at _ (c .stopwatches) k in
+      let w = each-keeps (Wires-at n) (invalidate c) invalidate-at _ (c .time-sources) (t .state .wires) in
+      let x = settle-at _ (wires-at (t .state) w) in
+      record { state = x .state; raises = all-append (t .raises) (map-all (λ (r : Raise State Act Place). State-at n (r .at)) _ (x .raises)) }
+
+  -- ---- a unit, and the record
+
+  run-unit-at : (w : World) (a : Act) → State-at n (w .state) → State-at n (run-unit c w a .state)
+  unfolding run-unit enter
+  run-unit-at w a z = run-chain-at (w .left) _ _ (wires-at z (set-outs-at (w .state .wires) _ (a .row) (z .wires)))
+
+  read-outputs-at : (s : State) (stop : ℕ) → State-at n s → State-at n (read-outputs c s stop)
+  unfolding read-outputs
+  read-outputs-at s stop z = if-both (State-at n) _ (wires-at z (refresh-all-at (s .wires) (z .wires))) z
+
+  -- ---- worlds
+
+  abbrev World-at : World → Type 0
+  World-at w = State-at n (w .state)
+
+  raises-in-at : {P : Type 0} (w : World) (left : ℕ) (rs : List (Raise State Act P)) → Raises-at rs → All (λ r. World-at (r .at)) (raises-in w left rs)
+  unfolding raises-in state≔
+  raises-in-at w left rs a = map-all _ _ a
+
+  finish-chain-at : (w : World) (r : Chained) → State-at n (r .state) → Did-keep World-at (finish-chain c w r)
+  unfolding finish-chain state≔
+  finish-chain-at w r z =
+      let y = settle-at _ (wires-at z (publish-writes-at (r .state .wires) (z .wires))) in
+      if-both (Did-keep World-at) _ (record { world = y .state; raises = raises-in-at w (r .left) _ (y .raises) }) (record { world = z; raises = [·] })
+
+  opening-at : (limit : ℕ) (w : World) (given : Given) → State-at n (begin-tick (w .state) (given .dt)) → Did-keep World-at (opening c limit w given)
+  unfolding opening state≔
+  opening-at limit w given z =
+      let y = open-tick-at (w .state) given z in
+      record { world = y .state; raises = raises-in-at w limit _ (y .raises) }
+
+  body-at : (limit : ℕ) (w : World) (a : Act) → World-at w → Did-keep World-at (body c limit w a)
+  unfolding body
+  body-at limit w a z = finish-chain-at w _ (run-unit-at w a z)
+
+  closing-at : (limit : ℕ) (w : World) (o : Outcome Act) → World-at w → World-at (closing c limit w o .world)
+  unfolding closing close write state≔
+  closing-at limit w o z =
+      let y = read-outputs-at (w .state) (o .stop) z in
+      if-both (λ (k : Closed World). World-at (k .world)) _ y y
+
+-- the next tick has the next number
+begins-next : (s : State) (dt : ℕ) → State-at (suc (s .wires .tick)) (begin-tick s dt)
+unfolding begin-tick next-tick times≔ unions-passed≔ wires≔ outbox≔
+begins-next s dt = record { wires = record { number = refl } }
+
+-- A tick counts up the number of ticks by one, also one that is stopped.
+pub tick-by-one :
+    (c : Circuit) (limit : ℕ) (w : World) (i : Given) (came : List (Activation (plain (machine c limit)))) →
+    tick (plain (machine c limit)) w i came tt .world .state .wires .tick ≡ suc (w .state .wires .tick)
+tick-by-one c limit w i came =
+    let n = suc (w .state .wires .tick) in
+    tick-ends (plain (machine c limit)) (World-at c n) (body-at c n limit) (closing-at c n limit) w i came tt
+    (opening-at c n limit w i (begins-next (w .state) (i .dt))) .wires .number
+
+-- A run starts at tick 0.
+pub start-at-zero : (c : Circuit) → start c .wires .tick ≡ 0
+unfolding start wires-at-start wires-fresh
+start-at-zero c = last-at c 0 _ (refresh-all-at c 0 _ (record { number = refl })) .number

@@ -1,0 +1,48 @@
+use Rattle.run.proofs.Zeros.{Zero-to, zero-first, zero-next, all-zero}
+use Prim.Native.Nat.{_≤_, _-_}
+use lib.ListN.{length}
+use mathlib.Core.Path.{_≡_}
+use borrow.Author.Needs.{needs}
+use Rattle.run.proofs.clearing.clear.Statement.{statement}
+use Rattle.run.proofs.clearing.clear.Tie as tie
+
+abbrev Inv-loop : tie.InvT-loop
+Inv-loop area₀ n i₀ area i = (length area ≡ length area₀) × (i ≤ length area₀) × Zero-to i area
+
+abbrev μ-loop : tie.MeasureT-loop
+μ-loop area₀ n i₀ area i = n - i
+
+loop-holds : tie.Need-loop-holds Inv-loop μ-loop
+loop-holds c = (search needs, search needs, zero-first _)
+
+slice-write-area : tie.Need-slice-write-area Inv-loop μ-loop
+slice-write-area c = search needs
+
+add-i : tie.Need-add-i Inv-loop μ-loop
+add-i c = search needs
+
+loop-less : tie.Need-loop-less Inv-loop μ-loop
+loop-less c = search needs
+
+loop-again : tie.Need-loop-again Inv-loop μ-loop
+loop-again c = (search needs, search needs, zero-next _ _ (search needs) (c .before .loop .inv .2))
+
+same-length : tie.Need-same-length Inv-loop μ-loop
+same-length c = search needs
+
+returns : tie.Need-returns Inv-loop μ-loop
+returns c = all-zero _ _ _ (c .before .loop .inv .0) (c .loop-test .left) (c .before .loop .inv .2)
+
+pub clear-spec : {M : Type 1} → statement M
+clear-spec =
+    tie.close
+    (tie.spec
+    Inv-loop
+    μ-loop
+    loop-holds
+    slice-write-area
+    add-i
+    loop-less
+    loop-again
+    same-length
+    returns)

@@ -1,0 +1,54 @@
+-- A run under way, over what the areas and the log hold.
+use Prim.Native.Nat.{ℕ, _+_, _-_, _*_, _≤_}
+use mathlib.Core.Path.{_≡_}
+use mathlib.Core.Bool.{true}
+use mathlib.Core.List.{List, _++_, map}
+use lib.Dec.{eqb}
+use lib.ListN.{length, drop}
+use Rattle.words.specs.Words.{words, tail}
+use Rattle.schedule.specs.Schedule.{run, run-on}
+use Rattle.model.specs.Base.{all, sum}
+use Rattle.model.specs.Circuit.{Circuit, part, word-at, kind-of-gate}
+use Rattle.model.specs.Script.{Given, script}
+use Rattle.model.specs.Questions.{names-constant}
+use Rattle.model.specs.Unit.{World}
+use Rattle.model.specs.Run.{Played, seen}
+use Rattle.areas.specs.Areas.{Areas}
+use Rattle.passes.specs.Waiting.{bare, waiting}
+
+-- these records and so many ticks, and then what is seen of the rest
+unfoldable pub more : List ℕ → ℕ → Played → Played
+more log k p = record { log = log ++ p .log; stop = p .stop; ticks = k + p .ticks }
+
+-- After k ticks of a run from the world w on: the areas are a, and the log, which held `before`, has so many words of records.
+pub record Running (c : Circuit) (limit : ℕ) (gs : List Given) (w : World) (k : ℕ) (a : Areas) (before log : List ℕ) (at : ℕ) : Type 0 where
+  pub world : World
+  pub state : world .state ≡ a .state
+  pub room : world .room ≡ length before - 8 * at
+  pub records : List ℕ
+  pub size : length records ≡ at
+  pub words : words log ≡ records ++ drop at (words before)
+  pub tail : tail log ≡ tail before
+  pub seen : seen c limit (run (bare c limit) gs w) ≡ more records k (seen c limit (run-on (bare c limit) (drop k gs) world (map (waiting c limit) (a .lists .carried)) tt))
+
+-- What was seen of a run, in the log: its records stand before the rest, which is as it was.
+pub record Logged (p : Played) (before log : List ℕ) (at end k : ℕ) : Type 0 where
+  pub stop : p .stop ≡ end
+  pub ticks : p .ticks ≡ k
+  pub size : length (p .log) ≡ at
+  pub words : words log ≡ p .log ++ drop at (words before)
+  pub tail : tail log ≡ tail before
+
+-- what a script with these words gives to its ticks
+abbrev pub givens : Circuit → List ℕ → List Given
+givens c ws = script (c .constants) ws
+
+-- a script that fits the circuit: few ticks, all words there, counts that add up, and stimuli of gates and constants that there are
+pub record Good-script (c : Circuit) (ws : List ℕ) : Type 0 where
+  pub ticks : word-at ws 0 ≤ 100000
+  pub words : length ws ≡ 2 + 2 * (word-at ws 0 + word-at ws 1)
+  pub counts : sum (part ws (2 + word-at ws 0) (word-at ws 0)) ≡ word-at ws 1
+  pub gates : all (λ g. eqb (kind-of-gate c g) 28) (part ws (2 + 2 * word-at ws 0) (word-at ws 1)) ≡ true
+  pub constants : all (names-constant c) (part ws (2 + 2 * word-at ws 0 + word-at ws 1) (word-at ws 1)) ≡ true
+  pub few-gates : length (c .kinds) ≤ 64
+  pub few-constants : length (c .constants) ≤ 65

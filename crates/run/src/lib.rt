@@ -1,0 +1,166 @@
+// A run: a script played over a circuit, tick after tick.
+ghost use mathlib.Core.Path.{_≡_};
+ghost use mathlib.Core.List.{[]};
+ghost use mathlib.Core.Option.{some};
+ghost use Prim.Native.Nat.{_*_, _^_, _≤_, _<_};
+ghost use lib.ListN.{length, replicate};
+ghost use Rattle.words.specs.Words.{words};
+ghost use Rattle.schedule.specs.Schedule.{run};
+ghost use Rattle.model.specs.Opening.{start};
+ghost use Rattle.model.specs.Questions.{queues, refusal};
+ghost use Rattle.model.specs.Run.{seen, most-steps, world-at-start};
+ghost use Rattle.model.specs.Answer.{log-after, area-after};
+ghost use Rattle.model.specs.Order.{Whole-run-in-order};
+ghost use Rattle.links.specs.Links.{net};
+ghost use Rattle.states.specs.View.{Lent, queue-at};
+ghost use Rattle.unit.specs.Unit.{Few-calls};
+ghost use Rattle.areas.specs.Areas.{areas};
+ghost use Rattle.passes.specs.Waiting.{bare};
+ghost use Rattle.run.specs.Running.{givens, Good-script, Logged};
+ghost use Rattle.run.specs.Told.{lent, answered, told};
+use crate::clearing::clear;
+use circuit::refusal_and_links;
+use ticks::tick;
+use words::get;
+
+pub mod clearing;
+
+const CELLS: usize = 4816;
+
+const MOST_STEPS: u64 = 50000000;
+
+// The answer to a call: refused with the number of a question; or played, with the stop, or 0, the ticks done, and how many bytes of the log hold records.
+pub enum Answer {
+    Refused(u64),
+    Played(u64, u64, u64),
+}
+
+// What playing came to: the stop, or 0, the ticks done, and how many words of the log hold records.
+pub struct Played {
+    pub stop: u64,
+    pub ticks: u64,
+    pub size: usize,
+}
+
+// The areas at the start of a run, whatever they held.
+fn start(links: &[usize], values: &mut [u8], units: &mut [u8], delays: &mut [u8])
+    requires { ⌜ (length (now links) ≡ 4816) × (65536 ≤ length (now values)) × (65536 ≤ length (now units)) × (queue-at (queues (net (now links))) * 8 ≤ length (now delays)) ⌝ }
+    ensures { λ _. ⌜ (areas (net (now (links .entry))) (now (values .exit)) (now (units .exit)) (now (delays .exit)) .state ≡ start (net (now (links .entry)))) × (areas (net (now (links .entry))) (now (values .exit)) (now (units .exit)) (now (delays .exit)) .lists .carried ≡ []) × Lent (net (now (links .entry))) (now (delays .exit)) ⌝ }
+{
+    wires::start(links, values);
+    units::raising::start(links, units);
+    parts::start(links, delays);
+}
+
+// All ticks of a script, up to a stop.
+fn play(
+    links: &[usize],
+    values: &mut [u8],
+    units: &mut [u8],
+    delays: &mut [u8],
+    script: &[u8],
+    log: &mut [u8],
+    limit: u64,
+) -> Played
+    requires { ⌜ (length (now links) ≡ 4816) × (65536 ≤ length (now values)) × (65536 ≤ length (now units)) × Lent (net (now links)) (now delays) × Few-calls (net (now links)) ⌝ }
+    requires { ⌜ (limit < 2 ^ 63) × Good-script (net (now links)) (words (now script)) ⌝ }
+    requires { ⌜ (areas (net (now links)) (now values) (now units) (now delays) .state ≡ start (net (now links))) × (areas (net (now links)) (now values) (now units) (now delays) .lists .carried ≡ []) ⌝ }
+    ensures { λ r. ⌜ Logged (seen (net (now (links .entry))) limit (run (bare (net (now (links .entry))) limit) (givens (net (now (links .entry))) (words (now (script .entry)))) (world-at-start (net (now (links .entry))) limit (length (now (log .entry)))))) (now (log .entry)) (now (log .exit)) (r .size) (r .stop) (r .ticks) ⌝ }
+    ensures { λ r. ⌜ r .size * 8 ≤ length (now (log .entry)) ⌝ }
+{
+    let ticks = get(script, 0) as usize;
+    let stimuli = get(script, 1) as usize;
+    let gates = 2 + 2 * ticks;
+    let constants = gates + stimuli;
+    let mut k = 0;
+    let mut used = 0;
+    let mut at = 0;
+    while k < ticks {
+        let n = get(script, 2 + ticks + k) as usize;
+        let dt = get(script, 2 + k);
+        let t = tick(
+            links,
+            values,
+            units,
+            delays,
+            script,
+            gates + used,
+            constants + used,
+            n,
+            dt,
+            log,
+            at,
+            limit,
+        );
+        at += t.size;
+        if t.stop != 0 {
+            return Played {
+                stop: t.stop,
+                ticks: k as u64,
+                size: at,
+            };
+        }
+        used += n;
+        k += 1;
+    }
+    Played {
+        stop: 0,
+        ticks: ticks as u64,
+        size: at,
+    }
+}
+
+// A run over the circuit of these links, with the steps that a tick may make; its areas are zero afterwards.
+fn perform(
+    links: &[usize],
+    script: &[u8],
+    log: &mut [u8],
+    values: &mut [u8],
+    units: &mut [u8],
+    delays: &mut [u8],
+) -> Played
+    requires { ⌜ (length (now links) ≡ 4816) × (65536 ≤ length (now values)) × (65536 ≤ length (now units)) × (queue-at (queues (net (now links))) * 8 ≤ length (now delays)) ⌝ }
+    requires { ⌜ Few-calls (net (now links)) × Good-script (net (now links)) (words (now script)) ⌝ }
+    ensures { λ r. ⌜ Logged (seen (net (now (links .entry))) most-steps (run (bare (net (now (links .entry))) most-steps) (givens (net (now (links .entry))) (words (now (script .entry)))) (world-at-start (net (now (links .entry))) most-steps (length (now (log .entry)))))) (now (log .entry)) (now (log .exit)) (r .size) (r .stop) (r .ticks) ⌝ }
+    ensures { λ r. ⌜ r .size * 8 ≤ length (now (log .entry)) ⌝ }
+    ensures { λ _. ⌜ (now (values .exit) ≡ replicate (length (now (values .entry))) 0) × (now (units .exit) ≡ replicate (length (now (units .entry))) 0) × (now (delays .exit) ≡ replicate (length (now (delays .entry))) 0) ⌝ }
+{
+    start(links, values, units, delays);
+    let played = play(links, values, units, delays, script, log, MOST_STEPS);
+    clear(values);
+    clear(units);
+    clear(delays);
+    played
+}
+
+// The whole call: the questions, and where none of them refuses it the run of the script over the circuit.
+pub fn run(
+    circuit: &[u8],
+    script: &[u8],
+    log: &mut [u8],
+    values: &mut [u8],
+    units: &mut [u8],
+    delays: &mut [u8],
+) -> Answer
+    ensures { λ r. ⌜ r ≡ told (answered (now (circuit .entry)) (now (script .entry)) (now (log .entry)) (now (values .entry)) (now (units .entry)) (now (delays .entry))) ⌝ }
+    ensures { λ _. ⌜ now (log .exit) ≡ log-after (answered (now (circuit .entry)) (now (script .entry)) (now (log .entry)) (now (values .entry)) (now (units .entry)) (now (delays .entry))) (now (log .entry)) ⌝ }
+    ensures { λ _. ⌜ now (values .exit) ≡ area-after (answered (now (circuit .entry)) (now (script .entry)) (now (log .entry)) (now (values .entry)) (now (units .entry)) (now (delays .entry))) (now (values .entry)) ⌝ }
+    ensures { λ _. ⌜ now (units .exit) ≡ area-after (answered (now (circuit .entry)) (now (script .entry)) (now (log .entry)) (now (values .entry)) (now (units .entry)) (now (delays .entry))) (now (units .entry)) ⌝ }
+    ensures { λ _. ⌜ now (delays .exit) ≡ area-after (answered (now (circuit .entry)) (now (script .entry)) (now (log .entry)) (now (values .entry)) (now (units .entry)) (now (delays .entry))) (now (delays .entry)) ⌝ }
+    ensures { λ _. ⌜ ((refusal (some (lent (now (values .entry)) (now (units .entry)) (now (delays .entry)))) (now (circuit .entry)) (now (script .entry)) ≡ 0) → Whole-run-in-order (lent (now (values .entry)) (now (units .entry)) (now (delays .entry))) (length (now (log .entry))) (now (circuit .entry)) (now (script .entry))) ⌝ }
+{
+    let mut links = [0usize; CELLS];
+    let number = refusal_and_links(
+        circuit,
+        script,
+        &mut links,
+        values.len(),
+        units.len(),
+        delays.len(),
+    );
+    if number != 0 {
+        return Answer::Refused(number);
+    }
+    let played = perform(&links, script, log, values, units, delays);
+    Answer::Played(played.stop, played.ticks, (played.size * 8) as u64)
+}
