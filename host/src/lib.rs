@@ -1,7 +1,8 @@
-//! The functions of the Rattle crates `leaves` and `player`, linked. To compare
-//! them with the hardware and with the oracle: `rt staticlib leaves` and `rt
-//! staticlib player` in the project's root, then `cargo test --offline
-//! --release` here.
+//! The player for a host program: [`run`] plays a script over a circuit,
+//! [`check`] only asks whether it could. Both are the proved functions of the
+//! Rattle crate `player`; beside them are those of `leaves`. To build: `rt
+//! staticlib player` and `rt staticlib leaves` in the project's root. `cargo
+//! test --offline --release` compares them with the oracle and the hardware.
 
 mod player;
 

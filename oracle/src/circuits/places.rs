@@ -79,7 +79,7 @@ pub const HELD_OTHERWISE: [(u8, &str); 5] = [
         "The two roundings differ only for Ints above 2^53, which no run of 100,000 ticks waits for: \
          held by the definition of narrowing.",
     ),
-    (36, "The oracle has no areas: the definition of the answer says it, for the code to come."),
+    (36, "The oracle has no areas: the definition of the answer says it, and the contract of `run`."),
     (38, "Held by questions 2 and 9, whose circuits try them, and by total definitions on bits."),
     (39, "Held by the definition, which numbers them."),
     (47, "Held by the test of the printed lines."),
