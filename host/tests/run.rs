@@ -85,3 +85,18 @@ fn damaged_ones() {
     let refused = (0..calls()).filter(|&n| compare(&damaged(100_000 + n).case, n)).count() as u64;
     assert!(refused > calls() / 2, "{refused}");
 }
+
+/// The block of docs/FORMAT.md: its log is what both write.
+#[test]
+fn worked_example() {
+    let page = include_str!("../../docs/FORMAT.md");
+    let words = |name: &str| -> Vec<i64> {
+        let line = page.lines().find_map(|line| line.strip_prefix(name)).expect(name);
+        line.split_whitespace().map(|word| word.parse().expect(word)).collect()
+    };
+    let case = Case::of_words("worked", "An example.", &words("circuit: "), &words("script: "));
+    let log = words("log: ");
+    let theirs = oracle::run(&case.circuit, &case.script, &case.lent);
+    assert_eq!(theirs, oracle::Answer::Played { log, stop: 0, ticks: 3 });
+    assert!(!compare(&case, 1));
+}
