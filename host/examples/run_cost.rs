@@ -1,6 +1,7 @@
 //! Nanoseconds a tick of the proved `run` and of the oracle on the six
 //! vehicles, side by side, with the copy of the log's bytes, which is the
-//! limit: `cargo run --offline --release --example run_cost`.
+//! limit; and on the first ticks of the longest script, to see that the time is
+//! linear: `cargo run --offline --release --example run_cost`.
 
 use std::hint::black_box;
 use std::time::{Duration, Instant};
@@ -60,11 +61,32 @@ fn measure(case: &Case, log: &mut [u8], copy: &mut [u8]) {
     );
 }
 
+/// The case with only the first ticks of its script.
+fn first_ticks(case: &Case, ticks: usize) -> Case {
+    let word = |i: usize| i64::from_le_bytes(case.script[8 * i..][..8].try_into().unwrap());
+    let (t, s) = (word(0) as usize, word(1) as usize);
+    let stimuli = (0..ticks).map(|k| word(2 + t + k) as usize).sum();
+    let part = |from: usize, n: usize| (from..from + n).map(word);
+    let words: Vec<i64> = [ticks as i64, stimuli as i64]
+        .into_iter()
+        .chain(part(2, ticks))
+        .chain(part(2 + t, ticks))
+        .chain(part(2 + 2 * t, stimuli))
+        .chain(part(2 + 2 * t + s, stimuli))
+        .collect();
+    let script = words.iter().flat_map(|w| w.to_le_bytes()).collect();
+    Case { script, name: format!("{} ({ticks})", case.name), ..case.clone() }
+}
+
 fn main() {
     let (mut log, mut copy) = (vec![0; LOG], vec![0; LOG]);
-    for group in circuits::groups().into_iter().filter(|g| g.name.contains("vehicle")) {
-        for case in &group.cases {
-            measure(case, &mut log, &mut copy);
-        }
+    let groups = circuits::groups();
+    let vehicles = &groups.iter().find(|g| g.name == "vehicles").unwrap().cases;
+    for case in vehicles {
+        measure(case, &mut log, &mut copy);
+    }
+    let longest = vehicles.iter().max_by_key(|case| case.script.len()).unwrap();
+    for ticks in [100, 1_000, 5_000, 10_000] {
+        measure(&first_ticks(longest, ticks), &mut log, &mut copy);
     }
 }
