@@ -1,15 +1,74 @@
 // Plays script.bin over circuit.bin, both in the folder that the program runs in, and prints the records and how the run ended, or the refusal.
+ghost use Prim.Native.Nat.{_^_, _≤_, _<_};
 ghost use Rattle.io.specs.Counts.{Counts};
 
 mod records;
 
-use records::print_end;
-use records::print_records;
-use records::print_refused;
+use libc::STDOUT_FILENO;
+use records::outputs;
+use records::record_words;
 use run::Answer;
+use words::read;
 
 // What is printed where a file is missing or too long.
 const NO_FILES: u64 = 14;
+
+// ---- printing: a record each, its words in signed decimal with one space between, and then the end; or the refusal
+
+// Prints a word in signed decimal.
+fn print_word(word: u64) {
+    if word < 0x8000_0000_0000_0000 {
+        io::print_decimal(STDOUT_FILENO, word);
+        return;
+    }
+    io::write_all(STDOUT_FILENO, b"-");
+    io::print_decimal(STDOUT_FILENO, 0xFFFF_FFFF_FFFF_FFFF - word + 1);
+}
+
+// Prints n words from word `at` on as a line.
+fn print_record(log: &[u8], at: usize, n: usize)
+    requires { ⌜ (at < 2 ^ 62) × (n ≤ 5254) ⌝ }
+{
+    print_word(read(log, at));
+    let mut i = 1;
+    while i < n {
+        io::write_all(STDOUT_FILENO, b" ");
+        print_word(read(log, at + i));
+        i += 1;
+    }
+    io::write_all(STDOUT_FILENO, b"\n");
+}
+
+// Prints the records in the first `size` words of the log.
+fn print_records(circuit: &[u8], log: &[u8], size: usize)
+    requires { ⌜ size < 2 ^ 62 ⌝ }
+{
+    let shown = outputs(circuit);
+    let mut at = 0;
+    while at < size {
+        let n = record_words(log, at, shown);
+        print_record(log, at, n);
+        at += n;
+    }
+}
+
+// Prints the stop and the ticks done.
+fn print_end(stop: u64, ticks: u64) {
+    io::write_all(STDOUT_FILENO, b"end ");
+    io::print_decimal(STDOUT_FILENO, stop);
+    io::write_all(STDOUT_FILENO, b" ");
+    io::print_decimal(STDOUT_FILENO, ticks);
+    io::write_all(STDOUT_FILENO, b"\n");
+}
+
+// Prints the number of the refusal.
+fn print_refused(number: u64) {
+    io::write_all(STDOUT_FILENO, b"refused ");
+    io::print_decimal(STDOUT_FILENO, number);
+    io::write_all(STDOUT_FILENO, b"\n");
+}
+
+// ---- playing
 
 // A file that was read: whether all of it fitted the buffer, and how many bytes came.
 struct Contents {

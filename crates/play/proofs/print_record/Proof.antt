@@ -1,12 +1,7 @@
 use Prim.Native.Nat.{_-_}
 use borrow.Author.Needs.{needs}
-use Rattle.play.proofs.records.print_record.Statement.{statement}
-use Rattle.play.proofs.records.print_record.Tie as tie
-use Rattle.play.proofs.records.print_record.Reads as reads
-use Rattle.play.proofs.records.print_record.Lts as lts
-use Rattle.io.proofs.write_all.Reads as write-all-reads
-use Rattle.play.proofs.records.print_word.Reads as print-word-reads
-use Rattle.words.proofs.read.Reads as read-reads
+use Rattle.play.proofs.print_record.Statement.{statement}
+use Rattle.play.proofs.print_record.Tie as tie
 
 abbrev Inv-loop : tie.InvT-loop
 Inv-loop log at n i₀ t5 t6 i = Unit {0}
@@ -14,59 +9,45 @@ Inv-loop log at n i₀ t5 t6 i = Unit {0}
 abbrev μ-loop : tie.MeasureT-loop
 μ-loop log at n i₀ t5 t6 i = n - i
 
--- src/records.rt:66:16
 read-requires : tie.Need-read-requires Inv-loop μ-loop
 read-requires c κs = search needs
 
--- src/records.rt:66:5
 print-word-requires : tie.Need-print-word-requires Inv-loop μ-loop
 print-word-requires c κs = search needs
 
--- src/records.rt:68:5
 loop-holds : tie.Need-loop-holds Inv-loop μ-loop
 loop-holds c = search needs
 
--- src/records.rt:69:38
 slice-aggregate-write-all : tie.Need-slice-aggregate-write-all Inv-loop μ-loop
 slice-aggregate-write-all c = search needs
 
--- src/records.rt:69:9
 write-all-requires : tie.Need-write-all-requires Inv-loop μ-loop
 write-all-requires c κs = search needs
 
--- src/records.rt:70:30
 add-read : tie.Need-add-read Inv-loop μ-loop
 add-read c = search needs
 
--- src/records.rt:70:20
 read-requires-2 : tie.Need-read-requires-2 Inv-loop μ-loop
 read-requires-2 c κs = search needs
 
--- src/records.rt:70:9
 print-word-requires-2 : tie.Need-print-word-requires-2 Inv-loop μ-loop
 print-word-requires-2 c κs = search needs
 
--- src/records.rt:71:9
 add-i : tie.Need-add-i Inv-loop μ-loop
 add-i c = search needs
 
--- src/records.rt:68:5
 loop-less : tie.Need-loop-less Inv-loop μ-loop
 loop-less c = search needs
 
--- src/records.rt:68:5
 loop-again : tie.Need-loop-again Inv-loop μ-loop
 loop-again c = search needs
 
--- src/records.rt:73:34
 slice-aggregate-write-all-2 : tie.Need-slice-aggregate-write-all-2 Inv-loop μ-loop
 slice-aggregate-write-all-2 c = search needs
 
--- src/records.rt:73:5
 write-all-requires-2 : tie.Need-write-all-requires-2 Inv-loop μ-loop
 write-all-requires-2 c κs = search needs
 
--- src/records.rt:63:1
 returns : tie.Need-returns Inv-loop μ-loop
 returns c = search needs
 
