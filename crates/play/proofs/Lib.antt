@@ -1,2 +1,3 @@
--- Laws that the proofs of the program cite.
-pub mod Laws
+-- What the proofs of several functions use.
+mod Laws
+mod Texts

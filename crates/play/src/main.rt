@@ -3,11 +3,13 @@ ghost use Prim.Native.Nat.{_^_, _≤_, _<_};
 ghost use Rattle.io.specs.Counts.{Counts};
 
 mod records;
+mod text;
 
 use libc::STDOUT_FILENO;
 use records::outputs;
 use records::record_words;
 use run::Answer;
+use text::add_word;
 use words::read;
 
 // What is printed where a file is missing or too long.
@@ -15,28 +17,23 @@ const NO_FILES: u64 = 14;
 
 // ---- printing: a record each, its words in signed decimal with one space between, and then the end; or the refusal
 
-// Prints a word in signed decimal.
-fn print_word(word: u64) {
-    if word < 0x8000_0000_0000_0000 {
-        io::print_decimal(STDOUT_FILENO, word);
-        return;
-    }
-    io::write_all(STDOUT_FILENO, b"-");
-    io::print_decimal(STDOUT_FILENO, 0xFFFF_FFFF_FFFF_FFFF - word + 1);
+// Prints a word in signed decimal, and the byte behind it.
+fn print_word(word: u64, last: u8) {
+    let mut text = [0u8; 22];
+    let n = add_word(&mut text, 0, word, last);
+    io::write_all(STDOUT_FILENO, &text[..n]);
 }
 
 // Prints n words from word `at` on as a line.
 fn print_record(log: &[u8], at: usize, n: usize)
     requires { ⌜ (at < 2 ^ 62) × (n ≤ 5254) ⌝ }
 {
-    print_word(read(log, at));
-    let mut i = 1;
-    while i < n {
-        io::write_all(STDOUT_FILENO, b" ");
-        print_word(read(log, at + i));
+    let mut i = 0;
+    while i + 1 < n {
+        print_word(read(log, at + i), b' ');
         i += 1;
     }
-    io::write_all(STDOUT_FILENO, b"\n");
+    print_word(read(log, at + i), b'\n');
 }
 
 // Prints the records in the first `size` words of the log.
