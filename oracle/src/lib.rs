@@ -18,11 +18,12 @@ pub mod questions;
 pub mod script;
 pub mod words;
 
-// The stated circuits (build, generate, circuits, vectors, pack):
+// The stated circuits (build, generate, circuits, vectors, pack, runs):
 pub mod build;
 pub mod circuits;
 pub mod generate;
 pub mod pack;
+pub mod runs;
 pub mod vectors;
 
 /// How many bytes are lent for the log and for the three areas.

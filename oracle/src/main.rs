@@ -16,6 +16,7 @@ oracle circuits [NAME DIR]
 oracle generate FAMILY SEED DIR
 oracle vectors DIR [FIRST LAST]
 oracle pack FILE
+oracle pack runs FILE
 oracle mutants [NAME..]";
 
 fn main() -> ExitCode {
@@ -49,6 +50,12 @@ fn run(words: &[&str]) -> Option<()> {
         ["pack", file] => {
             std::fs::write(file, oracle::pack::pack()).ok()?;
             print!("{}", oracle::pack::printed());
+        }
+        ["pack", "runs", file] => {
+            let runs = oracle::runs::runs();
+            std::fs::write(file, oracle::runs::pack(&runs)).ok()?;
+            print!("{}", oracle::runs::printed(&runs));
+            eprintln!("{} left out", runs.left_out);
         }
         ["mutants", names @ ..] => mutants::try_mutants(names),
         _ => return None,

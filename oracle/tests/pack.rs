@@ -1,16 +1,21 @@
-//! The packed questions: crates/asked holds what `oracle pack` writes and
-//! prints now, and what is packed can be read back.
+//! The packed questions and runs: crates/asked and crates/replay hold what
+//! `oracle pack` writes and prints now, and what is packed can be read back.
 
 use oracle::circuits::{self, Case};
 use oracle::pack::{cases, pack, printed};
 use oracle::questions::ask;
+use oracle::runs;
 
 const FILE: &str = concat!(env!("CARGO_MANIFEST_DIR"), "/../crates/asked/data/questions.bin");
 const PRINTED: &str = concat!(env!("CARGO_MANIFEST_DIR"), "/../crates/asked/stdout");
 
 const AGAIN: &str = "oracle pack crates/asked/data/questions.bin > crates/asked/stdout";
 
-/// What the program has room for: a circuit, a script, and the whole.
+const RUNS: &str = concat!(env!("CARGO_MANIFEST_DIR"), "/../crates/replay/data/runs.bin");
+const RUNS_PRINTED: &str = concat!(env!("CARGO_MANIFEST_DIR"), "/../crates/replay/stdout");
+const RUNS_AGAIN: &str = "oracle pack runs crates/replay/data/runs.bin > crates/replay/stdout";
+
+/// What a program has room for: a circuit, a script, and the whole.
 const ROOM: usize = 65_536;
 const WHOLE: usize = 1_500_000;
 
@@ -72,4 +77,37 @@ fn what_is_left_out() {
         .filter(|name| !packed.contains(name))
         .collect();
     assert_eq!(left, ["q8-no-t-100001", "q8-no-s-65536"]);
+}
+
+#[test]
+fn the_packed_runs_are_up_to_date() {
+    let runs = runs::runs();
+    let file = std::fs::read(RUNS).expect("the packed runs");
+    assert!(file == runs::pack(&runs), "write them again: {RUNS_AGAIN}");
+    assert!(file.len() < 2_000_000, "{}", file.len());
+    let text = std::fs::read_to_string(RUNS_PRINTED).expect("what the program has to print");
+    assert_eq!(text, runs::printed(&runs), "write it again: {RUNS_AGAIN}");
+    assert_eq!((runs.packed.len(), runs.left_out), (606, 345));
+}
+
+#[test]
+fn every_run_can_be_read_back() {
+    let runs = runs::runs();
+    let packed = runs::pack(&runs);
+    let mut rest = &packed[..];
+    assert_eq!(number(&mut rest), runs.packed.len());
+    for run in &runs.packed {
+        let name = &run.case.name;
+        assert_eq!([(); 4].map(|()| number(&mut rest)), runs::lent(run), "{name}");
+        assert_eq!(number(&mut rest), usize::from(run.stop), "{name}");
+        assert_eq!(number(&mut rest) as u64, run.ticks, "{name}");
+        let lengths = [(); 3].map(|()| number(&mut rest));
+        for (length, part) in lengths.into_iter().zip(runs::parts(run)) {
+            let (bytes, after) = rest.split_at(length);
+            rest = after;
+            assert!(bytes == part && length <= ROOM, "{name}");
+        }
+        assert!(runs::lent(run).iter().all(|&length| length <= ROOM), "{name}");
+    }
+    assert!(rest.is_empty());
 }

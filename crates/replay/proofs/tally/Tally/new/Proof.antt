@@ -1,0 +1,15 @@
+use Rattle.replay.specs.Tally.{none-played}
+use mathlib.Core.Path.{refl}
+use borrow.Author.Needs.{needs}
+use Rattle.replay.proofs.tally.Tally.new.Statement.{statement}
+use Rattle.replay.proofs.tally.Tally.new.Tie as tie
+use Rattle.replay.proofs.tally.Tally.new.Reads as reads
+use Rattle.replay.proofs.tally.Tally.new.Lts as lts
+
+-- src/tally.rt:15:5
+returns : tie.Need-returns
+unfolding none-played
+returns c = refl
+
+pub new-spec : {M : Type 1} → statement M
+new-spec = tie.close (tie.spec returns)

@@ -1,0 +1,22 @@
+-- Bytes compared.
+use Prim.Native.Nat.{ℕ}
+use mathlib.Core.Bool.{Bool, true, false, _&&_}
+use mathlib.Core.List.{List, [], _∷_}
+use lib.Dec.{eqb}
+use lib.ListN.{length, take, drop}
+
+-- every byte is this one
+unfoldable pub alike : ℕ → List ℕ → Bool
+alike b [] = true
+alike b (x ∷ xs) = eqb x b && alike b xs
+
+-- both are of one length, with the same bytes
+unfoldable pub same : List ℕ → List ℕ → Bool
+same [] [] = true
+same [] (y ∷ ys) = false
+same (x ∷ xs) [] = false
+same (x ∷ xs) (y ∷ ys) = eqb x y && same xs ys
+
+-- a log holds these records, and behind them nothing but this byte
+unfoldable pub holds : ℕ → List ℕ → List ℕ → Bool
+holds b log records = same (take (length records) log) records && alike b (drop (length records) log)

@@ -1,0 +1,4 @@
+-- What the contracts of the program cite.
+pub mod Bytes
+pub mod Due
+pub mod Tally

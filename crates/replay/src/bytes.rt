@@ -1,0 +1,63 @@
+// Bytes made alike, and compared.
+ghost use mathlib.Core.Path.{_≡_};
+ghost use lib.ListN.{length, replicate};
+ghost use Rattle.replay.specs.Bytes.{alike, same, holds};
+
+// Makes every byte of the area this one.
+pub fn fill(area: &mut [u8], byte: u8)
+    ensures { λ _. ⌜ now (area .exit) ≡ replicate (length (now (area .entry))) byte ⌝ }
+{
+    let n = area.len();
+    let mut i = 0;
+    while i < n {
+        area[i] = byte;
+        i += 1;
+    }
+}
+
+// Whether every byte of the area is this one.
+pub fn is_alike(area: &[u8], byte: u8) -> bool
+    ensures { λ r. ⌜ r ≡ alike byte (now (area .entry)) ⌝ }
+{
+    let n = area.len();
+    let mut i = 0;
+    while i < n {
+        if area[i] != byte {
+            return false;
+        }
+        i += 1;
+    }
+    true
+}
+
+// Whether both are of one length, with the same bytes.
+pub fn is_same(a: &[u8], b: &[u8]) -> bool
+    ensures { λ r. ⌜ r ≡ same (now (a .entry)) (now (b .entry)) ⌝ }
+{
+    let n = a.len();
+    if b.len() != n {
+        return false;
+    }
+    let mut i = 0;
+    while i < n {
+        if a[i] != b[i] {
+            return false;
+        }
+        i += 1;
+    }
+    true
+}
+
+// Whether the log holds these records, and behind them nothing but this byte.
+pub fn is_holding(log: &[u8], records: &[u8], byte: u8) -> bool
+    ensures { λ r. ⌜ r ≡ holds byte (now (log .entry)) (now (records .entry)) ⌝ }
+{
+    let n = records.len();
+    if log.len() < n {
+        return false;
+    }
+    if !is_same(&log[..n], records) {
+        return false;
+    }
+    is_alike(&log[n..], byte)
+}
