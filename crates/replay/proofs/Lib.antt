@@ -2,3 +2,4 @@
 mod Comparing
 mod Ending
 mod Laws
+mod Meeting

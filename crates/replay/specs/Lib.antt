@@ -1,4 +1,5 @@
 -- What the contracts of the program cite.
 pub mod Bytes
 pub mod Due
+pub mod Met
 pub mod Tally

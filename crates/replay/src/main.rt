@@ -1,5 +1,7 @@
 // Plays every run of runs.bin and compares what comes of it with what is due, byte by byte.
+ghost use mathlib.Core.Path.{_≡_};
 ghost use Rattle.io.specs.Counts.{Counts};
+ghost use Rattle.replay.specs.Met.{met};
 
 mod bytes;
 mod due;
@@ -46,7 +48,9 @@ fn play_lent(
     values: &mut [u8],
     units: &mut [u8],
     delays: &mut [u8],
-) -> bool {
+) -> bool
+    ensures { λ r. ⌜ r ≡ met due (now (circuit .entry)) (now (script .entry)) (now (records .entry)) (now (log .entry)) (now (values .entry)) (now (units .entry)) (now (delays .entry)) ⌝ }
+{
     fill(log, FILLED);
     fill(values, FILLED);
     fill(units, FILLED);
