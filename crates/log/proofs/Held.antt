@@ -12,9 +12,9 @@ use Rattle.lists.proofs.Stacks.{stacked-length, entry-is}
 use Rattle.model.specs.declared.Value.{Value}
 use Rattle.model.specs.declared.Value.the-variants.{Nothing}
 use Rattle.model.specs.Base.{both}
-use Rattle.model.specs.Value.{value-of}
 use Rattle.model.specs.Circuit.{Circuit}
 use Rattle.model.proofs.Lists.{both-length}
+use Rattle.wires.specs.Held.{held}
 use Rattle.wires.specs.View.{cut as cut-values, values}
 use Rattle.wires.proofs.Lists.{both-get}
 use Rattle.wires.proofs.Area.{cut-peek, sized}
@@ -30,8 +30,8 @@ unfolding values outs-in
 outs-are c bs = refl
 
 module _ (bs : List ℕ) (n : ℕ) (l : 65536 ≤ length bs) (h : n ≤ 576) where
-  kinds-length : length (cut-values (words bs) .out-kinds) ≡ 576
-  kinds-length = sized bs 8 l (omega arith) (omega arith)
+  tags-length : length (cut-values (words bs) .out-tags) ≡ 576
+  tags-length = sized bs 8 l (omega arith) (omega arith)
 
   contents-length : length (cut-values (words bs) .out-contents) ≡ 576
   contents-length = sized bs 9 l (omega arith) (omega arith)
@@ -40,19 +40,19 @@ module _ (bs : List ℕ) (n : ℕ) (l : 65536 ≤ length bs) (h : n ≤ 576) whe
   unfolding outs-in
   outs-in-length =
       let t = cut-values (words bs) in
-      let k : length (both value-of (t .out-kinds) (t .out-contents)) ≡ 576 = both-length value-of (t .out-kinds) (t .out-contents) (kinds-length ∙ sym contents-length) ∙ kinds-length in
-      length-take-le n (both value-of (t .out-kinds) (t .out-contents)) (omega arith)
+      let k : length (both held (t .out-tags) (t .out-contents)) ≡ 576 = both-length held (t .out-tags) (t .out-contents) (tags-length ∙ sym contents-length) ∙ tags-length in
+      length-take-le n (both held (t .out-tags) (t .out-contents)) (omega arith)
 
-  outs-get : (i : ℕ) → i < n → getD (outs-in n bs) i Nothing ≡ value-of (getD (words bs) (8 + i) 0) (getD (words bs) (584 + i) 0)
+  outs-get : (i : ℕ) → i < n → getD (outs-in n bs) i Nothing ≡ held (getD (words bs) (8 + i) 0) (getD (words bs) (584 + i) 0)
   unfolding outs-in
   outs-get i k =
       let t = cut-values (words bs) in
-      getD-take n (both value-of (t .out-kinds) (t .out-contents)) i Nothing k
-      ∙ both-get value-of (t .out-kinds) (t .out-contents) i 0 0 Nothing (omega (arith, kinds-length)) (omega (arith, contents-length))
-      ∙ sym (ap₂ value-of (cut-peek (words bs) 8 i (omega arith)) (cut-peek (words bs) 9 i (omega arith)))
+      getD-take n (both held (t .out-tags) (t .out-contents)) i Nothing k
+      ∙ both-get held (t .out-tags) (t .out-contents) i 0 0 Nothing (omega (arith, tags-length)) (omega (arith, contents-length))
+      ∙ sym (ap₂ held (cut-peek (words bs) 8 i (omega arith)) (cut-peek (words bs) 9 i (omega arith)))
 
   -- the i-th of them, and those behind it
-  pub outs-at : (i : ℕ) → i < n → drop i (outs-in n bs) ≡ value-of (getD (words bs) (8 + i) 0) (getD (words bs) (584 + i) 0) ∷ drop (i + 1) (outs-in n bs)
+  pub outs-at : (i : ℕ) → i < n → drop i (outs-in n bs) ≡ held (getD (words bs) (8 + i) 0) (getD (words bs) (584 + i) 0) ∷ drop (i + 1) (outs-in n bs)
   outs-at i k =
       let d : drop i (outs-in n bs) ≡ getD (outs-in n bs) i Nothing ∷ drop (suc i) (outs-in n bs) = drop-cons (outs-in n bs) i Nothing (omega (arith, outs-in-length)) in
       rw (add-one i) (d ∙ ap (λ (v : Value). v ∷ drop (suc i) (outs-in n bs)) (outs-get i k))

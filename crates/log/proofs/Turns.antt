@@ -1,17 +1,15 @@
 -- What the rows of a record come to: the head, the loops over the units begun and over the outputs, and the two words of a value.
 use Prim.Native.Nat.{ℕ, zero, suc, _+_, _≤_, _<_}
-use mathlib.Core.Path.{_≡_, refl, sym, ap, _∙_}
-use mathlib.Core.Bool.{true, false}
+use mathlib.Core.Path.{_≡_, sym, ap, ap₂, _∙_}
 use mathlib.Core.List.{List, [], map}
 use native.Mathlib.Omega.{arith}
-use borrow.Author.Tests.{eq-eqb, ne-eqb}
-use lib.Dec.{eqb}
 use lib.ListN.{length, getD}
 use Rattle.words.specs.Words.{words, Stored}
 use Rattle.model.specs.declared.Value.{Value}
-use Rattle.model.specs.Value.{bit, kind-of, content-of, value-of}
+use Rattle.model.specs.Value.{kind-of, content-of}
 use Rattle.model.specs.Circuit.{Circuit}
 use Rattle.links.specs.Links.{net}
+use Rattle.wires.specs.Held.{held}
 use Rattle.units.specs.View.{Begun, begun-of, units}
 use Rattle.log.specs.declared.Head.{Head}
 use Rattle.log.specs.Rows.{Filled, head-row, begun-in, outs-in}
@@ -58,51 +56,17 @@ module _ (f : Begun → ℕ) (us : List ℕ) where
 
 module _ (f : Value → ℕ) (vs : List ℕ) {n : ℕ} (l : 65536 ≤ length vs) (m : n ≤ 576) where
   pub outs-next :
-      {s t u : List ℕ} {p i x : ℕ} → i < n → x ≡ f (value-of (getD (words vs) (8 + i) 0) (getD (words vs) (584 + i) 0)) → Stored t u (p + i) x →
+      {s t u : List ℕ} {p i x : ℕ} → i < n → x ≡ f (held (getD (words vs) (8 + i) 0) (getD (words vs) (584 + i) 0)) → Stored t u (p + i) x →
       Filling f (outs-in n vs) s t p i → Filling f (outs-in n vs) s u p (i + 1)
   outs-next {i = i} h = filling-next f (outs-in n vs) _ (outs-at vs n l m i h)
 
   pub outs-last : {s t : List ℕ} {p i : ℕ} → n ≤ i → Filling f (outs-in n vs) s t p i → Filled s t p (map f (outs-in n vs))
   outs-last h = filling-last f (outs-in n vs) (omega (arith, outs-in-length vs n l m))
 
--- ---- the kind and the content of a value that was read as kind j and content d
+-- ---- the kind and the content of a value whose tag t and content d were read
 
-pub kind-below : (k b : ℕ) (j : ℕ) → j ≡ k → j < 3 → j ≡ kind-of (value-of k b)
-unfolding kind-of value-of
-kind-below zero b j e h = e
-kind-below (suc zero) b j e h = e
-kind-below (suc (suc zero)) b j e h = e
-kind-below (suc (suc (suc k))) b j e h = absurd (omega arith)
+pub kind-read : (r t k b : ℕ) → ((d : ℕ) → r ≡ kind-of (held t d)) → t ≡ k → r ≡ kind-of (held k b)
+kind-read r t k b h e = h b ∙ ap (λ (x : ℕ). kind-of (held x b)) e
 
-pub kind-above : (k b : ℕ) (j : ℕ) → j ≡ k → 3 ≤ j → 3 ≡ kind-of (value-of k b)
-unfolding kind-of value-of
-kind-above zero b j e h = absurd (omega arith)
-kind-above (suc zero) b j e h = absurd (omega arith)
-kind-above (suc (suc zero)) b j e h = absurd (omega arith)
-kind-above (suc (suc (suc k))) b j e h = refl
-
-pub content-none : (k b : ℕ) (j : ℕ) → j ≡ k → j ≡ 0 → 0 ≡ content-of (value-of k b)
-unfolding content-of value-of
-content-none zero b j e h = refl
-content-none (suc k) b j e h = absurd (omega arith)
-
-pub content-below : (k b : ℕ) (j d : ℕ) → j ≡ k → d ≡ b → (j ≡ 0 → ⊥) → j < 3 → d ≡ content-of (value-of k b)
-unfolding content-of value-of
-content-below zero b j d e g z h = absurd (z e)
-content-below (suc zero) b j d e g z h = g
-content-below (suc (suc zero)) b j d e g z h = g
-content-below (suc (suc (suc k))) b j d e g z h = absurd (omega arith)
-
-pub content-false : (k b : ℕ) (j d : ℕ) → j ≡ k → d ≡ b → 3 ≤ j → d ≡ 0 → 0 ≡ content-of (value-of k b)
-unfolding content-of value-of bit
-content-false zero b j d e g h z = absurd (omega arith)
-content-false (suc zero) b j d e g h z = absurd (omega arith)
-content-false (suc (suc zero)) b j d e g h z = absurd (omega arith)
-content-false (suc (suc (suc k))) b j d e g h z = let q : eqb b 0 ≡ true = eq-eqb b 0 (sym g ∙ z) in rw q
-
-pub content-true : (k b : ℕ) (j d : ℕ) → j ≡ k → d ≡ b → 3 ≤ j → (d ≡ 0 → ⊥) → 1 ≡ content-of (value-of k b)
-unfolding content-of value-of bit
-content-true zero b j d e g h z = absurd (omega arith)
-content-true (suc zero) b j d e g h z = absurd (omega arith)
-content-true (suc (suc zero)) b j d e g h z = absurd (omega arith)
-content-true (suc (suc (suc k))) b j d e g h z = let q : eqb b 0 ≡ false = ne-eqb b 0 (λ y. z (g ∙ y)) in rw q
+pub content-read : (r t d k b : ℕ) → r ≡ content-of (held t d) → t ≡ k → d ≡ b → r ≡ content-of (held k b)
+content-read r t d k b h e f = h ∙ ap₂ (λ (x y : ℕ). content-of (held x y)) e f

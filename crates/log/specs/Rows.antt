@@ -8,7 +8,8 @@ use Rattle.words.specs.Words.{words, tail}
 use Rattle.lists.specs.Lists.{appended}
 use Rattle.model.specs.declared.Value.{Value}
 use Rattle.model.specs.Base.{both}
-use Rattle.model.specs.Value.{kind-of, content-of, value-of}
+use Rattle.model.specs.Value.{kind-of, content-of}
+use Rattle.wires.specs.Held.{held}
 use Rattle.wires.specs.View.{cut as cut-values}
 use Rattle.units.specs.View.{Begun, begun-of, cut}
 use Rattle.log.specs.declared.Head.{Head}
@@ -32,7 +33,7 @@ units-row begun = map (λ b. b .gate) begun ++ map (λ b. b .form) begun
 
 -- what the first n outputs show, by the area `values`
 unfoldable pub outs-in : ℕ → List ℕ → List Value
-outs-in n bs = take n (both value-of (cut-values (words bs) .out-kinds) (cut-values (words bs) .out-contents))
+outs-in n bs = take n (both held (cut-values (words bs) .out-tags) (cut-values (words bs) .out-contents))
 
 -- their kinds, then their contents
 unfoldable pub outputs-row : List Value → List ℕ

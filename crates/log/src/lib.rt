@@ -6,8 +6,9 @@ ghost use lib.Dec.{eqb};
 ghost use lib.ListN.{length, getD};
 ghost use Rattle.words.specs.Words.{words};
 ghost use Rattle.model.specs.Base.{if_then_else_};
-ghost use Rattle.model.specs.Value.{kind-of, content-of, value-of};
+ghost use Rattle.model.specs.Value.{kind-of, content-of};
 ghost use Rattle.links.specs.Links.{net};
+ghost use Rattle.wires.specs.Held.{held};
 // The definitions `values` and `units` are named for what they hold, beside the slices of their names.
 ghost use Rattle.wires.specs.View.{values as values-view};
 ghost use Rattle.units.specs.View.{units as units-view};
@@ -17,6 +18,8 @@ use links::outputs;
 use units::begun::begun;
 use units::entries::form_of;
 use units::entries::gate_of;
+use wires::held::content_held;
+use wires::held::kind_held;
 use words::get;
 use words::put;
 
@@ -42,13 +45,10 @@ const HEAD: usize = 6;
 // Where the entries of the units begun begin in the area `units`, in words.
 const BEGUN: usize = 1353;
 
-// Where the kinds and the contents of the outputs begin in the area `values`, in words.
-const OUT_KINDS: usize = 8;
+// Where the tags and the contents of the outputs begin in the area `values`, in words.
+const OUT_TAGS: usize = 8;
 
 const OUT_CONTENTS: usize = 584;
-
-// The kind of a Bool; every word above it is read as that kind, too.
-const BOOL: u64 = 3;
 
 // The head becomes the words of the log from word p on.
 fn write_head(log: &mut [u8], p: usize, head: Head)
@@ -115,32 +115,17 @@ fn outputs_shown(links: &[usize], stop: u64) -> usize
 // The kind of what output o shows.
 fn kind_at(values: &[u8], o: usize) -> u64
     requires { ⌜ (65536 ≤ length (now values)) × (o < 576) ⌝ }
-    ensures { λ r. ⌜ r ≡ kind-of (value-of (getD (words (now (values .entry))) (8 + o) 0) (getD (words (now (values .entry))) (584 + o) 0)) ⌝ }
+    ensures { λ r. ⌜ r ≡ kind-of (held (getD (words (now (values .entry))) (8 + o) 0) (getD (words (now (values .entry))) (584 + o) 0)) ⌝ }
 {
-    let kind = get(values, OUT_KINDS + o);
-    if kind < BOOL {
-        return kind;
-    }
-    BOOL
+    kind_held(get(values, OUT_TAGS + o))
 }
 
 // The content of what output o shows.
 fn content_at(values: &[u8], o: usize) -> u64
     requires { ⌜ (65536 ≤ length (now values)) × (o < 576) ⌝ }
-    ensures { λ r. ⌜ r ≡ content-of (value-of (getD (words (now (values .entry))) (8 + o) 0) (getD (words (now (values .entry))) (584 + o) 0)) ⌝ }
+    ensures { λ r. ⌜ r ≡ content-of (held (getD (words (now (values .entry))) (8 + o) 0) (getD (words (now (values .entry))) (584 + o) 0)) ⌝ }
 {
-    let kind = get(values, OUT_KINDS + o);
-    let content = get(values, OUT_CONTENTS + o);
-    if kind < BOOL {
-        if kind == 0 {
-            return 0;
-        }
-        return content;
-    }
-    if content == 0 {
-        return 0;
-    }
-    1
+    content_held(get(values, OUT_TAGS + o), get(values, OUT_CONTENTS + o))
 }
 
 // The kinds of the first n outputs become the words from word p on.

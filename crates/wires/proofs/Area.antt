@@ -13,7 +13,7 @@ use Rattle.wires.specs.View.{Tables, sizes, of, cut}
 -- the tables as a list
 abbrev pub to : Tables → List (List ℕ)
 to t =
-    t .tick ∷ t .dt ∷ t .uptime ∷ t .dirty ∷ t .unions-passed ∷ t .head ∷ t .count ∷ t .written-count ∷ t .out-kinds ∷ t .out-contents ∷ t .queued
+    t .tick ∷ t .dt ∷ t .uptime ∷ t .dirty ∷ t .unions-passed ∷ t .head ∷ t .count ∷ t .written-count ∷ t .out-tags ∷ t .out-contents ∷ t .queued
     ∷ t .slots ∷ t .last-kinds ∷ t .last-contents ∷ t .ticks ∷ t .up ∷ t .written ∷ t .stack ∷ t .rest ∷ []
 
 -- place i of table n becomes v

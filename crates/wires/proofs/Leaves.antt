@@ -16,15 +16,16 @@ use Rattle.words.proofs.Tables.{take-set, digits-length, digits-get, digits-or,
 use Rattle.model.specs.declared.Value.{Value}
 use Rattle.model.specs.declared.Value.the-variants.{Nothing}
 use Rattle.model.specs.Base.{if_then_else_, both, snoc}
-use Rattle.model.specs.Value.{value-of, kind-of, content-of}
+use Rattle.model.specs.Value.{content-of}
 use Rattle.model.specs.Circuit.{Circuit}
 use Rattle.model.specs.State.{Wires, outs≔, dirty≔, to-check≔}
 use Rattle.model.specs.Wires.{shown, show, is-dirty, is-clean, soil, clean, watch}
-use Rattle.values.proofs.Laws.{made-again}
+use Rattle.wires.specs.Held.{held, tag-of}
 use Rattle.wires.specs.View.{cut, with-wires, values}
 use Rattle.wires.specs.Marking.{Area, area-with, area}
 use Rattle.wires.proofs.Lists.{both-set, both-get}
 use Rattle.wires.proofs.Area.{cut-poke, cut-peek, sized}
+use Rattle.wires.proofs.Tags.{held-again}
 
 -- a count that the code has read is that of the circuit, and at most the table's
 abbrev pub Counts : ℕ → ℕ → ℕ → Type 0
@@ -35,28 +36,28 @@ Counts most n m = (n ≡ m) × (n ≤ most)
 module _ (c : Circuit) (bs : List ℕ) (o n : ℕ) (en : Counts 576 n (length (c .outputs))) where
   pub shown-in :
       (k b : ℕ) (r : Value) → 65536 ≤ length bs → o < n → k ≡ getD (words bs) (8 + o) 0 → b ≡ getD (words bs) (584 + o) 0 →
-      r ≡ value-of k b → r ≡ shown (values c bs .wires) o
+      r ≡ held k b → r ≡ shown (values c bs .wires) o
   unfolding values shown
   shown-in k b r l h ek eb er =
       let t = cut (words bs) in
-      let mk : length (t .out-kinds) ≡ 576 = sized bs 8 l (omega arith) (omega arith) in
+      let mk : length (t .out-tags) ≡ 576 = sized bs 8 l (omega arith) (omega arith) in
       let mb : length (t .out-contents) ≡ 576 = sized bs 9 l (omega arith) (omega arith) in
-      let pk : k ≡ getD (t .out-kinds) o 0 = ek ∙ cut-peek (words bs) 8 o (omega arith) in
+      let pk : k ≡ getD (t .out-tags) o 0 = ek ∙ cut-peek (words bs) 8 o (omega arith) in
       let pb : b ≡ getD (t .out-contents) o 0 = eb ∙ cut-peek (words bs) 9 o (omega arith) in
-      er ∙ ap₂ value-of pk pb
-      ∙ sym (getD-take (length (c .outputs)) (both value-of (t .out-kinds) (t .out-contents)) o Nothing (omega (arith, en .0))
-      ∙ both-get value-of (t .out-kinds) (t .out-contents) o 0 0 Nothing (omega arith) (omega arith))
+      er ∙ ap₂ held pk pb
+      ∙ sym (getD-take (length (c .outputs)) (both held (t .out-tags) (t .out-contents)) o Nothing (omega (arith, en .0))
+      ∙ both-get held (t .out-tags) (t .out-contents) o 0 0 Nothing (omega arith) (omega arith))
 
   outs-few : length (values c bs .wires .outs) ≤ n
   unfolding values
-  outs-few = omega (arith, en .0, length-take (length (c .outputs)) (both value-of (cut (words bs) .out-kinds) (cut (words bs) .out-contents)))
+  outs-few = omega (arith, en .0, length-take (length (c .outputs)) (both held (cut (words bs) .out-tags) (cut (words bs) .out-contents)))
 
   pub shown-out : n ≤ o → Nothing ≡ shown (values c bs .wires) o
   unfolding shown
   shown-out h = sym (List·getD-eq-default (values c bs .wires .outs) Nothing {n = o} (omega (arith, outs-few)))
 
   pub show-in :
-      (bs₁ bs₂ : List ℕ) (k b : ℕ) (v : Value) → o < n → k ≡ kind-of v → Stored bs bs₁ (8 + o) k → b ≡ content-of v → Stored bs₁ bs₂ (584 + o) b →
+      (bs₁ bs₂ : List ℕ) (k b : ℕ) (v : Value) → o < n → k ≡ tag-of v → Stored bs bs₁ (8 + o) k → b ≡ content-of v → Stored bs₁ bs₂ (584 + o) b →
       values c bs₂ ≡ with-wires (values c bs) (show (values c bs .wires) o v)
   unfolding values show outs≔
   show-in bs₁ bs₂ k b v h ek e₁ eb e₂ =
@@ -69,9 +70,9 @@ module _ (c : Circuit) (bs : List ℕ) (o n : ℕ) (en : Counts 576 n (length (c
         e₁ .tail,
         ek,
         eb,
-        both-set value-of (cut (words bs) .out-kinds) (cut (words bs) .out-contents) o (kind-of v) (content-of v),
-        take-set (length (c .outputs)) (both value-of (cut (words bs) .out-kinds) (cut (words bs) .out-contents)) o (value-of (kind-of v) (content-of v)),
-        made-again v,
+        both-set held (cut (words bs) .out-tags) (cut (words bs) .out-contents) o (tag-of v) (content-of v),
+        take-set (length (c .outputs)) (both held (cut (words bs) .out-tags) (cut (words bs) .out-contents)) o (held (tag-of v) (content-of v)),
+        held-again v,
       )
 
   pub show-out : (v : Value) → n ≤ o → values c bs ≡ with-wires (values c bs) (show (values c bs .wires) o v)

@@ -1,5 +1,6 @@
 pub mod Lists
 pub mod Area
+pub mod Tags
 pub mod Leaves
 pub mod Steps
 pub mod Checks

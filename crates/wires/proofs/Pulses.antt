@@ -1,5 +1,5 @@
 -- Pulses: raised, ended, and lowered by the words that say which are up; one law for each way out of a function.
-use Prim.Native.Nat.{ℕ, zero, suc, _+_, _-_, _*_, _/_, _%_, _^_, _≤_, _<_, min}
+use Prim.Native.Nat.{ℕ, zero, suc, _+_, _-_, _*_, _/_, _%_, _^_, _≤_, _<_}
 use mathlib.Core.Path.{_≡_, refl, sym, ap, ap₂, _∙_}
 use mathlib.Core.Bool.{Bool, true, false, not, _&&_}
 use mathlib.Core.List.{List, [], _∷_}
@@ -22,8 +22,6 @@ use Rattle.model.specs.Settle.{pulse}
 use Rattle.model.specs.Opening.{lower}
 use Rattle.model.proofs.Lists.{if-both, in-range}
 use Rattle.model.proofs.Sized.{mark-readers-keeps}
-use Rattle.links.specs.Links.{cell, net}
-use Rattle.links.proofs.Reading.{outputs-counted}
 use Rattle.wires.specs.View.{cut, pulse-of, Values, with-wires, values}
 use Rattle.wires.proofs.Lists.{both-set, both-get, each-marked, each-shift, each-blocks, each-fewer, left-of, turn-first}
 use Rattle.wires.proofs.Area.{cut-poke, cut-peek, sized}
@@ -252,15 +250,14 @@ module _ (c : Circuit) where
       ∙ each-shift (lower c) (values c bs .wires) (64 * j) 0 64
       ∙ ap (λ (n : ℕ). each (lower c) (values c bs .wires) (from n 64)) (omega arith))
 
+-- all pulses, by as many words as the outputs take
 pub all-first :
-    (l bs : List ℕ) →
-    left-of (step (λ (w : Wires) (j : ℕ). each (lower (net l)) w (from (64 * j) 64))) (values (net l) bs) 0 9 0 ≡ with-wires (values (net l) bs) (each (lower (net l)) (values (net l) bs .wires) (from 0 (length (net l .outputs))))
-all-first l bs =
-    turn-first (step (λ (w : Wires) (j : ℕ). each (lower (net l)) w (from (64 * j) 64))) (values (net l) bs) 0 9
-    ∙ each-step (λ (w : Wires) (j : ℕ). each (lower (net l)) w (from (64 * j) 64)) (values (net l) bs) (from 0 9)
-    ∙ ap (with-wires (values (net l) bs))
-    (each-blocks (lower (net l)) (values (net l) bs .wires) 64 0 9
-    ∙ each-fewer (As-down (net l) (values (net l) bs .wires)) (lower (net l)) (lower-down (net l) (values (net l) bs .wires)) (length (net l .outputs)) 576
-    (omega (arith, outputs-counted l (min (cell l 3) 576) refl))
-    (λ w o h p. lower-idle (net l) w o (p o (sym (raised-past (net l) bs o (length (net l .outputs)) (refl, omega (arith, outputs-counted l (min (cell l 3) 576) refl)) h))))
-    (values (net l) bs .wires) (λ o q. q))
+    (c : Circuit) (bs : List ℕ) (n : ℕ) → Counts 576 n (length (c .outputs)) →
+    left-of (step (λ (w : Wires) (j : ℕ). each (lower c) w (from (64 * j) 64))) (values c bs) 0 ((n + 63) / 64) 0 ≡ with-wires (values c bs) (each (lower c) (values c bs .wires) (from 0 (length (c .outputs))))
+all-first c bs n en =
+    turn-first (step (λ (w : Wires) (j : ℕ). each (lower c) w (from (64 * j) 64))) (values c bs) 0 ((n + 63) / 64)
+    ∙ each-step (λ (w : Wires) (j : ℕ). each (lower c) w (from (64 * j) 64)) (values c bs) (from 0 ((n + 63) / 64))
+    ∙ ap (with-wires (values c bs))
+    (each-blocks (lower c) (values c bs .wires) 64 0 ((n + 63) / 64)
+    ∙ each-fewer (As-down c (values c bs .wires)) (lower c) (lower-down c (values c bs .wires)) (length (c .outputs)) (64 * ((n + 63) / 64)) (omega (arith, en .0))
+    (λ w o h p. lower-idle c w o (p o (sym (raised-past c bs o n en (omega (arith, en .0)))))) (values c bs .wires) (λ o q. q))

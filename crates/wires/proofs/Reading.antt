@@ -93,6 +93,12 @@ few-inputs (suc k) = leb-true _ _ (each-place (λ (x : Kind). leb (length (x .in
 pub counted-inputs : (k n g : ℕ) (c : Circuit) → k ≡ kind-of-gate c g → n ≡ length (kind-at k .ins) → (n ≡ length (kind-at (kind-of-gate c g) .ins)) × (n ≤ 10)
 counted-inputs k n g c ek en = (en ∙ ap (λ (x : ℕ). length (kind-at x .ins)) ek, omega (arith, few-inputs k))
 
+-- a fresh gate stays as it is, however deep
+refresh-fresh : (c : Circuit) (n : ℕ) (w : Wires) (g : ℕ) → is-dirty w g ≡ false → refresh-to c n w g ≡ w
+unfolding refresh-to
+refresh-fresh c zero w g e = refl
+refresh-fresh c (suc n) w g e = rw (e, refresh-to)
+
 module _ (c : Circuit) (f : Wires → ℕ → Wires) (v : Values) (i : ℕ) (s : Read) (e : output-read s ≡ source c i) where
   pub behind-none : s ≡ NoOutput → v ≡ with-wires v (behind c f (v .wires) i)
   unfolding behind output-read
@@ -102,6 +108,12 @@ module _ (c : Circuit) (f : Wires → ℕ → Wires) (v : Values) (i : ℕ) (s :
       (v₁ : Values) (o g : ℕ) → s ≡ Output o → g ≡ gate-at-output c o → v₁ ≡ with-wires v (f (v .wires) g) → v₁ ≡ with-wires v (behind c f (v .wires) i)
   unfolding behind output-read
   behind-output v₁ o g es eg ev = let q : source c i ≡ some o = sym e ∙ ap output-read es in rw (q, behind, ← eg) ev
+
+pub behind-fresh :
+    (c : Circuit) (deep : ℕ) (v : Values) (i : ℕ) (s : Read) (o g : ℕ) (r : Bool) → output-read s ≡ source c i → s ≡ Output o → g ≡ gate-at-output c o →
+    r ≡ is-dirty (v .wires) g → r ≡ false → v ≡ with-wires v (behind c (refresh-to c deep) (v .wires) i)
+behind-fresh c deep v i s o g r e es eg er h =
+    behind-output c (refresh-to c deep) v i s e v o g es eg (ap (with-wires v) (sym (refresh-fresh c deep (v .wires) g (sym er ∙ h))))
 
 module _ (c : Circuit) (v : Values) (g : ℕ) where
   pub refresh-none : (deep : ℕ) → deep ≤ 0 → v ≡ with-wires v (refresh-to c deep (v .wires) g)
@@ -176,17 +188,12 @@ module _ (c : Circuit) where
   unfolding recompute show clean outs≔ dirty≔ is-dirty
   recompute-fresh w v g p h e = unmarked (v .dirty) g h (p h e)
 
-  refresh-fresh : (n : ℕ) (w : Wires) (g : ℕ) → is-dirty w g ≡ false → refresh-to c n w g ≡ w
-  unfolding refresh-to
-  refresh-fresh zero w g e = refl
-  refresh-fresh (suc n) w g e = rw (e, refresh-to)
-
   refresh-by-marks : (w : Wires) (d : ℕ) → length (c .kinds) ≤ 64 → digits (length (c .kinds)) d ≡ w .dirty → each (refresh c) w (places 0 (digits 64 d)) ≡ refresh-all c w
   unfolding refresh-all refresh gates
   refresh-by-marks w d l e =
       each-by-marks (As-fresh w) (refresh c) (λ v g p. refresh-to-keeps (As-fresh w) (recompute-fresh w) (length (c .kinds)) v g p) (length (c .kinds)) (digits 64 d)
-      (omega (arith, digits-length 64 d)) (λ v g h p. refresh-fresh (length (c .kinds)) v g (p g (past g h)))
-      (λ v g h p. refresh-fresh (length (c .kinds)) v g (p g (other g h))) w (λ g q. q)
+      (omega (arith, digits-length 64 d)) (λ v g h p. refresh-fresh c (length (c .kinds)) v g (p g (past g h)))
+      (λ v g h p. refresh-fresh c (length (c .kinds)) v g (p g (other g h))) w (λ g q. q)
     where
       other : (g : ℕ) → getD (digits 64 d) g true ≡ false → is-dirty w g ≡ false
       other g h = unfold is-dirty in (ap (λ (bs : List Bool). getD bs g false) (sym e) ∙ digits-fewer (length (c .kinds)) 64 d g l h)

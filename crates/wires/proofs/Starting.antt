@@ -18,6 +18,7 @@ use Rattle.words.proofs.Tables.{marks-length}
 use Rattle.model.specs.declared.Value.{Value}
 use Rattle.model.specs.Base.{if_then_else_, both, keep, each, from}
 use Rattle.model.specs.Value.{value-of}
+use Rattle.wires.specs.Held.{held-by, held}
 use Rattle.model.specs.Kinds.{pure}
 use Rattle.model.specs.Circuit.{Circuit, kind-of-gate, output, setting, watching, gates, gates-of, gates-such}
 use Rattle.model.specs.State.{Wires, outs≔, dirty≔, last≔}
@@ -127,7 +128,7 @@ no-digits (suc n) = ap (λ (l : List Bool). false ∷ l) (no-digits n)
 pub cleared :
     (c : Circuit) (bs₀ bs : List ℕ) → length (c .outputs) ≤ 576 → length (c .pins) ≤ 640 → words bs ≡ zeros 4818 ++ drop 4818 (words bs₀) → tail bs ≡ tail bs₀ →
     values c bs ≡ with-wires (values c bs₀) (blank c)
-unfolding values blank ring value-of last-of
+unfolding values blank ring held held-by value-of last-of
 cleared c bs₀ bs lo li ew et =
     let m : length (marks (zeros 9)) ≡ 576 = marks-length (zeros 9) ∙ (let q = zeros-length 9 in omega arith) in
     rw (
@@ -136,7 +137,7 @@ cleared c bs₀ bs lo li ew et =
       et,
       rest-is (words bs₀),
       one-zero,
-      rows value-of (length (c .outputs)) 576 lo,
+      rows held (length (c .outputs)) 576 lo,
       rows last-of (length (c .pins)) 640 li,
       flags (length (c .pins)) 640 li,
       downs (marks (zeros 9)) (length (c .outputs)) 576 lo (omega arith),

@@ -1,3 +1,4 @@
+pub mod Held
 pub mod View
 pub mod Marking
 pub mod Checks

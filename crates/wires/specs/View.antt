@@ -11,9 +11,10 @@ use Rattle.model.specs.Base.{both}
 use Rattle.model.specs.Value.{value-of}
 use Rattle.model.specs.Circuit.{Circuit}
 use Rattle.model.specs.State.{Wires}
+use Rattle.wires.specs.Held.{held}
 
 -- The tables, in their order. Of one word each: tick, tick length, uptime, the stale gates and the Unions passed as marks, head and count of the check queue,
--- how many Vars are written. Then kinds and contents of 576 outputs; of 640 inputs whether each is queued; the 1,024 places of the check queue; kinds (0 for
+-- how many Vars are written. Then tags and contents of 576 outputs; of 640 inputs whether each is queued; the 1,024 places of the check queue; kinds (0 for
 -- none, else the kind and 1) and contents of 640 last values; the ticks of 576 pulses, and nine words of marks that say which of them count; 64 Vars
 -- written; 65 places of the stack that marking works with; and the words behind the tables.
 pub record Tables : Type 0 where
@@ -25,7 +26,7 @@ pub record Tables : Type 0 where
   pub head : List ℕ
   pub count : List ℕ
   pub written-count : List ℕ
-  pub out-kinds : List ℕ
+  pub out-tags : List ℕ
   pub out-contents : List ℕ
   pub queued : List ℕ
   pub slots : List ℕ
@@ -53,7 +54,7 @@ of ts =
       head = getD ts 5 [];
       count = getD ts 6 [];
       written-count = getD ts 7 [];
-      out-kinds = getD ts 8 [];
+      out-tags = getD ts 8 [];
       out-contents = getD ts 9 [];
       queued = getD ts 10 [];
       slots = getD ts 11 [];
@@ -89,7 +90,7 @@ wires-of c t =
       tick = getD (t .tick) 0 0;
       dt = getD (t .dt) 0 0;
       uptime = getD (t .uptime) 0 0;
-      outs = take (length (c .outputs)) (both value-of (t .out-kinds) (t .out-contents));
+      outs = take (length (c .outputs)) (both held (t .out-tags) (t .out-contents));
       dirty = digits (length (c .kinds)) (getD (t .dirty) 0 0);
       to-check = ring (getD (t .count) 0 0) (getD (t .head) 0 0) (t .slots);
       queued = take (length (c .pins)) (map marked (t .queued));

@@ -20,6 +20,8 @@ ghost use Rattle.wires.specs.View.{cut, values as view, with-wires};
 ghost use Rattle.wires.specs.Marking.{area, area-with, marking, with-marking, to-do};
 ghost use Rattle.wires.specs.Checks.{waiting, oldest, taken, remembered};
 ghost use Rattle.wires.specs.Start.{blank, prepared, noted};
+use crate::held::tag_of;
+use crate::held::value_held;
 use floats::plus64;
 use kinds;
 use links::Read;
@@ -48,6 +50,8 @@ use values::value_of;
 use words::get;
 use words::put;
 
+pub mod held;
+
 // Where the tables begin, in words; specs/View.antt says what they hold.
 const TICK: usize = 0;
 
@@ -65,7 +69,7 @@ const COUNT: usize = 6;
 
 const WRITTEN_COUNT: usize = 7;
 
-const OUT_KINDS: usize = 8;
+const OUT_TAGS: usize = 8;
 
 const OUT_CONTENTS: usize = 584;
 
@@ -99,9 +103,6 @@ const MOST_WRITTEN: usize = 64;
 // The kind of a Var.
 const VAR: u64 = 5;
 
-// The words that say which pulses are up.
-const UP_WORDS: usize = 9;
-
 // The input that waits longest to be checked.
 pub enum Waiting {
     Input(usize),
@@ -122,9 +123,9 @@ pub fn shown(links: &[usize], values: &[u8], o: usize) -> Value
     ensures { λ r. ⌜ r ≡ shown (view (net (now (links .entry))) (now (values .entry)) .wires) o ⌝ }
 {
     if o < outputs(links) {
-        let kind = get(values, OUT_KINDS + o);
+        let tag = get(values, OUT_TAGS + o);
         let content = get(values, OUT_CONTENTS + o);
-        value_of(kind, content)
+        value_held(tag, content)
     } else {
         Value::Nothing
     }
@@ -136,7 +137,7 @@ pub fn show(links: &[usize], values: &mut [u8], o: usize, v: Value)
     ensures { λ _. ⌜ view (net (now (links .entry))) (now (values .exit)) ≡ with-wires (view (net (now (links .entry))) (now (values .entry))) (show (view (net (now (links .entry))) (now (values .entry)) .wires) o v) ⌝ }
 {
     if o < outputs(links) {
-        put(values, OUT_KINDS + o, kind_of(v));
+        put(values, OUT_TAGS + o, tag_of(v));
         put(values, OUT_CONTENTS + o, content_of(v));
     }
 }
@@ -324,7 +325,13 @@ fn refresh_behind(links: &[usize], values: &mut [u8], deep: usize, i: usize)
 {
     let s = source(links, i);
     match s {
-        Read::Output(o) => refresh_to(links, values, deep, gate_at_output(links, o)),
+        Read::Output(o) => {
+            let g = gate_at_output(links, o);
+            // most are fresh, and need no call
+            if is_dirty(links, values, g) {
+                refresh_to(links, values, deep, g);
+            }
+        }
         Read::Nothing => {}
     }
 }
@@ -584,8 +591,9 @@ pub fn lower_all(links: &[usize], values: &mut [u8])
     requires { ⌜ (length (now links) ≡ 4816) × (65536 ≤ length (now values)) ⌝ }
     ensures { λ _. ⌜ view (net (now (links .entry))) (now (values .exit)) ≡ with-wires (view (net (now (links .entry))) (now (values .entry))) (each (lower (net (now (links .entry)))) (view (net (now (links .entry))) (now (values .entry)) .wires) (from 0 (length (net (now (links .entry)) .outputs)))) ⌝ }
 {
+    let n = (outputs(links) + 63) / 64;
     let mut j = 0;
-    while j < UP_WORDS {
+    while j < n {
         lower_word(links, values, j);
         j += 1;
     }

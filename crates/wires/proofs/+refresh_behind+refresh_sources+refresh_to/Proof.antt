@@ -8,7 +8,7 @@ use Rattle.links.specs.Links.{net}
 use Rattle.wires.specs.View.{with-wires, values as view}
 use Rattle.wires.proofs.Lists.{left-of, turn-next, turn-last}
 use Rattle.wires.proofs.Steps.{step, steps-first}
-use Rattle.wires.proofs.Reading.{behind-none, behind-output, refresh-none, refresh-clean, refresh-stale}
+use Rattle.wires.proofs.Reading.{behind-none, behind-output, behind-fresh, refresh-none, refresh-clean, refresh-stale}
 use Prim.Native.Nat.{ℕ, _<_}
 use borrow.Fn.Kinds.{In}
 use borrow.Fn.PlainCycle.{Measures, is, falls, and}
@@ -84,6 +84,8 @@ refresh-behind-source-requires : (t : ℕ) → refresh-behind-lts.Need-source-re
   source-reads.Learnt,
   gate-at-output-reads.Asked,
   gate-at-output-reads.Learnt,
+  is-dirty-reads.Asked,
+  is-dirty-reads.Learnt,
   refresh-to-below t,
   refresh-to.Post,
 ) (refresh-behind-at t) refresh-behind.Post
@@ -94,6 +96,8 @@ refresh-behind-enum-known-s : (t : ℕ) → refresh-behind-lts.Need-enum-known-s
   source-reads.Learnt,
   gate-at-output-reads.Asked,
   gate-at-output-reads.Learnt,
+  is-dirty-reads.Asked,
+  is-dirty-reads.Learnt,
   refresh-to-below t,
   refresh-to.Post,
 ) (refresh-behind-at t) refresh-behind.Post
@@ -104,16 +108,32 @@ refresh-behind-gate-at-output-requires : (t : ℕ) → refresh-behind-lts.Need-g
   source-reads.Learnt,
   gate-at-output-reads.Asked,
   gate-at-output-reads.Learnt,
+  is-dirty-reads.Asked,
+  is-dirty-reads.Learnt,
   refresh-to-below t,
   refresh-to.Post,
 ) (refresh-behind-at t) refresh-behind.Post
 refresh-behind-gate-at-output-requires t c κs = search needs
+
+refresh-behind-is-dirty-requires : (t : ℕ) → refresh-behind-lts.Need-is-dirty-requires (
+  source-reads.Asked,
+  source-reads.Learnt,
+  gate-at-output-reads.Asked,
+  gate-at-output-reads.Learnt,
+  is-dirty-reads.Asked,
+  is-dirty-reads.Learnt,
+  refresh-to-below t,
+  refresh-to.Post,
+) (refresh-behind-at t) refresh-behind.Post
+refresh-behind-is-dirty-requires t c κs = search needs
 
 refresh-behind-refresh-to-requires : (t : ℕ) → refresh-behind-lts.Need-refresh-to-requires (
   source-reads.Asked,
   source-reads.Learnt,
   gate-at-output-reads.Asked,
   gate-at-output-reads.Learnt,
+  is-dirty-reads.Asked,
+  is-dirty-reads.Learnt,
   refresh-to-below t,
   refresh-to.Post,
 ) (refresh-behind-at t) refresh-behind.Post
@@ -124,6 +144,8 @@ refresh-behind-enum-told : (t : ℕ) → refresh-behind-lts.Need-enum-told (
   source-reads.Learnt,
   gate-at-output-reads.Asked,
   gate-at-output-reads.Learnt,
+  is-dirty-reads.Asked,
+  is-dirty-reads.Learnt,
   refresh-to-below t,
   refresh-to.Post,
 ) (refresh-behind-at t) refresh-behind.Post
@@ -134,6 +156,8 @@ refresh-behind-same-length : (t : ℕ) → refresh-behind-lts.Need-same-length (
   source-reads.Learnt,
   gate-at-output-reads.Asked,
   gate-at-output-reads.Learnt,
+  is-dirty-reads.Asked,
+  is-dirty-reads.Learnt,
   refresh-to-below t,
   refresh-to.Post,
 ) (refresh-behind-at t) refresh-behind.Post
@@ -144,20 +168,48 @@ refresh-behind-returns : (t : ℕ) → refresh-behind-lts.Need-returns (
   source-reads.Learnt,
   gate-at-output-reads.Asked,
   gate-at-output-reads.Learnt,
+  is-dirty-reads.Asked,
+  is-dirty-reads.Learnt,
   refresh-to-below t,
   refresh-to.Post,
 ) (refresh-behind-at t) refresh-behind.Post
-refresh-behind-returns t c = behind-output _ _ _ _ _ (c .before .before .before .before .before .before .before .before .source .ensures) _ _ _ (c .before .before .before .before .before .before .s .given .1) (c .before .before .before .gate-at-output .ensures) (c .before .before .refresh-to .ensures)
+refresh-behind-returns t c = behind-output _ _ _ _ _ (c .before .before .before .before .before .before .before .before .before .before .before .source .ensures) _ _ _ (c .before .before .before .before .before .before .before .before .before .s .given .1) (c .before .before .before .before .before .before .before .gate-at-output .ensures) (c .before .before .refresh-to .ensures)
+
+refresh-behind-same-length-2 : (t : ℕ) → refresh-behind-lts.Need-same-length-2 (
+  source-reads.Asked,
+  source-reads.Learnt,
+  gate-at-output-reads.Asked,
+  gate-at-output-reads.Learnt,
+  is-dirty-reads.Asked,
+  is-dirty-reads.Learnt,
+  refresh-to-below t,
+  refresh-to.Post,
+) (refresh-behind-at t) refresh-behind.Post
+refresh-behind-same-length-2 t c = search needs
 
 refresh-behind-returns-2 : (t : ℕ) → refresh-behind-lts.Need-returns-2 (
   source-reads.Asked,
   source-reads.Learnt,
   gate-at-output-reads.Asked,
   gate-at-output-reads.Learnt,
+  is-dirty-reads.Asked,
+  is-dirty-reads.Learnt,
   refresh-to-below t,
   refresh-to.Post,
 ) (refresh-behind-at t) refresh-behind.Post
-refresh-behind-returns-2 t c = behind-none _ _ _ _ _ (c .before .before .source .ensures) (c .enum-told .given .1)
+refresh-behind-returns-2 t c = behind-fresh _ _ _ _ _ _ _ _ (c .before .before .before .before .before .before .before .source .ensures) (c .before .before .before .before .before .s .given .1) (c .before .before .before .gate-at-output .ensures) (c .before .is-dirty .ensures) (c .if1 .left)
+
+refresh-behind-returns-3 : (t : ℕ) → refresh-behind-lts.Need-returns-3 (
+  source-reads.Asked,
+  source-reads.Learnt,
+  gate-at-output-reads.Asked,
+  gate-at-output-reads.Learnt,
+  is-dirty-reads.Asked,
+  is-dirty-reads.Learnt,
+  refresh-to-below t,
+  refresh-to.Post,
+) (refresh-behind-at t) refresh-behind.Post
+refresh-behind-returns-3 t c = behind-none _ _ _ _ _ (c .before .before .source .ensures) (c .enum-told .given .1)
 
 abbrev refresh-sources-Inv-loop : refresh-sources-lts.InvT-loop
 refresh-sources-Inv-loop links values₀ deep a n k₀ values k = (length values ≡ length values₀) × (k ≤ n) × (left-of (step (behind (net links) (refresh-to (net links) deep))) (view (net links) values) a n k ≡ with-wires (view (net links) values₀) (each (behind (net links) (refresh-to (net links) deep)) (view (net links) values₀ .wires) (from a n)))
@@ -375,6 +427,8 @@ pub +refresh-behind+refresh-sources+refresh-to-spec : {M : Type 1} → statement
       source-reads.Learnt,
       gate-at-output-reads.Asked,
       gate-at-output-reads.Learnt,
+      is-dirty-reads.Asked,
+      is-dirty-reads.Learnt,
       refresh-to-below t,
       refresh-to.Post,
     )
@@ -383,11 +437,14 @@ pub +refresh-behind+refresh-sources+refresh-to-spec : {M : Type 1} → statement
     (refresh-behind-source-requires t)
     (refresh-behind-enum-known-s t)
     (refresh-behind-gate-at-output-requires t)
+    (refresh-behind-is-dirty-requires t)
     (refresh-behind-refresh-to-requires t)
     (refresh-behind-enum-told t)
     (refresh-behind-same-length t)
     (refresh-behind-returns t)
-    (refresh-behind-returns-2 t))
+    (refresh-behind-same-length-2 t)
+    (refresh-behind-returns-2 t)
+    (refresh-behind-returns-3 t))
     (λ t. refresh-sources-lts.spec
     (refresh-behind-below t, refresh-behind.Post)
     (refresh-sources-at t)

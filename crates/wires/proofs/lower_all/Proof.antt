@@ -14,13 +14,19 @@ use Rattle.wires.proofs.lower_all.Statement.{statement}
 use Rattle.wires.proofs.lower_all.Tie as tie
 
 abbrev Inv-loop : tie.InvT-loop
-Inv-loop links values₀ j₀ values j = (length values ≡ length values₀) × (j ≤ 9) × (left-of (step (λ (w : Wires) (i : ℕ). each (lower-pulse (net links)) w (from (64 * i) 64))) (view (net links) values) 0 9 j ≡ with-wires (view (net links) values₀) (each (lower-pulse (net links)) (view (net links) values₀ .wires) (from 0 (length (net links .outputs)))))
+Inv-loop links values₀ n j₀ values j = (length values ≡ length values₀) × (j ≤ n) × (left-of (step (λ (w : Wires) (i : ℕ). each (lower-pulse (net links)) w (from (64 * i) 64))) (view (net links) values) 0 n j ≡ with-wires (view (net links) values₀) (each (lower-pulse (net links)) (view (net links) values₀ .wires) (from 0 (length (net links .outputs)))))
 
 abbrev μ-loop : tie.MeasureT-loop
-μ-loop links values₀ j₀ values j = 9 - j
+μ-loop links values₀ n j₀ values j = n - j
+
+outputs-requires : tie.Need-outputs-requires Inv-loop μ-loop
+outputs-requires c κs = search needs
+
+add-n : tie.Need-add-n Inv-loop μ-loop
+add-n c = search needs
 
 loop-holds : tie.Need-loop-holds Inv-loop μ-loop
-loop-holds c = (search needs, search needs, all-first _ _)
+loop-holds c = (search needs, search needs, all-first _ _ _ (c .outputs .ensures))
 
 lower-word-requires : tie.Need-lower-word-requires Inv-loop μ-loop
 lower-word-requires c κs = search needs
@@ -32,7 +38,7 @@ loop-less : tie.Need-loop-less Inv-loop μ-loop
 loop-less c = search needs
 
 loop-again : tie.Need-loop-again Inv-loop μ-loop
-loop-again c = (search needs, search needs, turn-zero _ _ 0 9 _ _ _ refl (c .before .before .before .before .loop-test .taken) (c .before .before .lower-word .ensures) (c .before .before .before .before .before .loop .inv .2))
+loop-again c = (search needs, search needs, turn-zero _ _ 0 _ _ _ _ refl (c .before .before .before .before .loop-test .taken) (c .before .before .lower-word .ensures) (c .before .before .before .before .before .loop .inv .2))
 
 same-length : tie.Need-same-length Inv-loop μ-loop
 same-length c = search needs
@@ -46,6 +52,8 @@ lower-all-spec =
     (tie.spec
     Inv-loop
     μ-loop
+    outputs-requires
+    add-n
     loop-holds
     lower-word-requires
     add-j

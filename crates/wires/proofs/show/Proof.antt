@@ -9,8 +9,8 @@ outputs-requires c κs = search needs
 add-put : tie.Need-add-put
 add-put c = search needs
 
-kind-of-requires : tie.Need-kind-of-requires
-kind-of-requires c κs = search needs
+tag-of-requires : tie.Need-tag-of-requires
+tag-of-requires c κs = search needs
 
 put-requires : tie.Need-put-requires
 put-requires c κs = search needs
@@ -28,7 +28,7 @@ same-length : tie.Need-same-length
 same-length c = search needs
 
 returns : tie.Need-returns
-returns c = show-in _ _ _ _ (c .before .before .before .before .before .before .before .before .before .before .before .outputs .ensures) _ _ _ _ _ (c .before .before .before .before .before .before .before .before .before .before .if1 .taken) (c .before .before .before .before .before .before .before .before .kind-of .ensures) (c .before .before .before .before .before .before .before .put .ensures) (c .before .before .before .content-of .ensures) (c .before .before .put2 .ensures)
+returns c = show-in _ _ _ _ (c .before .before .before .before .before .before .before .before .before .before .before .outputs .ensures) _ _ _ _ _ (c .before .before .before .before .before .before .before .before .before .before .if1 .taken) (c .before .before .before .before .before .before .before .before .tag-of .ensures) (c .before .before .before .before .before .before .before .put .ensures) (c .before .before .before .content-of .ensures) (c .before .before .put2 .ensures)
 
 returns-2 : tie.Need-returns-2
 returns-2 c = show-out _ _ _ _ (c .before .outputs .ensures) _ (c .if1 .left)
@@ -39,7 +39,7 @@ show-spec =
     (tie.spec
     outputs-requires
     add-put
-    kind-of-requires
+    tag-of-requires
     put-requires
     add-put-2
     content-of-requires

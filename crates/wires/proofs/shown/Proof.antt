@@ -18,11 +18,11 @@ add-get-2 c = search needs
 get-requires-2 : tie.Need-get-requires-2
 get-requires-2 c κs = search needs
 
-value-of-requires : tie.Need-value-of-requires
-value-of-requires c κs = search needs
+value-held-requires : tie.Need-value-held-requires
+value-held-requires c κs = search needs
 
 returns : tie.Need-returns
-returns c = shown-in _ _ _ _ (c .before .before .before .before .outputs .ensures) _ _ _ (search needs) (c .before .before .before .if1 .taken) (c .before .before .get .ensures) (c .before .get2 .ensures) (c .value-of .ensures)
+returns c = shown-in _ _ _ _ (c .before .before .before .before .outputs .ensures) _ _ _ (search needs) (c .before .before .before .if1 .taken) (c .before .before .get .ensures) (c .before .get2 .ensures) (c .value-held .ensures)
 
 returns-2 : tie.Need-returns-2
 returns-2 c = shown-out _ _ _ _ (c .before .outputs .ensures) (c .if1 .left)
@@ -36,6 +36,6 @@ shown-spec =
     get-requires
     add-get-2
     get-requires-2
-    value-of-requires
+    value-held-requires
     returns
     returns-2)
