@@ -55,7 +55,7 @@ fn run(words: &[&str]) -> Option<()> {
             let runs = oracle::runs::runs();
             std::fs::write(file, oracle::runs::pack(&runs)).ok()?;
             print!("{}", oracle::runs::printed(&runs));
-            eprintln!("{} left out", runs.left_out);
+            eprintln!("left out: {}", runs.left_out.join(", "));
         }
         ["mutants", names @ ..] => mutants::try_mutants(names),
         _ => return None,

@@ -2,21 +2,18 @@
 //!
 //! First how many runs there are. Then each run: the bytes lent for log,
 //! values, units and delays, the stop and the ticks that have to be answered,
-//! the lengths of circuit, script and records, and the bytes of these three.
-//! A number is a word of eight bytes, least first.
+//! the lengths of circuit, script and records, and the words of these three.
+//! A word is a byte that says how many follow, and these, least first; bytes
+//! that would be 0 at its end are left out.
 
 use crate::circuits::{Case, groups};
-use crate::vectors::is_whole;
 use crate::{Answer, run};
 
-/// What the program has room for: a circuit, a script, a log, an area.
-const ROOM: usize = 65_536;
+/// What the program has room for: each buffer but that of delays.
+pub const ROOM: usize = 262_144;
 
-/// The packed file is shorter than this.
-const WHOLE: usize = 2_000_000;
-
-/// The bytes of the numbers before a run's circuit.
-const HEAD: usize = 72;
+/// What it has room for in delays.
+pub const DELAYS: usize = 524_288;
 
 /// A stated circuit that is played, and what has to come of it.
 pub struct Run {
@@ -26,27 +23,23 @@ pub struct Run {
     pub ticks: u64,
 }
 
-/// The runs that are packed, and how many of the played cases are left out.
+/// The runs that are packed, and the names of those that are left out.
 pub struct Runs {
     pub packed: Vec<Run>,
-    pub left_out: usize,
+    pub left_out: Vec<String>,
 }
 
-/// Every stated case that is played, in order, as long as it fits: the vectors
-/// give it whole, the program has room for it, and so has the file.
+/// Every stated case that is played, in order, if the program has room for it.
 pub fn runs() -> Runs {
-    let mut runs = Runs { packed: Vec::new(), left_out: 0 };
-    let mut length = 8;
+    let mut runs = Runs { packed: Vec::new(), left_out: Vec::new() };
     for case in groups().into_iter().flat_map(|group| group.cases) {
         let Answer::Played { log, stop, ticks } = run(&case.circuit, &case.script, &case.lent) else { continue };
-        let records: Vec<u8> = log.iter().flat_map(|word| word.to_le_bytes()).collect();
+        let records = log.iter().flat_map(|word| word.to_le_bytes()).collect();
         let one = Run { case, records, stop, ticks };
-        let bytes = HEAD + parts(&one).iter().map(|part| part.len()).sum::<usize>();
-        if fits(&one) && length + bytes < WHOLE {
-            length += bytes;
+        if fits(&one) {
             runs.packed.push(one);
         } else {
-            runs.left_out += 1;
+            runs.left_out.push(one.case.name);
         }
     }
     runs
@@ -65,7 +58,9 @@ pub fn pack(runs: &Runs) -> Vec<u8> {
             bytes.extend(word(part.len() as u64));
         }
         for part in parts(run) {
-            bytes.extend(part);
+            let (words, rest) = part.as_chunks::<8>();
+            assert!(rest.is_empty(), "{}: what is played is whole words", run.case.name);
+            bytes.extend(words.iter().flat_map(|w| word(u64::from_le_bytes(*w))));
         }
     }
     bytes
@@ -88,10 +83,14 @@ pub fn parts(run: &Run) -> [&[u8]; 3] {
 }
 
 fn fits(run: &Run) -> bool {
-    let short = |part: &&[u8]| is_whole(part) && part.len() <= ROOM;
-    parts(run).iter().all(short) && lent(run).iter().all(|&length| length <= ROOM)
+    let Case { lent, .. } = &run.case;
+    let lengths = [lent.log, lent.values, lent.units].into_iter();
+    let mut lengths = lengths.chain(parts(run).map(<[u8]>::len));
+    lengths.all(|length| length <= ROOM) && lent.delays <= DELAYS
 }
 
 fn word(number: u64) -> Vec<u8> {
-    number.to_le_bytes().to_vec()
+    let bytes = number.to_le_bytes();
+    let count = 8 - number.leading_zeros() as usize / 8;
+    [&[count as u8], &bytes[..count]].concat()
 }

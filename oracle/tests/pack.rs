@@ -84,10 +84,35 @@ fn the_packed_runs_are_up_to_date() {
     let runs = runs::runs();
     let file = std::fs::read(RUNS).expect("the packed runs");
     assert!(file == runs::pack(&runs), "write them again: {RUNS_AGAIN}");
-    assert!(file.len() < 2_000_000, "{}", file.len());
+    assert!(file.len() < WHOLE, "{}", file.len());
     let text = std::fs::read_to_string(RUNS_PRINTED).expect("what the program has to print");
     assert_eq!(text, runs::printed(&runs), "write it again: {RUNS_AGAIN}");
-    assert_eq!((runs.packed.len(), runs.left_out), (606, 345));
+}
+
+/// The longest scripts and the vehicles, whose logs are long.
+#[test]
+fn the_runs_that_are_left_out() {
+    let runs = runs::runs();
+    assert_eq!(runs.packed.len(), 943);
+    let left = [
+        "ticks-100000",
+        "stimuli-65535",
+        "vehicle-van",
+        "vehicle-lorry",
+        "vehicle-coach",
+        "vehicle-crane",
+        "vehicle-road-train",
+        "vehicle-tanker",
+    ];
+    assert_eq!(runs.left_out, left);
+}
+
+/// Takes a packed word from the front.
+fn packed_word(rest: &mut &[u8]) -> u64 {
+    let (&count, after) = rest.split_first().expect("a count");
+    let (bytes, after) = after.split_at(count.into());
+    *rest = after;
+    bytes.iter().rev().fold(0, |number, &byte| number << 8 | u64::from(byte))
 }
 
 #[test]
@@ -95,19 +120,21 @@ fn every_run_can_be_read_back() {
     let runs = runs::runs();
     let packed = runs::pack(&runs);
     let mut rest = &packed[..];
-    assert_eq!(number(&mut rest), runs.packed.len());
+    assert_eq!(packed_word(&mut rest) as usize, runs.packed.len());
     for run in &runs.packed {
         let name = &run.case.name;
-        assert_eq!([(); 4].map(|()| number(&mut rest)), runs::lent(run), "{name}");
-        assert_eq!(number(&mut rest), usize::from(run.stop), "{name}");
-        assert_eq!(number(&mut rest) as u64, run.ticks, "{name}");
-        let lengths = [(); 3].map(|()| number(&mut rest));
+        let lent = [(); 4].map(|()| packed_word(&mut rest) as usize);
+        assert_eq!(lent, runs::lent(run), "{name}");
+        assert!(lent[..3].iter().all(|&length| length <= runs::ROOM), "{name}");
+        assert!(lent[3] <= runs::DELAYS, "{name}");
+        assert_eq!(packed_word(&mut rest), u64::from(run.stop), "{name}");
+        assert_eq!(packed_word(&mut rest), run.ticks, "{name}");
+        let lengths = [(); 3].map(|()| packed_word(&mut rest) as usize);
         for (length, part) in lengths.into_iter().zip(runs::parts(run)) {
-            let (bytes, after) = rest.split_at(length);
-            rest = after;
-            assert!(bytes == part && length <= ROOM, "{name}");
+            let bytes: Vec<u8> =
+                (0..length / 8).flat_map(|_| packed_word(&mut rest).to_le_bytes()).collect();
+            assert!(bytes == part && length <= runs::ROOM, "{name}");
         }
-        assert!(runs::lent(run).iter().all(|&length| length <= ROOM), "{name}");
     }
     assert!(rest.is_empty());
 }

@@ -1,5 +1,4 @@
 -- What the proofs of several functions use.
 mod Comparing
 mod Ending
-mod Laws
 mod Meeting

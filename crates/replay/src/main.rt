@@ -1,6 +1,6 @@
 // Plays every run of runs.bin and compares what comes of it with what is due, byte by byte.
 ghost use mathlib.Core.Path.{_≡_};
-ghost use Rattle.io.specs.Counts.{Counts};
+ghost use lib.ListN.{length};
 ghost use Rattle.replay.specs.Met.{met};
 
 mod bytes;
@@ -14,28 +14,62 @@ use due::numbers;
 use libc::STDOUT_FILENO;
 use tally::Tally;
 use words::read;
+use words::write;
 
 // The bytes of the numbers before a run's circuit.
 const HEAD: usize = 72;
 
+// The room for a circuit, a script, records, a log or an area, and for delays.
+const ROOM: usize = 262_144;
+
+const DELAYS: usize = 524_288;
+
 // What the log and the areas hold before a run.
 const FILLED: u8 = 165;
 
-// Reads a number of the file; 0 where it has ended.
-fn next_number(fd: i32) -> u64 {
-    let mut word = [0u8; 8];
-    io::read_full(fd, &mut word);
-    read(&word, 0)
+// ROOM zeros. The `ensures` says only how many, which lending them needs: the prover is faster where it does not know the bytes.
+fn room() -> [u8; ROOM]
+    ensures { λ r. ⌜ 262144 ≡ length r ⌝ }
+{
+    [0; ROOM]
 }
 
-// Reads n bytes to the front of a buffer, none where it has no room for them, and answers how many came.
-fn next_bytes(fd: i32, buffer: &mut [u8], n: usize) -> usize
-    ensures { λ r. ⌜ Counts r (now (buffer .exit)) ⌝ }
+// DELAYS zeros.
+fn delays_room() -> [u8; DELAYS]
+    ensures { λ r. ⌜ 524288 ≡ length r ⌝ }
 {
-    if buffer.len() < n {
-        return 0;
+    [0; DELAYS]
+}
+
+// Reads a packed word: how many bytes it has, and these; the others are 0. Whether it was whole.
+fn next_word(fd: i32, word: &mut [u8]) -> bool {
+    let mut count = [0u8; 8];
+    if io::read_full(fd, &mut count[..1]) != 1 {
+        return false;
     }
-    io::read_full(fd, &mut buffer[..n])
+    let n = read(&count, 0) as usize;
+    if word.len() < n {
+        return false;
+    }
+    io::read_full(fd, &mut word[..n]) == n
+}
+
+// Reads packed words to the front of a buffer: whether as many bytes were there whole, and have room.
+fn next_bytes(fd: i32, buffer: &mut [u8], bytes: usize) -> bool {
+    if buffer.len() < bytes {
+        return false;
+    }
+    let n = bytes / 8;
+    let mut k = 0;
+    while k < n {
+        let mut word = [0u8; 8];
+        if !next_word(fd, &mut word) {
+            return false;
+        }
+        write(buffer, k, read(&word, 0));
+        k += 1;
+    }
+    true
 }
 
 // Plays a run with this log and these areas, and compares.
@@ -89,12 +123,12 @@ fn play_in(
     )
 }
 
-// Plays a run with buffers of 65,536 bytes for the log and each area.
+// Plays a run with buffers for the log and the areas.
 fn play(due: Due, circuit: &[u8], script: &[u8], records: &[u8]) -> bool {
-    let mut log = io::large_buffer();
-    let mut values = io::large_buffer();
-    let mut units = io::large_buffer();
-    let mut delays = io::large_buffer();
+    let mut log = room();
+    let mut values = room();
+    let mut units = room();
+    let mut delays = delays_room();
     play_in(
         due,
         circuit,
@@ -123,23 +157,37 @@ fn play_one(tally: Tally, due: Due, circuit: &[u8], script: &[u8], records: &[u8
     tally.with_other()
 }
 
+// Plays a run with as many bytes of these buffers as it has; one that has more than there are is not whole.
+fn play_read(tally: Tally, due: Due, circuit: &[u8], script: &[u8], records: &[u8]) -> Tally {
+    if circuit.len() < due.circuit || script.len() < due.script || records.len() < due.records {
+        return tally.with_cut();
+    }
+    play_one(
+        tally,
+        due,
+        &circuit[..due.circuit],
+        &script[..due.script],
+        &records[..due.records],
+    )
+}
+
 // Reads the next run and plays it.
 fn play_next(fd: i32, tally: Tally) -> Tally {
     let mut head = [0u8; HEAD];
-    let mut circuit = io::large_buffer();
-    let mut script = io::large_buffer();
-    let mut records = io::large_buffer();
-    if io::read_full(fd, &mut head) != HEAD {
+    let mut circuit = room();
+    let mut script = room();
+    let mut records = room();
+    if !next_bytes(fd, &mut head, HEAD) {
         return tally.with_cut();
     }
     let due = numbers(&head);
-    let n = next_bytes(fd, &mut circuit, due.circuit);
-    let m = next_bytes(fd, &mut script, due.script);
-    let k = next_bytes(fd, &mut records, due.records);
-    if n != due.circuit || m != due.script || k != due.records {
-        return tally.with_cut();
+    if next_bytes(fd, &mut circuit, due.circuit)
+        && next_bytes(fd, &mut script, due.script)
+        && next_bytes(fd, &mut records, due.records)
+    {
+        return play_read(tally, due, &circuit, &script, &records);
     }
-    play_one(tally, due, &circuit[..n], &script[..m], &records[..k])
+    tally.with_cut()
 }
 
 // Plays this many runs, or up to the first that cannot be read whole.
@@ -173,7 +221,8 @@ fn main() {
         os::fail(b"runs.bin");
         return;
     }
-    let runs = next_number(fd);
-    print_tally(play_all(fd, runs));
+    let mut runs = [0u8; 8];
+    next_bytes(fd, &mut runs, 8);
+    print_tally(play_all(fd, read(&runs, 0)));
     libc::close(fd);
 }

@@ -1,44 +1,94 @@
-use Rattle.replay.proofs.Laws.{counts-longer}
-use lib.Seq.{length-take-le}
-use mathlib.Core.Path.{sym}
+use Prim.Native.Nat.{_-_}
+use lib.ListN.{length}
+use mathlib.Core.Path.{_≡_}
 use borrow.Author.Needs.{needs}
 use Rattle.replay.proofs.next_bytes.Statement.{statement}
 use Rattle.replay.proofs.next_bytes.Tie as tie
 use Rattle.replay.proofs.next_bytes.Reads as reads
 use Rattle.replay.proofs.next_bytes.Lts as lts
-use Rattle.io.proofs.read_full.Reads as read-full-reads
+use Rattle.replay.proofs.next_word.Reads as next-word-reads
+use Rattle.words.proofs.read.Reads as read-reads
+use Rattle.words.proofs.write.Reads as write-reads
 
--- src/main.rt:34:9
-returns : tie.Need-returns
+abbrev Inv-loop : tie.InvT-loop
+Inv-loop fd buffer₀ bytes n k₀ buffer k = length buffer ≡ length buffer₀
+
+abbrev μ-loop : tie.MeasureT-loop
+μ-loop fd buffer₀ bytes n k₀ buffer k = n - k
+
+-- src/main.rt:60:9
+returns : tie.Need-returns Inv-loop μ-loop
 returns c = search needs
 
--- src/main.rt:36:23
-slice-relend-prefix-read-full : tie.Need-slice-relend-prefix-read-full
-slice-relend-prefix-read-full c = search needs
+-- src/main.rt:64:5
+loop-holds : tie.Need-loop-holds Inv-loop μ-loop
+loop-holds c = search needs
 
--- src/main.rt:36:23
-slice-aggregate-read-full : tie.Need-slice-aggregate-read-full
-slice-aggregate-read-full c = sym (length-take-le (c .before .before .before .args .n) (c .before .before .before .args .buffer .now) (c .before .if1 .left))
+-- src/main.rt:66:27
+slice-aggregate-next-word : tie.Need-slice-aggregate-next-word Inv-loop μ-loop
+slice-aggregate-next-word c = search needs
 
--- src/main.rt:36:5
-read-full-requires : tie.Need-read-full-requires
-read-full-requires c κs = search needs
+-- src/main.rt:66:13
+next-word-requires : tie.Need-next-word-requires Inv-loop μ-loop
+next-word-requires c κs = search needs
 
--- src/main.rt:30:1
-same-length : tie.Need-same-length
+-- src/main.rt:67:13
+same-length : tie.Need-same-length Inv-loop μ-loop
 same-length c = search needs
 
--- src/main.rt:30:1
-returns-2 : tie.Need-returns-2
-returns-2 c = counts-longer _ _ _ (c .before .before .read-full .ensures)
+-- src/main.rt:67:13
+returns-2 : tie.Need-returns-2 Inv-loop μ-loop
+returns-2 c = search needs
+
+-- src/main.rt:69:31
+slice-aggregate-read : tie.Need-slice-aggregate-read Inv-loop μ-loop
+slice-aggregate-read c = search needs
+
+-- src/main.rt:69:26
+read-requires : tie.Need-read-requires Inv-loop μ-loop
+read-requires c κs = search needs
+
+-- src/main.rt:69:9
+write-requires : tie.Need-write-requires Inv-loop μ-loop
+write-requires c κs = search needs
+
+-- src/main.rt:70:9
+add-k : tie.Need-add-k Inv-loop μ-loop
+add-k c = search needs
+
+-- src/main.rt:64:5
+loop-less : tie.Need-loop-less Inv-loop μ-loop
+loop-less c = search needs
+
+-- src/main.rt:64:5
+loop-again : tie.Need-loop-again Inv-loop μ-loop
+loop-again c = search needs
+
+-- src/main.rt:58:1
+same-length-2 : tie.Need-same-length-2 Inv-loop μ-loop
+same-length-2 c = search needs
+
+-- src/main.rt:58:1
+returns-3 : tie.Need-returns-3 Inv-loop μ-loop
+returns-3 c = search needs
 
 pub next-bytes-spec : {M : Type 1} → statement M
 next-bytes-spec =
     tie.close
     (tie.spec
+    Inv-loop
+    μ-loop
     returns
-    slice-relend-prefix-read-full
-    slice-aggregate-read-full
-    read-full-requires
+    loop-holds
+    slice-aggregate-next-word
+    next-word-requires
     same-length
-    returns-2)
+    returns-2
+    slice-aggregate-read
+    read-requires
+    write-requires
+    add-k
+    loop-less
+    loop-again
+    same-length-2
+    returns-3)

@@ -428,5 +428,5 @@ fn all_delays_full() -> Case {
     }
     s.ticks(50, 0.25);
     let shows = "A Queue and 62 exec buffers, all full: one area of delays holds them.";
-    Case::new("all-delays-full", shows, &c, &s).tells(&[41]).log(1 << 20)
+    Case::new("all-delays-full", shows, &c, &s).tells(&[41]).log(1 << 17)
 }
