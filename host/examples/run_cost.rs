@@ -1,53 +1,60 @@
 //! Nanoseconds a tick of the proved `run` and of the oracle on the six
 //! vehicles, side by side, with the copy of the log's bytes, which is the
-//! limit; and on the first ticks of the longest script, to see that the time is
-//! linear: `cargo run --offline --release --example run_cost`.
+//! limit; on the first ticks of the longest script, to see that the time is
+//! linear in them; and on one to eight equal groups of gates, to see how it
+//! grows with them: `cargo run --offline --release --example run_cost`.
 
 use std::hint::black_box;
 use std::time::{Duration, Instant};
 
 use hazhirun_host::{Answer, run};
+use oracle::build::{Circuit, Script};
 use oracle::circuits::{self, Case};
 use oracle::{Lent, play, questions};
 
-/// The least time of a call of `f`, over about half a second.
-fn least(mut f: impl FnMut()) -> Duration {
+/// The least times of these, which take turns, so that a change of the
+/// machine's pace meets them all.
+fn least<const N: usize>(mut calls: [&mut dyn FnMut(); N]) -> [Duration; N] {
     let from = Instant::now();
-    let mut least = Duration::MAX;
-    while from.elapsed() < Duration::from_millis(500) {
-        let start = Instant::now();
-        f();
-        least = least.min(start.elapsed());
+    let mut least = [Duration::MAX; N];
+    while from.elapsed() < Duration::from_millis(1_500) {
+        for (call, least) in calls.iter_mut().zip(&mut least) {
+            let start = Instant::now();
+            call();
+            *least = start.elapsed().min(*least);
+        }
     }
     least
 }
 
-/// So many bytes for the log as the run takes.
-const LOG: usize = 1 << 28;
+/// The bytes lent for the log.
+const LOG: usize = 1 << 26;
 
-fn measure(case: &Case, log: &mut [u8], copy: &mut [u8]) {
-    let mut areas = [vec![0; 65_536], vec![0; 65_536], vec![0; 8 * 65_536]];
+fn measure(case: &Case, log: &mut [u8], from: &mut [u8], to: &mut [u8]) {
+    let lent = Lent { log: LOG, ..case.lent };
+    let mut areas = [lent.values, lent.units, lent.delays].map(|length| vec![0; length]);
     let [values, units, delays] = &mut areas;
     let answer = run(&case.circuit, &case.script, log, values, units, delays);
     let Answer::Played { stop: 0, ticks, bytes } = answer else {
         println!("{:<24} {answer}", case.name);
         return;
     };
-    let lent = Lent { log: LOG, values: 65_536, units: 65_536, delays: 8 * 65_536 };
     let (circuit, script) = questions::ask(&case.circuit, &case.script, Some(&lent)).unwrap();
-    let ours = least(|| {
-        black_box(run(&case.circuit, &case.script, log, values, units, delays));
-    });
     let mut records = Vec::new();
-    let theirs = least(|| {
-        let mut machine = play::start(&circuit, &script);
-        records.clear();
-        black_box(play::play_into(&mut records, &mut machine, script.lengths.len(), lent.log));
-    });
-    let copied = least(|| {
-        copy[..bytes].copy_from_slice(&log[..bytes]);
-        black_box(&copy);
-    });
+    let [ours, theirs, copied] = least([
+        &mut || {
+            black_box(run(&case.circuit, &case.script, log, values, units, delays));
+        },
+        &mut || {
+            let mut machine = play::start(&circuit, &script);
+            records.clear();
+            black_box(play::play_into(&mut records, &mut machine, script.lengths.len(), lent.log));
+        },
+        &mut || {
+            to[..bytes].copy_from_slice(&from[..bytes]);
+            black_box(&to);
+        },
+    ]);
     let per_tick = |t: Duration| t.as_nanos() as f64 / ticks as f64;
     println!(
         "{:<24} {:>3} gates {:>6} ticks   run {:>7.1} ns   oracle {:>7.1} ns   ratio {:.3}   copy {:>5.1} ns",
@@ -78,15 +85,53 @@ fn first_ticks(case: &Case, ticks: usize) -> Case {
     Case { script, name: format!("{} ({ticks})", case.name), ..case.clone() }
 }
 
+/// So many groups of eight gates, for 2,000 ticks: a card slot whose card is
+/// swapped every 16 ticks, a Clock that counts twice a second while a card is
+/// in, and a recorder of what was counted.
+fn groups_of_eight(groups: usize) -> Case {
+    let mut c = Circuit::new();
+    let cards: Vec<_> = (0..groups as i64)
+        .map(|rank| {
+            let card = c.world_event(rank);
+            let inserted = c.select(card, false, true);
+            let present = c.buffer_ticks(inserted, 4, 2);
+            let clock = c.clock(rank, 0.5);
+            c.feed(clock.pin("bEnabled"), present);
+            let counted = c.cycle(rank, 10);
+            let changed = c.change_detector(rank, counted);
+            let stored = c.var(0);
+            let store = c.var_set(rank, stored, counted);
+            c.call(clock, counted);
+            c.call(changed, store);
+            card
+        })
+        .collect();
+    let names = [c.constant(0), c.constant(101)];
+    let mut s = Script::new();
+    for t in 0..2_000 {
+        s.tick(0.25);
+        for (k, &card) in cards.iter().enumerate() {
+            if t % 16 == k {
+                s.give(card, names[t / 16 % 2]);
+            }
+        }
+    }
+    Case::new(&format!("groups ({groups})"), "Equal groups of gates.", &c, &s)
+}
+
 fn main() {
-    let (mut log, mut copy) = (vec![0; LOG], vec![0; LOG]);
+    let (mut log, mut from, mut to) = (vec![1; LOG], vec![1; LOG], vec![1; LOG]);
+    let mut row = |case: &Case| measure(case, &mut log, &mut from, &mut to);
     let groups = circuits::groups();
     let vehicles = &groups.iter().find(|g| g.name == "vehicles").unwrap().cases;
     for case in vehicles {
-        measure(case, &mut log, &mut copy);
+        row(case);
     }
     let longest = vehicles.iter().max_by_key(|case| case.script.len()).unwrap();
     for ticks in [100, 1_000, 5_000, 10_000] {
-        measure(&first_ticks(longest, ticks), &mut log, &mut copy);
+        row(&first_ticks(longest, ticks));
+    }
+    for groups in [1, 2, 4, 8] {
+        row(&groups_of_eight(groups));
     }
 }

@@ -1,12 +1,19 @@
 //! The proved `check` against the oracle's: on damaged circuits and scripts, on
 //! random ones that are not damaged, and on the stated ones.
+//!
+//! HAZHIRUN_RUNS=100000 cargo test --offline --release --test check
+//! compares as many damaged and as many random ones; by default it is fewer.
+
+use std::env;
 
 use hazhirun_host::check;
 use oracle::circuits::{self, Case};
 use oracle::generate::{FAMILIES, damaged, valid};
 
-const DAMAGED: u64 = 20_000;
-const SEEDS: u64 = 200;
+/// How many damaged or random ones are compared, by default so many.
+fn calls(default: u64) -> u64 {
+    env::var("HAZHIRUN_RUNS").map_or(default, |n| n.parse().unwrap())
+}
 
 /// How often each number was the oracle's answer.
 type Counts = [usize; 11];
@@ -30,15 +37,17 @@ fn compare(cases: impl IntoIterator<Item = Case>) -> Counts {
 /// refused.
 #[test]
 fn damaged_ones() {
-    let counts = compare((0..DAMAGED).map(|seed| damaged(seed).case));
-    assert!(counts.iter().all(|&n| n > 400), "{counts:?}");
+    let counts = compare((0..calls(20_000)).map(|seed| damaged(seed).case));
+    assert!(counts.iter().all(|&n| n as u64 > calls(20_000) / 50), "{counts:?}");
 }
 
 #[test]
 fn random_ones_of_every_family() {
-    let counts =
-        compare(FAMILIES.into_iter().flat_map(|f| (0..SEEDS).map(move |seed| valid(seed, f))));
-    assert_eq!(counts[0], FAMILIES.len() * SEEDS as usize);
+    let counts = compare((0..calls(2_800)).map(|n| {
+        let families = FAMILIES.len() as u64;
+        valid(n / families, FAMILIES[(n % families) as usize])
+    }));
+    assert_eq!(counts[0] as u64, calls(2_800));
 }
 
 /// The longest scripts are among these: 100,000 ticks, 65,535 stimuli.
