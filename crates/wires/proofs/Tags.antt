@@ -1,9 +1,9 @@
 -- The two words that hold a value, and what the code makes of them.
-use Prim.Native.Nat.{ℕ, zero, suc, _+_, _-_, _*_, _/_, _%_, _^_, _≤_, _<_}
-use mathlib.Core.Path.{_≡_, refl, sym, ap, ap₂, _∙_}
-use mathlib.Core.Bool.{Bool, true, false, not}
+use Prim.Native.Nat.{ℕ, zero, suc, _+_, _*_, _/_, _%_, _^_, _<_}
+use mathlib.Core.Path.{_≡_, refl, sym, ap, _∙_}
+use mathlib.Core.Bool.{true, false, not}
 use native.Mathlib.Omega.{arith}
-use native.Mathlib.Nat.{mod-lt, mod-eq-of-lt}
+use native.Mathlib.Nat.{mod-eq-of-lt}
 use lib.Dec.{eqb}
 use lib.Bits.{bitAnd, bitOr, bitXor, and-zero-r, and-mask}
 use Rattle.model.specs.declared.Value.{Value}
@@ -20,21 +20,33 @@ held-again (Float b) = refl
 held-again (Truth false) = refl
 held-again (Truth true) = refl
 
+-- the tag of a kind
+pub tag-made : (k : ℕ) (v : Value) → k ≡ kind-of v → bitXor k (k / 2) ≡ tag-of v
+unfolding kind-of tag-of
+tag-made k v e = ap (λ (x : ℕ). bitXor x (x / 2)) e ∙ tag-by v
+  where
+    tag-by : (v : Value) → bitXor (kind-of v) (kind-of v / 2) ≡ tag-of v
+    tag-by Nothing = refl
+    tag-by (Int b) = refl
+    tag-by (Float b) = refl
+    tag-by (Truth b) = refl
+
 -- a tag with these last two digits
 pub held-at : (t b j : ℕ) → t % 4 ≡ j → held-by j b ≡ held t b
 unfolding held
 held-at t b j e = ap (λ (x : ℕ). held-by x b) (sym e)
 
-other-digits : (j b : ℕ) → (j ≡ 0 → ⊥) → (j ≡ 1 → ⊥) → (j ≡ 2 → ⊥) → Float b ≡ held-by j b
+pub held-float : (t b : ℕ) → (t % 2 ≡ 0 → ⊥) → (t % 4 ≡ 1 → ⊥) → Float b ≡ held t b
 unfolding held-by
-other-digits zero b f g h = absurd (f refl)
-other-digits (suc zero) b f g h = absurd (g refl)
-other-digits (suc (suc zero)) b f g h = absurd (h refl)
-other-digits (suc (suc (suc j))) b f g h = refl
+held-float t b f g =
+    let e : t % 4 ≡ 3 = omega (arith, f, g) in
+    held-at t b 3 e
 
-pub held-other : (t b : ℕ) → (t % 4 ≡ 0 → ⊥) → (t % 4 ≡ 1 → ⊥) → (t % 4 ≡ 2 → ⊥) → Float b ≡ held t b
-unfolding held
-held-other t b = other-digits (t % 4) b
+pub held-bool : (t b : ℕ) → t % 2 ≡ 0 → (t % 4 ≡ 0 → ⊥) → Truth (not (eqb (b % 2) 0)) ≡ held t b
+unfolding held-by
+held-bool t b e f =
+    let d : t % 4 ≡ 2 = omega (arith, e, f) in
+    held-at t b 2 d
 
 -- the kind, by the last two digits
 kind-by : (j b : ℕ) → j < 4 → bitXor j (j / 2) ≡ kind-of (held-by j b)

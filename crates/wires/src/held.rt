@@ -1,33 +1,34 @@
-// The two words that hold what an output shows: a tag and a content. Odd tags have a whole content, so that a row of them is masked without a branch.
+// The two words that hold what an output shows: a tag and a content. Odd tags have a whole content, so that a row of them is masked without a branch. No match here: a jump table costs more than two tests of digits.
 ghost use Prim.Native.Nat.{ℕ};
 ghost use mathlib.Core.Path.{_≡_};
 ghost use Rattle.model.specs.Value.{kind-of, content-of};
 ghost use Rattle.wires.specs.Held.{held, tag-of};
 use model::Value;
 use std::num::wrapping_sub_u64;
+use values::kind_of;
 
 // The tag of a value.
 pub fn tag_of(v: Value) -> u64
     ensures { λ r. ⌜ r ≡ tag-of v ⌝ }
 {
-    match v {
-        Value::Nothing => 0,
-        Value::Int(_) => 1,
-        Value::Bool(_) => 2,
-        Value::Float(_) => 3,
-    }
+    let kind = kind_of(v);
+    kind ^ kind / 2
 }
 
 // The value that a tag and a content hold.
 pub fn value_held(tag: u64, content: u64) -> Value
     ensures { λ r. ⌜ r ≡ held tag content ⌝ }
 {
-    match tag % 4 {
-        0 => Value::Nothing,
-        1 => Value::Int(content),
-        2 => Value::Bool(content % 2 != 0),
-        _ => Value::Float(content),
+    if tag % 2 != 0 {
+        if tag % 4 == 1 {
+            return Value::Int(content);
+        }
+        return Value::Float(content);
     }
+    if tag % 4 == 0 {
+        return Value::Nothing;
+    }
+    Value::Bool(content % 2 != 0)
 }
 
 // Its kind.
