@@ -11,7 +11,7 @@ use borrow.Author.Tests.{eqb-true}
 use Rattle.words.specs.Words.{words}
 use Rattle.schedule.specs.Schedule.{most-units, log-full, Outcome, Setup, numbered, plain, Activation, push-all, activate-open, raise-all, late-pass, main-pass, Turn, Tick, acts, outcome, tick, run}
 use Rattle.schedule.specs.Promise.{All, Ran-as-told}
-use Rattle.schedule.proofs.Theorems.{order, erasure, ran-as-told}
+use Rattle.schedule.proofs.Theorems.{order, follows, erasure, ran-as-told}
 use Rattle.schedule.proofs.Every.{every}
 use Rattle.schedule.proofs.Ranked.{all-map}
 use Rattle.model.specs.Base.{if_then_else_}
@@ -67,11 +67,17 @@ module _ (c : Circuit) (limit : ℕ) where
       λ j.
       w .state .wires .tick ∷ steps limit w stop ∷ acts-length late j ∷ acts-length main j ∷ length-map carried (λ (e : Activation S). e .act) j ∷ stop ∷ (units-begun o ++ outputs-shown (w .state) stop)
 
+  -- what is said of a record
+  abbrev As-recorded : List ℕ → List (Turn S) → List (Turn S) → List (Activation S) → ℕ → Type 0
+  As-recorded logged late main carried stop =
+      (tick : ℕ) × (steps : ℕ) × (shown : List ℕ) × (logged ≡
+      tick ∷ steps ∷ length late ∷ length main ∷ length carried ∷ stop ∷ (units-begun (outcome S late main carried stop) ++ shown))
+
   -- what closing a tick came to: its record, or none that fits
   closed-as :
       (w : World) (late main : List (Turn S)) (carried : List (Activation S)) (stop : ℕ) →
       let z = closing c limit w (outcome S late main carried stop) in
-      ((tick : ℕ) × (steps : ℕ) × (rest : List ℕ) × (z .world .logged ≡ tick ∷ steps ∷ length late ∷ length main ∷ length carried ∷ cond (z .fits) stop log-full ∷ rest))
+      As-recorded (z .world .logged) late main carried (cond (z .fits) stop log-full)
       ⊎ ((cond (z .fits) stop log-full ≡ log-full) × (z .world .logged ≡ []))
   unfolding closing close
   closed-as w late main carried stop = go (leb (8 * length r) (v .room)) refl
@@ -88,9 +94,9 @@ module _ (c : Circuit) (limit : ℕ) where
       go :
           (b : Bool) → leb (8 * length r) (v .room) ≡ b →
           let z = write v r in
-          ((tick : ℕ) × (steps : ℕ) × (rest : List ℕ) × (z .world .logged ≡ tick ∷ steps ∷ length late ∷ length main ∷ length carried ∷ cond (z .fits) stop log-full ∷ rest))
+          As-recorded (z .world .logged) late main carried (cond (z .fits) stop log-full)
           ⊎ ((cond (z .fits) stop log-full ≡ log-full) × (z .world .logged ≡ []))
-      go true h = let e = write-fits v r h in inl (v .state .wires .tick, steps limit v stop, units-begun o ++ outputs-shown (v .state) stop, rw (e .1) (e .0 ∙ record-is v late main carried stop))
+      go true h = let e = write-fits v r h in inl (v .state .wires .tick, steps limit v stop, outputs-shown (v .state) stop, rw (e .1) (e .0 ∙ record-is v late main carried stop))
       go false h = let e = write-over v r h in inr (rw (e .1) refl, e .0)
 
   tick-recorded : (w : World) (i : Given) (came : List (Activation S)) (t : ℕ) → Recorded c limit (tick S w i came t)
@@ -120,6 +126,7 @@ in-order areas room cb sb h =
     let w = world-at-start c most-steps room in
     record {
       order = order (machine c most-steps) given w;
+      follows = follows (numbered (machine c most-steps)) given w;
       recorded = all-recorded c most-steps given w;
       ended = all-ended c most-steps given w;
       answered = answer-is areas room cb sb h ∙ ap (λ (ts : List (Tick (plain (machine c most-steps)))). played (seen c most-steps ts)) (erasure (numbered (machine c most-steps)) given w);

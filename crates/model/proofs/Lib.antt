@@ -34,5 +34,7 @@ pub mod Chains
 pub mod Stale
 -- the order promise at this machine: `in-order`
 pub mod InOrder
+-- which numbers an answer can have: `numbers`
+pub mod Ends
 -- the records of a run fit its log: `play-fits`, `log-keeps-length`
 pub mod Fits

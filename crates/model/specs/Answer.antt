@@ -1,11 +1,13 @@
 -- What a call answers, from bytes, and what it leaves in the log and the areas.
-use Prim.Native.Nat.{ℕ, zero, suc, _*_}
-use mathlib.Core.List.{List, _++_}
+use Prim.Native.Nat.{ℕ, zero, suc, _*_, _≤_}
+use mathlib.Core.Path.{_≡_}
+use mathlib.Core.Bool.{true}
+use mathlib.Core.List.{List, [], _∷_, _++_}
 use mathlib.Core.Option.{none, some}
 use lib.ListN.{length, drop, replicate}
 use Rattle.words.specs.Words.{words, bytes}
 use Rattle.schedule.specs.Schedule.{schedule-opened}
-use Rattle.model.specs.Base.{base-opened}
+use Rattle.model.specs.Base.{among, base-opened}
 use Rattle.model.specs.Value.{value-opened}
 use Rattle.model.specs.Kinds.{kinds-opened}
 use Rattle.model.specs.Circuit.{Circuit, circuit, circuit-opened}
@@ -48,6 +50,11 @@ checked circuit-bytes script-bytes = refusal none circuit-bytes script-bytes
 unfoldable pub number : Answer → ℕ
 number (refused n) = n
 number (played p) = p .stop
+
+-- What a call can answer: it is refused with 1 to 10, or played to the script's end, 0, or to a stop, 11, 12 or 13.
+pub data Answers : Answer → Type 0 where
+  is-refused : {n : ℕ} → 1 ≤ n → n ≤ 10 → Answers (refused n)
+  is-played : {p : Played} → among (p .stop) (0 ∷ 11 ∷ 12 ∷ 13 ∷ []) ≡ true → Answers (played p)
 
 -- the log afterwards, where it held these bytes before: untouched by a refusal; else the records, and its rest untouched
 unfoldable pub log-after : Answer → List ℕ → List ℕ

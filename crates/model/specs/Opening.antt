@@ -124,8 +124,8 @@ module _ (c : Circuit) where
       let s = readied c (z .state) g 3 1 in
       advanced z s to-late g 0 (advance-time (s .wires .dt) (as-float 0 (read c s g 3)) (delay c s g))
 
-  -- The source's order: events, stimuli, ended pulses, buffers and Queues, Clocks, Stopwatches, time sources, settling. What is raised before the passes goes
-  -- to late, events to delivered, and what Clocks and settling raise to pending.
+  -- The source's order: events, stimuli, ended pulses, buffers and Queues, Clocks, Stopwatches, time sources, settling. Stimuli, buffers, Queues and Stopwatches
+  -- raise to late, events to delivered, Clocks and settling to pending.
   unfoldable pub open-tick : State → Given → Opened
   open-tick s given =
       let s₁ = begin-tick s (given .dt) in

@@ -1,18 +1,19 @@
 -- What is promised of the order of every run that is not refused: demand 3 at this machine.
 use mathlib.Core.Path.{_≡_}
 use mathlib.Core.Bool.{true}
-use mathlib.Core.List.{List, [], _∷_, map}
+use mathlib.Core.List.{List, [], _∷_, _++_, map}
 use mathlib.Core.Logic.{_⊎_}
 use Prim.Native.Nat.{ℕ}
 use lib.ListN.{length}
 use Rattle.words.specs.Words.{words}
-use Rattle.schedule.specs.Schedule.{log-full, numbered, Turn, Tick, run}
-use Rattle.schedule.specs.Promise.{All, Order}
+use Rattle.schedule.specs.Schedule.{log-full, numbered, Turn, Tick, outcome, run}
+use Rattle.schedule.specs.Promise.{All, Order, Follows}
 use Rattle.schedule.specs.Erasure.{bare-tick}
 use Rattle.model.specs.Circuit.{Circuit, circuit}
 use Rattle.model.specs.Script.{Given, script}
 use Rattle.model.specs.Chain.{no-calls}
 use Rattle.model.specs.Unit.{run-unit}
+use Rattle.model.specs.Record.{units-begun}
 use Rattle.model.specs.Run.{most-steps, machine, world-at-start, seen}
 use Rattle.model.specs.Questions.{Areas}
 use Rattle.model.specs.Answer.{played, answer}
@@ -26,11 +27,13 @@ module _ (c : Circuit) (limit : ℕ) where
   abbrev pub numbered-ticks : ℕ → List Given → List Numbered-tick
   numbered-ticks room given = run (numbered (machine c limit)) given (world-at-start c limit room)
 
-  -- The record of a tick has its tick, its steps, how many units the tick began in its late pass and in its main pass, how many it carries, and its stop; or the
-  -- record did not fit.
+  -- The record of a tick has two numbers (its tick and its steps), how many units the tick began in its late pass and in its main pass, how many it carries, and its
+  -- stop, then the gates and forms of the units that it began, in that order; or the record did not fit.
   abbrev pub Recorded : Numbered-tick → Type 0
   Recorded t =
-      ((tick : ℕ) × (steps : ℕ) × (rest : List ℕ) × (t .world .logged ≡ tick ∷ steps ∷ length (t .late) ∷ length (t .main) ∷ length (t .carried) ∷ t .stop ∷ rest))
+      ((tick : ℕ) × (steps : ℕ) × (shown : List ℕ) × (t .world .logged ≡
+      tick ∷ steps ∷ length (t .late) ∷ length (t .main) ∷ length (t .carried) ∷ t .stop
+      ∷ (units-begun (outcome (numbered (machine c limit)) (t .late) (t .main) (t .carried) (t .stop)) ++ shown)))
       ⊎ ((t .stop ≡ log-full) × (t .world .logged ≡ []))
 
   -- a unit that is said to have run left no call on the chain stack, and none on the forks
@@ -38,9 +41,11 @@ module _ (c : Circuit) (limit : ℕ) where
   Ended u = u .ran ≡ true → run-unit c (u .from) (u .unit .act) .calls ≡ no-calls
 
 -- What is promised of a call with these areas, a log of so many bytes, a circuit and a script, where it is not refused.
-pub record In-order (areas : Areas) (room : ℕ) (circuit-bytes script-bytes : List ℕ) (c : Circuit) (ticks : List (Numbered-tick c most-steps)) : Type 0 where
+pub record In-order (areas : Areas) (room : ℕ) (circuit-bytes script-bytes : List ℕ) (c : Circuit) (given : List Given) (ticks : List (Numbered-tick c most-steps)) : Type 0 where
   -- (a) to (e), of the whole run
   pub order : Order (machine c most-steps) ticks
+  -- one tick for each that the script gives, up to a stop; each tick and each unit begins in the world that the one before it left; what openings raised
+  pub follows : Follows (numbered (machine c most-steps)) given (world-at-start c most-steps room) ticks
   pub recorded : All (Recorded c most-steps) ticks
   pub ended : All (λ t. All (Ended c most-steps) (t .late) × All (Ended c most-steps) (t .main)) ticks
   -- the answer is made of this run, the numbers left out
@@ -50,4 +55,5 @@ pub record In-order (areas : Areas) (room : ℕ) (circuit-bytes script-bytes : L
 abbrev pub Whole-run-in-order : Areas → ℕ → List ℕ → List ℕ → Type 0
 Whole-run-in-order areas room circuit-bytes script-bytes =
     let c = circuit (words circuit-bytes) in
-    In-order areas room circuit-bytes script-bytes c (numbered-ticks c most-steps room (script (c .constants) (words script-bytes)))
+    let given = script (c .constants) (words script-bytes) in
+    In-order areas room circuit-bytes script-bytes c given (numbered-ticks c most-steps room given)

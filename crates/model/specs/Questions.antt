@@ -151,7 +151,7 @@ question-8 bytes ws =
     eqb (length bytes % 8) 0 && leb 2 (length ws) && within 0 100000 (word-at ws 0) && within 0 65535 (word-at ws 1)
     && eqb (length ws) (2 + 2 * (word-at ws 0 + word-at ws 1))
 
--- 9. Is each tick length finite and 0 (-0.0 too) to 3,600, each count 0 to 64, their sum S?
+-- 9. Is each tick length finite and 0 (-0.0 too) to 3,600 (0x40AC200000000000), each count 0 to 64, their sum S?
 unfoldable pub good-length : ℕ → Bool
 good-length b = finite b && le64 0 b && le64 b 0x40AC200000000000
 

@@ -54,7 +54,7 @@ module _ (c : Circuit) (limit : ℕ) where
   last-stop [] = 0
   last-stop (t ∷ ts) = if eqb (t .stop) 0 then last-stop ts else t .stop
 
-  -- the records of a run's ticks, one behind the other, its stop, and how many ticks had none
+  -- the records of a run's ticks, one behind the other, its stop, and how many ticks had no stop
   unfoldable pub seen : List (Tick (plain machine)) → Played
   seen ts =
       record {

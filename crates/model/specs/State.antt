@@ -8,7 +8,7 @@ use Rattle.model.specs.declared.Value.{Value}
 -- What wires show and what is remembered of them. `dt` and `uptime` are f64 bits. `outs` has a value for each output; a Var's storage is its Value. `dirty` has a
 -- mark for each gate: a pure gate that is stale. `to-check` has the watched inputs that wait to be checked, the oldest first, and `queued` a mark for each
 -- input that does. `last` has for each watched input what its last check read, or none; `pulses` for each output the tick in which its pulse was last
--- raised, 0 for none; `written` the Vars written by this unit, each once, in the order of its first write; `unions-passed` a mark for each gate: a Union
+-- raised, 0 for none; `written` the outputs of the Vars written by this unit, each once, in the order of its first write; `unions-passed` a mark for each gate: a Union
 -- that has passed in this tick.
 pub record Wires : Type 0 where
   pub tick : ℕ

@@ -33,7 +33,7 @@ module _ (c : Circuit) where
   unfoldable pub fired : ℕ → ℕ → ℕ
   fired g form = if leb 32 form then output c g (form - 32) else if eqb (kind-of-gate c g) 15 then output c g 1 else output c g 0
 
-  -- form 16 + pin enters its gate, which is a step; any other fires an output
+  -- form 16 + pin enters its gate, which is a step; any other fires an output; a circuit has at most 256 calls (question 1), so the first ones always find room
   unfoldable pub begin : Act → Calls
   begin a =
       if leb 16 (a .form) && ltb (a .form) 32 then record { stack = input c (a .gate) (a .form - 16) ∷ []; forks = [] }
@@ -47,7 +47,7 @@ module _ (c : Circuit) where
   unfoldable pub run-unit : World → Act → Chained
   run-unit w a = run-chain c (w .left) (begin a) (enter (w .state) a)
 
-  -- when the chain and its forks have ended, the Vars written are published, and what changed is settled
+  -- when the chain and its forks have ended, the Vars written are published, and what changed is settled; only then a unit raises
   unfoldable pub finish-chain : World → Chained → Did World Act (Unit {0})
   finish-chain w r =
       if eqb (r .stop) 0 then

@@ -29,7 +29,7 @@ module _ (S : Setup) where
       Passes S next activate t q s us t₁ q₁ s₁ → All (Ran-as-told S) us
   passes-told next activate broke = [·]
   passes-told next activate (done h) = [·]
-  passes-told next activate (turn h k b j r) = _∷·_ j (passes-told next activate r)
+  passes-told next activate (turn h k b j r) = _∷·_ (j .0) (passes-told next activate r)
 
   pub ran-as-told : (is : List In) (w : W) → All (λ (t : Tick S). All (Ran-as-told S) (t .late) × All (Ran-as-told S) (t .main)) (run S is w)
   ran-as-told is w =

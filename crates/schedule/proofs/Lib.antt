@@ -12,6 +12,8 @@ pub mod Ranked
 pub mod Fresh
 -- (c) what is carried
 pub mod Carry
+-- raised as told, and the worlds of a run: `follows`
+pub mod Told
 -- (a) to (e) of a tick, and of a run: `order`
 pub mod Whole
 -- with identities and without: `erasure`

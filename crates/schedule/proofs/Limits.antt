@@ -1,4 +1,4 @@
--- Every tick keeps to the limits: `Limited` holds of it.
+-- Every tick keeps to the limits that `Limited` names.
 use mathlib.Core.Path.{_≡_, ap}
 use mathlib.Core.List.{List, [], _∷_}
 use mathlib.Core.Logic.{_⊎_, inl, inr}

@@ -1,6 +1,6 @@
 -- What the scheduler's steps did, as data to go through: `Raises` for raising, `Passes` for a pass, and what was taken off a queue and put on it. Each case analysis is made here, once.
 use mathlib.Core.Path.{_≡_, refl, sym, ap}
-use mathlib.Core.List.{List, [], _∷_, _++_}
+use mathlib.Core.List.{List, [], _∷_, _++_, map}
 use mathlib.Core.Bool.{Bool, true, false, cond}
 use mathlib.Core.Logic.{_⊎_, inl, inr}
 use Prim.Native.Nat.{ℕ, zero, suc, _+_, _<_}
@@ -9,6 +9,7 @@ use lib.ListN.{length}
 use lib.Dec.{leb, ltb, eqb}
 use borrow.Author.Tests.{ltb-true, eq-eqb}
 use Rattle.schedule.specs.Schedule.{Setup, Machine, Raise, Took, empty, took, Filed, full, filed, room, most-waiting, list-full, MainQ, OpenQ, Place, to-late, to-delivered, to-pending, Activation, rank-of, push, carries, activate-main, activate-open, next-main, next-main′, Raising, raise-on, raise-all, Turn, Passed, turning, no-turn, pass-on, pass}
+use Rattle.schedule.specs.Promise.{Of-told, Ran-as-told, Raised-as-told}
 
 -- a queue that was filed is the one that there was room for
 pub room-is : {E Q : Type 0} (l : List E) (most : ℕ) {q q₁ : Q} → room l most q ≡ filed q₁ → (q₁ ≡ q) × (length l < most)
@@ -89,29 +90,38 @@ module _ (S : Setup) where
           Raises (after (e .tag)) q₁ es t₂ q₂ →
           Raises (e .tag) q (e ∷ es) t₂ q₂
 
-    -- what raising came to, where what raised had the stop s: without a stop in the end there was none before
-    pub record Did-raise (t : Tag) (q : Q) (s : ℕ) (k : Raising S Q) : Type 0 where
+    -- What raising rs in the world w came to, where what raised had the stop s: without a stop in the end there was none before, all was raised, and the world is w.
+    pub record Did-raise (rs : List (Raise W Act P)) (t : Tag) (q : Q) (w : W) (s : ℕ) (k : Raising S Q) : Type 0 where
       pub steps : Raises t q (k .raised) (k .next) (k .queue)
       pub stopped : k .stop ≡ 0 → s ≡ 0
+      pub told : Of-told S (k .stop) rs (k .raised)
+      pub world : k .stop ≡ 0 → k .world ≡ w
 
-    pub raise-steps : (rs : List (Raise W Act P)) (t : Tag) (q : Q) (w : W) (s : ℕ) → Did-raise t q s (raise-all S activate rs t q w s)
+    pub raise-steps : (rs : List (Raise W Act P)) (t : Tag) (q : Q) (w : W) (s : ℕ) → Did-raise rs t q w s (raise-all S activate rs t q w s)
     unfolding raise-all
-    raise-steps [] t q w s = record { steps = none; stopped = λ h. h }
+    raise-steps [] t q w s = record { steps = none; stopped = λ h. h; told = ([], refl, λ h. refl); world = λ h. refl }
     raise-steps (r ∷ rs) t q w s = go (λ q₁. raise-steps rs (after t) q₁ w s) (activate (r .place) (record { act = r .act; tag = t }) q) refl
       where
         go :
-            ((q₁ : Q) → Did-raise (after t) q₁ s (raise-all S activate rs (after t) q₁ w s)) →
+            ((q₁ : Q) → Did-raise rs (after t) q₁ w s (raise-all S activate rs (after t) q₁ w s)) →
             (x : Filed Q) →
             activate (r .place) (record { act = r .act; tag = t }) q ≡ x →
-            Did-raise t q s (raise-on S x (record { act = r .act; tag = t })
+            Did-raise (r ∷ rs) t q w s (raise-on S x (record { act = r .act; tag = t })
             (record { raised = []; queue = q; next = t; world = r .at; stop = list-full })
             (λ q′. raise-all S activate rs (after t) q′ w s))
-        go rec full h = record { steps = none; stopped = λ k. omega arith }
-        go rec (filed q₁) h = record { steps = one (r .place) h (rec q₁ .steps); stopped = rec q₁ .stopped }
+        go rec full h = record { steps = none; stopped = λ k. omega arith; told = (map (λ (r : Raise W Act P). r .act) (r ∷ rs), refl, λ k. absurd (omega arith)); world = λ k. absurd (omega arith) }
+        go rec (filed q₁) h =
+            let k = rec q₁ in
+            record {
+              steps = one (r .place) h (k .steps);
+              stopped = k .stopped;
+              told = (k .told .0, ap (λ (l : List Act). r .act ∷ l) (k .told .1), k .told .2);
+              world = k .world;
+            }
 
   -- ---- a pass
   module _ {Q : Type 0} (next : Q → Took (Activation S) Q) (activate : Activation S → Activation S → Q → Filed Q) where
-    -- from the stop s to the stop at the end; a unit after which there is no stop has run
+    -- from the stop s to the stop at the end; a unit after which there is no stop has run; what is told of each unit
     pub data Passes : Tag → Q → ℕ → List (Turn S) → Tag → Q → ℕ → Type 0 where
       broke : {t : Tag} {q : Q} {s s₁ : ℕ} → Passes t q s [] t q (suc s₁)
       done : {t : Tag} {q : Q} → next q ≡ empty → Passes t q 0 [] t q 0
@@ -120,7 +130,7 @@ module _ (S : Setup) where
           next q ≡ took u q₁ →
           Raises (λ (p : Unit {0}). activate u) t q₁ es t₁ q₂ →
           (s ≡ 0 → b ≡ true) →
-          b ≡ eqb (body w (u .act) .stop) 0 →
+          Ran-as-told S (record { unit = u; from = w; raised = es; ran = b }) × Raised-as-told S s (record { unit = u; from = w; raised = es; ran = b }) →
           Passes t₁ q₂ s us t₂ q₃ s₁ →
           Passes t q 0 (record { unit = u; from = w; raised = es; ran = b } ∷ us) t₂ q₃ s₁
 
@@ -153,5 +163,5 @@ module _ (S : Setup) where
             let k = raise-all S (λ (p : Unit {0}). activate u) (d .raises) t q₁ (d .world) (d .stop) in
             let r = raise-steps (λ (p : Unit {0}). activate u) (d .raises) t q₁ (d .world) (d .stop) in
             let rest = rec (k .next) (k .queue) (k .world) (k .stop) in
-            record { steps = turn h (r .steps) (λ z. eq-eqb _ _ (r .stopped z)) refl (rest .steps); units = omega (arith, rest .units) }
+            record { steps = turn h (r .steps) (λ z. eq-eqb _ _ (r .stopped z)) (refl, r .told) (rest .steps); units = omega (arith, rest .units) }
     pass-steps (suc n) t q w (suc s) = record { steps = broke; units = omega arith }

@@ -1,15 +1,16 @@
--- The theorems of the scheduler. What they say is defined in specs/: the runs in Schedule, `Order` in Promise, `bare-tick` in Erasure, `Limited` in Limits,
+-- The theorems of the scheduler. What they say is defined in specs/: the runs in Schedule, `Order` and `Follows` in Promise, `bare-tick` in Erasure, `Limited` in Limits,
 -- `Tick-keeps` in Keeping.
 use mathlib.Core.Path.{_≡_}
 use mathlib.Core.List.{List, map}
 use Rattle.schedule.specs.Schedule.{Machine, Outcome, Setup, numbered, plain, Tick, run}
-use Rattle.schedule.specs.Promise.{All, Order, Ran-as-told}
+use Rattle.schedule.specs.Promise.{All, Order, Follows, Ran-as-told}
 use Rattle.schedule.specs.Erasure.{bare-tick}
 use Rattle.schedule.specs.Limits.{Limited}
 use Rattle.schedule.specs.Keeping.{Did-keep, Tick-keeps}
 use Rattle.schedule.proofs.Whole.{order as run-order}
 use Rattle.schedule.proofs.Erase.{erasure as run-erasure}
 use Rattle.schedule.proofs.Every.{ran-as-told as run-told}
+use Rattle.schedule.proofs.Told.{follows as run-follows}
 use Rattle.schedule.proofs.Keeps.{run-keeps as kept-in-run}
 use Rattle.schedule.proofs.Limits.{limited as run-limited}
 
@@ -17,11 +18,15 @@ use Rattle.schedule.proofs.Limits.{limited as run-limited}
 pub order : (M : Machine) (is : List (M .In)) (w : M .W) → Order M (run (numbered M) is w)
 order = run-order
 
+-- Every run plays its script, tick after tick and unit after unit, and what its ticks' openings raised is what is said of them.
+pub follows : (S : Setup) (is : List (S .machine .In)) (w : S .machine .W) → Follows S is w (run S is w)
+follows = run-follows
+
 -- The plain run, which the code is held to, is any run with identities, the identities left out.
 pub erasure : (S : Setup) (is : List (S .machine .In)) (w : S .machine .W) → run (plain (S .machine)) is w ≡ map (bare-tick S) (run S is w)
 erasure = run-erasure
 
--- Every tick of a run keeps to the limits.
+-- Every tick of a run keeps to three of the limits.
 pub limited : (S : Setup) (is : List (S .machine .In)) (w : S .machine .W) → All (Limited S) (run S is w)
 limited = run-limited
 

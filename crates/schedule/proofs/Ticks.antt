@@ -11,7 +11,7 @@ use Rattle.schedule.specs.Promise.{total, units, ended, raised-by, begun
 use Rattle.schedule.proofs.Steps.{activate-open-is, Raises, none, one, Passes, broke, done, turn, raise-steps, pass-steps}
 use Rattle.schedule.proofs.Weigh.{total-append, push-weigh, push-all-weigh, late-weigh, open-weigh, raises-weigh, activate-open-weigh, late-passes-weigh, main-passes-weigh}
 
-fitted : (b : Bool) (s : ℕ) → cond b s log-full ≡ 0 → s ≡ 0
+pub fitted : (b : Bool) (s : ℕ) → cond b s log-full ≡ 0 → s ≡ 0
 fitted true s h = h
 fitted false s h = omega arith
 
@@ -32,6 +32,7 @@ module _ (S : Setup) where
     pub opened : Raises S (activate-open S) t₀ (record { lateq = record { late = push-all S c []; delivered = [] }; pending = [] }) (k .opened) t₁ o
     pub late : Passes S (next-late S) (activate-late S) t₁ (o .lateq) s₁ (k .late) t₂ l s₂
     pub main : Passes S (next-main S) (activate-main S) t₂ (record { pending = o .pending; carried = [] }) s₂ (k .main) (k .next) m s₃
+    pub came : k .came ≡ c
     pub waiting : k .waiting ≡ m .pending
     pub carried : k .carried ≡ m .carried
     pub stopped : k .stop ≡ 0 → s₃ ≡ 0
@@ -58,6 +59,7 @@ module _ (S : Setup) where
         opened = raise-steps S (activate-open S) (d .raises) t _ (d .world) (d .stop) .steps;
         late = late .steps;
         main = main .steps;
+        came = refl;
         waiting = refl;
         carried = refl;
         stopped = fitted (closing (m .world) (outcome S (l .turns) (m .turns) (m .queue .carried) (m .stop)) .fits) (m .stop);
@@ -66,7 +68,7 @@ module _ (S : Setup) where
 
   -- ---- a pass that ended without a stop began without one, nothing waits, and its units have run
   module _ {Q : Type 0} (next : Q → Took (Activation S) Q) (activate : Activation S → Activation S → Q → Filed Q) where
-    passes-from : {t t₁ : Tag} {q q₁ : Q} {s s₁ : ℕ} {us : List (Turn S)} → Passes S next activate t q s us t₁ q₁ s₁ → s₁ ≡ 0 → s ≡ 0
+    pub passes-from : {t t₁ : Tag} {q q₁ : Q} {s s₁ : ℕ} {us : List (Turn S)} → Passes S next activate t q s us t₁ q₁ s₁ → s₁ ≡ 0 → s ≡ 0
     passes-from broke h = omega arith
     passes-from (done k) h = refl
     passes-from (turn k f b e r) h = refl

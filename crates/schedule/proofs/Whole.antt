@@ -14,6 +14,7 @@ use Rattle.schedule.proofs.Ticks.{Ticked, ticked, tick-ran, main-keeps,
 use Rattle.schedule.proofs.Ranked.{tick-sorted}
 use Rattle.schedule.proofs.Fresh.{coming, tick-fresh, tick-numbered, numbered-append}
 use Rattle.schedule.proofs.Carry.{tick-carry}
+use Rattle.schedule.proofs.Told.{tick-told}
 
 module _ (M : Machine) where
   open Machine M using (W, In)
@@ -67,9 +68,11 @@ module _ (M : Machine) where
             by-rank = tick-sorted M T;
             only = λ m. omega (arith, tick-keeps (numbered M) m T);
             carries = tick-carry (numbered M) T;
+            came = T .came;
             raised-once = raised-once;
             carried-once = carried-once;
             counts = counts;
+            told = tick-told (numbered M) T;
           }
 
   -- ---- the run

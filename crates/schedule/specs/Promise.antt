@@ -1,12 +1,12 @@
 -- The order promise: what holds of every run, whole, from its start. Activations are told apart by the number that their raising gave them.
 use mathlib.Core.Path.{_≡_}
-use mathlib.Core.List.{List, [], _∷_, _++_}
+use mathlib.Core.List.{List, [], _∷_, _++_, map}
 use mathlib.Core.Bool.{cond}
 use mathlib.Core.Logic.{_⊎_}
 use Prim.Native.Nat.{ℕ, suc, _+_, _≤_, _<_}
 use lib.ListN.{length}
 use lib.Dec.{leb, eqb}
-use Rattle.schedule.specs.Schedule.{Setup, numbered, Activation, Machine, Turn, Tick}
+use Rattle.schedule.specs.Schedule.{Raise, Setup, numbered, Activation, Machine, Turn, Tick, outcome}
 
 -- a number for each, added up over a list
 abbrev pub total : {A : Type 0} → (A → ℕ) → List A → ℕ
@@ -21,11 +21,20 @@ pub data All {A : Type 0} (P : A → Type 0) : List A → Type 0 where
 -- ---- of a tick
 
 module _ (S : Setup) where
-  open Machine (S .machine) using (rank, body)
+  open Machine (S .machine) using (W, In, Act, rank, opening, body, closing)
 
   -- what `ran` tells of a unit: in the world in which it began, its body came to no stop of its own
   abbrev pub Ran-as-told : Turn S → Type 0
   Ran-as-told u = u .ran ≡ eqb (body (u .from) (u .unit .act) .stop) 0
+
+  -- What `raised` tells, where rs was to be raised and the tick came to this stop, or 0: all of rs, in order, and in a stopped tick a first part of it.
+  abbrev pub Of-told : {P : Type 0} → ℕ → List (Raise W Act P) → List (Activation S) → Type 0
+  Of-told {P} stop rs es =
+      (rest : List Act) × (map (λ (r : Raise W Act P). r .act) rs ≡ map (λ (e : Activation S). e .act) es ++ rest) × (stop ≡ 0 → rest ≡ [])
+
+  -- of a unit: what its body raised, in the world in which it began
+  abbrev pub Raised-as-told : ℕ → Turn S → Type 0
+  Raised-as-told stop u = Of-told stop (body (u .from) (u .unit .act) .raises) (u .raised)
 
   -- the units begun in a pass
   abbrev pub units : List (Turn S) → List (Activation S)
@@ -64,6 +73,33 @@ module _ (S : Setup) where
   abbrev pub raised : Tick S → List (Activation S)
   raised t = t .opened ++ (raised-by (t .late) ++ raised-by (t .main))
 
+  -- ---- the worlds
+
+  -- each unit begins in the world that the one before it left, the first one in w
+  abbrev pub Follow : W → List (Turn S) → Type 0
+  Follow w [] = Unit {0}
+  Follow w (u ∷ us) = (u .from ≡ w) × Follow (body w (u .unit .act) .world) us
+
+  -- the world that they leave, where there is no stop
+  abbrev pub left-by : W → List (Turn S) → W
+  left-by w [] = w
+  left-by w (u ∷ us) = left-by (body w (u .unit .act) .world) us
+
+  -- a tick that begins in the world w, with what the script gives it
+  pub record Opens (w : W) (i : In) (t : Tick S) : Type 0 where
+    -- what it raised before its passes is what its opening raised
+    pub opened : Of-told (t .stop) (opening w i .raises) (t .opened)
+    -- its units follow its opening, and one another, a stopped tick's too
+    pub units : Follow (opening w i .world) (t .late ++ t .main)
+    -- without a stop its record is written in the world that the last one left
+    pub leaves : t .stop ≡ 0 → t .world ≡ closing (left-by (opening w i .world) (t .late ++ t .main)) (outcome S (t .late) (t .main) (t .carried) 0) .world
+
+  -- The ticks of a script from the world w on: one for each that the script gives, each in the world that the one before it left; a stop ends them, and only a stop.
+  pub data Follows : List In → W → List (Tick S) → Type 0 where
+    script-over : {w : W} → Follows [] w []
+    stopped : {i : In} {is : List In} {w : W} {t : Tick S} → Opens w i t → 1 ≤ t .stop → Follows (i ∷ is) w (t ∷ [])
+    next : {i : In} {is : List In} {w : W} {t : Tick S} {ts : List (Tick S)} → Opens w i t → t .stop ≡ 0 → Follows is (t .world) ts → Follows (i ∷ is) w (t ∷ ts)
+
 -- ---- the promise, of activations that have numbers
 
 module _ (M : Machine) where
@@ -101,13 +137,17 @@ module _ (M : Machine) where
     pub by-rank : Sorted (units (numbered M) (t .main) ++ t .waiting)
     -- (b) Only what was raised in the tick or carried into it begins: whatever number each activation counts for, those begun come to no more than those.
     pub only : (m : Raised → ℕ) → total m (begun (numbered M) t) ≤ total m (raised (numbered M) t) + total m c
-    -- (c) Carried is exactly what the main pass raised at or below the rank that it had reached, in that order.
+    -- (c) Carried is exactly what the main pass raised at or below the rank that it had reached, in that order; and what the tick before carried is what comes
+    -- into this one.
     pub carries : t .carried ≡ raised-not-above (numbered M) (t .main)
+    pub came : t .came ≡ c
     -- (d) Without a stop, each one raised and not carried runs once in the tick, and so does each one that was carried into it.
     pub raised-once : t .stop ≡ 0 → (x : ℕ) → 1 ≤ times x (raised (numbered M) t) → times x (t .carried) ≡ 0 → times x (has-run (numbered M) t) ≡ 1
     pub carried-once : t .stop ≡ 0 → (x : ℕ) → 1 ≤ times x c → times x (has-run (numbered M) t) ≡ 1
     -- (e) Without a stop, late + main + carried = raised + carried by the tick before.
     pub counts : t .stop ≡ 0 → length (t .late) + length (t .main) + length (t .carried) ≡ length (raised (numbered M) t) + length c
+    -- What (b) to (e) count as raised by units is what their bodies raised.
+    pub told : All (Raised-as-told (numbered M) (t .stop)) (t .late ++ t .main)
 
   -- the ticks of a run, the one before which carried c: each is orderly, and none follows a stop
   pub data Each : List Raised → List Played → Type 0 where

@@ -1,5 +1,5 @@
 -- The scheduler of a tick, whatever its units do: which waiting activation begins next, and where one that is raised goes.
--- Document 01's own terms (activation, raised, begun, has run, rank reached, carried, late pass, main pass) are defined here; names are the source's.
+-- Document 01's own terms (activation, raised, rank reached, carried, late pass, main pass) are defined here, begun and has run in Promise; names are the source's.
 use mathlib.Core.List.{List, [], _∷_, _++_, map}
 use mathlib.Core.Bool.{Bool, cond}
 use Prim.Native.Nat.{ℕ, zero, suc}
@@ -68,7 +68,7 @@ pub record Machine : Type 1 where
   pub rank : Act → ℕ
   -- what a tick does before its passes
   pub opening : W → In → Did W Act Place
-  -- What a unit does. It raises only when its chain and forks have ended, so it has run where its own stop is 0.
+  -- What a unit does. It has run where its own stop is 0.
   pub body : W → Act → Did W Act (Unit {0})
   -- the record of the tick is written
   pub closing : W → Outcome Act → Closed W
@@ -294,7 +294,7 @@ module _ (S : Setup) where
   abbrev pub outcome : List Turn → List Turn → List Activation → ℕ → Outcome Act
   outcome late main carried stop = record { late = acts late; main = acts main; carried = map (λ (e : Activation). e .act) carried; stop = stop }
 
-  -- what was carried in is first in the late list; the record is written at the end, after a stop too
+  -- what was carried in goes to the late list first, so it comes first within its rank; the record is written at the end, after a stop too
   unfoldable pub tick : W → In → List Activation → Tag → Tick
   tick w i came t =
       let d = opening w i in

@@ -1,0 +1,160 @@
+-- The number of every answer: a refusal's is 1 to 10, a run's stop is 0, 11, 12 or 13.
+use mathlib.Core.Path.{_≡_, refl, sym, subst}
+use mathlib.Core.Bool.{Bool, true, false, not, _&&_, cond}
+use mathlib.Core.List.{List, [], _∷_}
+use mathlib.Core.Option.{Option, none, some}
+use Prim.Native.Nat.{ℕ, zero, suc, _≤_}
+use native.Mathlib.Omega.{arith}
+use lib.Dec.{eqb}
+use Rattle.words.specs.Words.{words}
+use Rattle.schedule.specs.Schedule.{list-full, log-full, most-units, Raise, Setup, plain, Took, empty, took, Filed, full, filed, Activation, push-all, activate-open, activate-late, activate-main, next-late, next-main, raise-on, raise-all, pass-on, pass, no-turn, turning, late-pass, main-pass, Tick, outcome, tick}
+use Rattle.schedule.specs.Promise.{All, _∷·_}
+use Rattle.schedule.proofs.Every.{every}
+use Rattle.model.specs.Base.{among}
+use Rattle.model.specs.Circuit.{Circuit, circuit}
+use Rattle.model.specs.Script.{Given, script}
+use Rattle.model.specs.State.{State, Act}
+use Rattle.model.specs.Exec.{Stepped, exec-gate}
+use Rattle.model.specs.Chain.{Calls, Popped, pop, fit, Chained, chained, push-calls, run-chain, runaway}
+use Rattle.model.specs.Unit.{World, run-unit}
+use Rattle.model.specs.Run.{most-steps, opening, body, closing, machine, ticks-of, last-stop, seen}
+use Rattle.model.specs.Questions.{Areas, circuit-refusal, script-refusal, or-else, refusal}
+use Rattle.model.specs.Answer.{Answers, is-refused, is-played, play, answer-to, answer}
+use Rattle.model.proofs.Lists.{if-both}
+use Rattle.model.proofs.Chains.{finish-stop}
+
+-- ---- a stop of the machine: one of 0, 11, 12, 13
+
+module _ (Q : ℕ → Type 0) (z : Q 0) (r : Q runaway) (f : Q list-full) (l : Q log-full) where
+  chain-stop : (c : Circuit) (left : ℕ) (q : Calls) (s : State) → Q (run-chain c left q s .stop)
+  unfolding run-chain chained
+  chain-stop c zero q s = go (pop (q .stack) (q .forks))
+    where
+      go : (x : Option Popped) → Q ((elim x as (λ _. Chained) [ none ↦ chained s 0 0 q | some t ↦ chained s 0 runaway q ]) .stop)
+      go none = z
+      go (some t) = r
+  chain-stop c (suc left) q s = go (pop (q .stack) (q .forks)) (λ r t. chain-stop c left r t)
+    where
+      go :
+          (x : Option Popped) → ((r : Calls) (t : State) → Q (run-chain c left r t .stop)) →
+          Q ((elim x as (λ _. Chained) [
+            | none ↦ chained s (suc left) 0 q
+            | some t ↦
+                let d = exec-gate c s (t .input) in
+                let r = push-calls c (d .next) (t .rest) in
+                elim (fit r && not (d .full)) [ true ↦ run-chain c left r (d .state) | false ↦ chained (d .state) left list-full r ]
+          ]) .stop)
+      go none rec = z
+      go (some t) rec =
+          let d = exec-gate c s (t .input) in
+          let r = push-calls c (d .next) (t .rest) in
+          fits (fit r && not (d .full)) d r rec
+        where
+          fits :
+              (b : Bool) (d : Stepped) (r : Calls) → ((r : Calls) (t : State) → Q (run-chain c left r t .stop)) →
+              Q ((elim b as (λ _. Chained) [ true ↦ run-chain c left r (d .state) | false ↦ chained (d .state) left list-full r ]) .stop)
+          fits true d r rec = rec r (d .state)
+          fits false d r rec = f
+
+  module _ (c : Circuit) (limit : ℕ) where
+    abbrev S : Setup
+    S = plain (machine c limit)
+
+    body-stop : (w : World) (a : Act) → Q (body c limit w a .stop)
+    unfolding body run-unit
+    body-stop w a = subst Q (sym (finish-stop c w (run-unit c w a))) (chain-stop c (w .left) _ _)
+
+    raise-stop :
+        {P T : Type 0} (activate : P → Activation S → T → Filed T) (rs : List (Raise World Act P)) (t : Unit {0}) (q : T) (w : World) (s : ℕ) → Q s →
+        Q (raise-all S activate rs t q w s .stop)
+    unfolding raise-all
+    raise-stop activate [] t q w s k = k
+    raise-stop {P} {T} activate (r ∷ rs) t q w s k = go (λ q₁. raise-stop activate rs t q₁ w s k) (activate (r .place) (record { act = r .act; tag = t }) q)
+      where
+        go :
+            ((q₁ : T) → Q (raise-all S activate rs t q₁ w s .stop)) → (x : Filed T) →
+            Q (raise-on S x (record { act = r .act; tag = t }) (record { raised = []; queue = q; next = t; world = r .at; stop = list-full }) (λ q′. raise-all S activate rs t q′ w s) .stop)
+        go rec full = f
+        go rec (filed q₁) = rec q₁
+
+    pass-stop :
+        {T : Type 0} (next : T → Took (Activation S) T) (activate : Activation S → Activation S → T → Filed T) (n : ℕ) (t : Unit {0}) (q : T) (w : World) (s : ℕ) → Q s →
+        Q (pass S next activate n t q w s .stop)
+    unfolding pass
+    pass-stop {T} next activate zero t q w zero k = go (next q)
+      where
+        go : (x : Took (Activation S) T) → Q (pass-on S x (no-turn S zero t q w 0) (λ u q′. no-turn S zero t q w list-full) .stop)
+        go empty = z
+        go (took u q₁) = f
+    pass-stop next activate zero t q w (suc s) k = k
+    pass-stop {T} next activate (suc n) t q w zero k = go (λ t₁ q₁ w₁ s₁ k₁. pass-stop next activate n t₁ q₁ w₁ s₁ k₁) (next q)
+      where
+        go :
+            ((t₁ : Unit {0}) (q₁ : T) (w₁ : World) (s₁ : ℕ) → Q s₁ → Q (pass S next activate n t₁ q₁ w₁ s₁ .stop)) →
+            (x : Took (Activation S) T) →
+            Q (pass-on S x (no-turn S (suc n) t q w 0) (λ u q′.
+            let d = body c limit w (u .act) in
+            let k = raise-all S (λ p. activate u) (d .raises) t q′ (d .world) (d .stop) in
+            turning S u w (k .raised) (eqb (d .stop) 0) (pass S next activate n (k .next) (k .queue) (k .world) (k .stop))) .stop)
+        go rec empty = z
+        go rec (took u q₁) = rec _ _ _ _ (raise-stop (λ (p : Unit {0}). activate u) _ _ _ _ _ (body-stop w (u .act)))
+    pass-stop next activate (suc n) t q w (suc s) k = k
+
+    closed-stop : (b : Bool) (s : ℕ) → Q s → Q (cond b s log-full)
+    closed-stop true s k = k
+    closed-stop false s k = l
+
+    tick-stop : (w : World) (i : Given) (came : List (Activation S)) (t : Unit {0}) → Q (tick S w i came t .stop)
+    unfolding tick late-pass main-pass opening
+    tick-stop w i came t =
+        let d = opening c limit w i in
+        let o = raise-all S (activate-open S) (d .raises) t (record { lateq = record { late = push-all S came []; delivered = [] }; pending = [] }) (d .world) (d .stop) in
+        let l = late-pass S most-units (o .next) (o .queue .lateq) (o .world) (o .stop) in
+        let m = main-pass S (l .left) (l .next) (record { pending = o .queue .pending; carried = [] }) (l .world) (l .stop) in
+        closed-stop (closing c limit (m .world) (outcome S (l .turns) (m .turns) (m .queue .carried) (m .stop)) .fits) (m .stop)
+        (pass-stop (next-main S) (activate-main S) (l .left) (l .next) (record { pending = o .queue .pending; carried = [] }) (l .world) (l .stop)
+        (pass-stop (next-late S) (activate-late S) most-units (o .next) (o .queue .lateq) (o .world) (o .stop)
+        (raise-stop (activate-open S) (d .raises) t (record { lateq = record { late = push-all S came []; delivered = [] }; pending = [] }) (d .world) (d .stop) z)))
+
+    last-of : (ts : List (Tick S)) → All (λ t. Q (t .stop)) ts → Q (last-stop c limit ts)
+    unfolding last-stop
+    last-of [] a = z
+    last-of (t ∷ ts) (_∷·_ h a) = if-both Q (eqb (t .stop) 0) (last-of ts a) h
+
+    run-stop : (room : ℕ) (given : List Given) → Q (seen c limit (ticks-of c limit room given) .stop)
+    unfolding seen ticks-of
+    run-stop room given = last-of _ (every S (λ t. Q (t .stop)) tick-stop given _)
+
+-- ---- a refusal
+
+circuit-number : (areas : Option Areas) (cb : List ℕ) → circuit-refusal areas cb ≤ 10
+unfolding circuit-refusal
+circuit-number areas cb =
+    let L : ℕ → Type 0 = λ n. n ≤ 10 in
+    if-both L _ (omega arith) (if-both L _ (omega arith) (if-both L _ (omega arith) (if-both L _ (omega arith) (if-both L _ (omega arith) (if-both L _ (omega arith) (if-both L _ (omega arith) (omega arith)))))))
+
+script-number : (c : Circuit) (sb : List ℕ) → script-refusal c sb ≤ 10
+unfolding script-refusal
+script-number c sb =
+    let L : ℕ → Type 0 = λ n. n ≤ 10 in
+    if-both L _ (omega arith) (if-both L _ (omega arith) (if-both L _ (omega arith) (omega arith)))
+
+or-number : (n m : ℕ) → n ≤ 10 → m ≤ 10 → or-else n m ≤ 10
+unfolding or-else
+or-number zero m h k = k
+or-number (suc n) m h k = h
+
+pub refusal-number : (areas : Option Areas) (cb sb : List ℕ) → refusal areas cb sb ≤ 10
+unfolding refusal
+refusal-number areas cb sb = or-number _ _ (circuit-number areas cb) (script-number _ sb)
+
+-- ---- both
+
+-- every answer has one of these numbers
+pub numbers : (areas : Areas) (room : ℕ) (cb sb : List ℕ) → Answers (answer areas room cb sb)
+unfolding answer answer-to play among
+numbers areas room cb sb = go (refusal (some areas) cb sb) (refusal-number (some areas) cb sb)
+  where
+    go : (n : ℕ) → n ≤ 10 → Answers (answer-to n room cb sb)
+    go zero h = is-played (run-stop (λ s. among s (0 ∷ 11 ∷ 12 ∷ 13 ∷ []) ≡ true) refl refl refl refl (circuit (words cb)) most-steps room (script (circuit (words cb) .constants) (words sb)))
+    go (suc n) h = let one : 1 ≤ suc n = omega arith in is-refused one h
