@@ -12,6 +12,8 @@ ghost use Rattle.model.specs.Circuit.{part, circuit as circuit-of};
 ghost use Rattle.model.specs.Questions.{question-1, question-3, within};
 use super::columns::all_within;
 use super::columns::within;
+use kinds::numbers::SELECT;
+use kinds::numbers::WORLD_EVENT;
 use words::get;
 
 // Whether the `count` kinds from word `first` on are each 1 to 28, and have as many inputs together as there are.
@@ -24,7 +26,7 @@ fn good_kinds(circuit: &[u8], first: usize, count: usize, inputs: u64) -> bool
     let mut i = 0;
     while i < count {
         let kind = get(circuit, first + i);
-        if within(1, 28, kind) {
+        if within(SELECT, WORLD_EVENT, kind) {
             total += kinds::inputs(kind);
             i += 1;
         } else {

@@ -12,14 +12,10 @@ ghost use Rattle.kinds.specs.Pins.{in-of};
 ghost use Rattle.links.specs.Links.{net};
 use kinds::Out;
 use kinds::Pin;
+use kinds::numbers::VAR;
+use links::layout::MINUS_ONE;
 use model::Value;
 use words::get;
-
-// The word -1, which stands for no source.
-const MINUS_ONE: u64 = 0xFFFF_FFFF_FFFF_FFFF;
-
-// The kind of a Var.
-const VAR: u64 = 5;
 
 // The last channel.
 const LAST_CHANNEL: u64 = 255;

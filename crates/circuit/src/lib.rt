@@ -9,6 +9,7 @@ ghost use Rattle.model.specs.Questions.{Areas, question-1, question-2, question
 ghost use Rattle.links.specs.Links.{cells, net};
 ghost use Rattle.circuit.specs.Refusals.{words-refusal, links-refusal, areas-refusal, links-after};
 use linking::link;
+use links::layout::CELLS;
 
 mod areas;
 mod calls;
@@ -19,9 +20,6 @@ mod inputs;
 mod rings;
 mod script;
 mod sizes;
-
-// The cells of the links.
-const CELLS: usize = 4816;
 
 // Questions 1 to 3, of a circuit's words.
 fn words_refusal(circuit: &[u8]) -> u64

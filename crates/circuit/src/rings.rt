@@ -10,6 +10,7 @@ ghost use Rattle.model.specs.Questions.{question-6};
 ghost use Rattle.links.specs.Links.{net};
 ghost use Rattle.circuit.specs.Gates.{gates-where, gate-bit, source-bit, awaited, waits};
 use links::Read;
+use links::layout::MOST_GATES;
 
 // The word of gate g alone; 0 for a number above 63, for which a word has no bit.
 fn gate_bit(g: usize) -> u64
@@ -103,7 +104,7 @@ pub fn ordered(links: &[usize]) -> bool
     ensures { λ r. ⌜ r ≡ question-6 (net (now (links .entry))) ⌝ }
 {
     let n = links::gates(links);
-    let mut words: [u64; 64] = [0; 64];
+    let mut words: [u64; MOST_GATES] = [0; MOST_GATES];
     fill(links, &mut words, n);
     let mut unplaced = pure_gates(links, n);
     let mut k = 0;

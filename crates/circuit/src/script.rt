@@ -10,6 +10,7 @@ ghost use Rattle.model.specs.Circuit.{part, circuit as circuit-of};
 ghost use Rattle.model.specs.Questions.{question-1, question-8, question-9, question-10, good-length, within};
 use super::columns::all_within;
 use super::columns::within;
+use kinds::numbers::WORLD_EVENT;
 use words::get;
 
 // ---- sizes
@@ -135,7 +136,7 @@ fn world_events(
 {
     let mut i = 0;
     while i < count {
-        if kind_of_gate(circuit, first, gates, get(script, at + i)) == 28 {
+        if kind_of_gate(circuit, first, gates, get(script, at + i)) == WORLD_EVENT {
             i += 1;
         } else {
             return false;

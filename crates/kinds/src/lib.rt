@@ -4,6 +4,9 @@ ghost use lib.ListN.{length, getD};
 ghost use Rattle.model.specs.Kinds.{kind-at, pure, value, fires};
 ghost use Rattle.model.specs.Questions.{within};
 ghost use Rattle.kinds.specs.Pins.{in-of, out-of};
+use crate::numbers::*;
+
+pub mod numbers;
 
 // What an input is. The last five are settings, named for what their constants have to be.
 pub enum Pin {
@@ -82,14 +85,14 @@ pub fn out_at(kind: u64, p: usize) -> Out
 pub fn is_pure(kind: u64) -> bool
     ensures { λ r. ⌜ r ≡ pure kind ⌝ }
 {
-    1 <= kind && kind <= 4
+    SELECT <= kind && kind <= SERVER_UPTIME
 }
 
 // Whether a gate of this kind is a Queue, in ticks or in seconds.
 pub fn is_queue(kind: u64) -> bool
     ensures { λ r. ⌜ r ≡ within 16 17 kind ⌝ }
 {
-    16 <= kind && kind <= 17
+    QUEUE_IN_TICKS <= kind && kind <= QUEUE_IN_SECONDS
 }
 
 // What input 0 is.

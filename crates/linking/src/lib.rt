@@ -13,79 +13,12 @@ ghost use mathlib.Core.Bool.{true};
 ghost use Rattle.model.specs.Circuit.{is-watched, source-of, circuit as circuit-of};
 ghost use Rattle.model.specs.Questions.{question-1, question-2, question-3};
 use kinds::Pin;
+use kinds::numbers::*;
 use kinds::pin_at;
-
-// The cells that hold counts, and those that hold words of gates.
-const GATE_COUNT: usize = 0;
-
-const CONSTANT_COUNT: usize = 1;
-
-const INPUT_COUNT: usize = 2;
-
-const OUTPUT_COUNT: usize = 3;
-
-const TIME_SOURCES: usize = 4;
-
-const BUFFERS: usize = 5;
-
-const CLOCKS: usize = 6;
-
-const STOPWATCHES: usize = 7;
-
-const RECEIVERS: usize = 8;
-
-// Where the tables begin.
-const GATES: usize = 16;
-
-const SOURCES: usize = 80;
-
-const STORED_KINDS: usize = 720;
-
-const STORED_CONTENTS: usize = 1360;
-
-const INPUTS: usize = 2000;
-
-const OUTPUTS: usize = 2640;
-
-const ROWS: usize = 3216;
-
-const READERS: usize = 3792;
-
-const CALLS: usize = 4432;
-
-const CONSTANT_KINDS: usize = 4688;
-
-const CONSTANT_CONTENTS: usize = 4752;
-
-// The cells in all.
-const CELLS: usize = 4816;
+use links::layout::*;
 
 // Where the constants of a circuit begin, in words: their kinds, and then their contents.
 const CONSTANTS: usize = 4;
-
-// The word of an input that has no source.
-const NO_SOURCE: u64 = 0xFFFF_FFFF_FFFF_FFFF;
-
-// Kinds of gates that have a word of their own in the links; buffers are the kinds from the first to the last.
-const DELTA_TIME: usize = 3;
-
-const SERVER_UPTIME: usize = 4;
-
-const FIRST_BUFFER: usize = 10;
-
-const LAST_BUFFER: usize = 13;
-
-const CLOCK: usize = 14;
-
-const STOPWATCH: usize = 15;
-
-const QUEUE_IN_TICKS: usize = 16;
-
-const QUEUE_IN_SECONDS: usize = 17;
-
-const EVENT: usize = 26;
-
-const GLOBAL_EVENT: usize = 27;
 
 // ---- cells and words
 
@@ -198,7 +131,7 @@ fn pack(a: usize, b: usize, c: usize, d: usize) -> usize
 // ---- gates
 
 // Bit g, if the kind is one of low to high.
-fn gate_bit(low: usize, high: usize, kind: usize, g: usize) -> usize
+fn gate_bit(low: u64, high: u64, kind: u64, g: usize) -> usize
     requires { ⌜ g < 64 ⌝ }
     ensures { λ r. ⌜ r ≡ gate-bit low high kind g ⌝ }
 {
@@ -212,7 +145,7 @@ fn gate_bit(low: usize, high: usize, kind: usize, g: usize) -> usize
 }
 
 // A word of n gates, whose kinds are the words from word `kinds` on: bit g is set where the kind of gate g is one of low to high.
-fn gates_within(circuit: &[u8], kinds: usize, n: usize, low: usize, high: usize) -> usize
+fn gates_within(circuit: &[u8], kinds: usize, n: usize, low: u64, high: u64) -> usize
     requires { ⌜ kinds ≤ 65536 ⌝ }
     requires { ⌜ n ≤ 64 ⌝ }
     ensures { λ r. ⌜ r ≡ bits-of (words (now (circuit .entry))) kinds n low high ⌝ }
@@ -220,7 +153,7 @@ fn gates_within(circuit: &[u8], kinds: usize, n: usize, low: usize, high: usize)
     let mut gates: usize = 0;
     let mut g: usize = 0;
     while g < n {
-        let kind = word(circuit, kinds + g);
+        let kind = words::read(circuit, kinds + g);
         gates += gate_bit(low, high, kind, g);
         g += 1;
     }
@@ -232,8 +165,8 @@ fn put_gates(
     circuit: &[u8],
     kinds: usize,
     n: usize,
-    low: usize,
-    high: usize,
+    low: u64,
+    high: u64,
     cells: &mut [usize],
     i: usize,
 )
@@ -251,7 +184,7 @@ fn put_buffers(circuit: &[u8], kinds: usize, n: usize, cells: &mut [usize], i: u
     requires { ⌜ n ≤ 64 ⌝ }
     ensures { λ _. ⌜ now (cells .exit) ≡ set (now (cells .entry)) i (bits-of (words (now (circuit .entry))) kinds n 10 13 + bits-of (words (now (circuit .entry))) kinds n 16 17) ⌝ }
 {
-    let buffers = gates_within(circuit, kinds, n, FIRST_BUFFER, LAST_BUFFER);
+    let buffers = gates_within(circuit, kinds, n, BUFFER_TICKS, BUFFER_SECONDS_EXEC);
     let queues = gates_within(circuit, kinds, n, QUEUE_IN_TICKS, QUEUE_IN_SECONDS);
     put(cells, i, buffers + queues);
 }
@@ -274,7 +207,15 @@ fn write_words(circuit: &[u8], kinds: usize, n: usize, cells: &mut [usize])
     put_buffers(circuit, kinds, n, cells, BUFFERS);
     put_gates(circuit, kinds, n, CLOCK, CLOCK, cells, CLOCKS);
     put_gates(circuit, kinds, n, STOPWATCH, STOPWATCH, cells, STOPWATCHES);
-    put_gates(circuit, kinds, n, EVENT, GLOBAL_EVENT, cells, RECEIVERS);
+    put_gates(
+        circuit,
+        kinds,
+        n,
+        EVENT_CUSTOM,
+        EVENT_CUSTOM_GLOBAL,
+        cells,
+        RECEIVERS,
+    );
 }
 
 // The counts.
@@ -365,7 +306,7 @@ fn watched(kind: u64, source: u64, p: usize) -> bool
     ensures { λ r. ⌜ r ≡ is-watched (getD (kind-at kind .ins) p value) (source-of source) ⌝ }
 {
     match pin_at(kind, p) {
-        Pin::Exec => source != NO_SOURCE,
+        Pin::Exec => source != MINUS_ONE,
         Pin::Watched => true,
         _ => false,
     }
@@ -433,10 +374,10 @@ fn write_inputs(
 // ---- readers and calls, as chains
 
 // No chain has more members.
-const LONGEST: usize = 640;
+const LONGEST: usize = MOST_INPUTS;
 
-// What ends a chain: there are 640 places for what comes next, and this is none of them.
-const END: usize = 640;
+// What ends a chain: no input and no call has this number.
+const END: usize = MOST_INPUTS;
 
 // Number i comes first in chain `key`, if there is one.
 fn chain_one(heads: &mut [usize], next: &mut [usize], i: usize, key: usize)
@@ -591,10 +532,10 @@ fn link_lists(
     requires { ⌜ outputs ≤ 576 ⌝ }
     ensures { λ _. ⌜ now (cells .exit) ≡ lists-written (words (now (circuit .entry))) sources inputs calls count outputs (now (cells .entry)) ⌝ }
 {
-    let mut reader_heads = [END; 576];
-    let mut reader_next = [END; 640];
-    let mut call_heads = [END; 576];
-    let mut call_next = [END; 640];
+    let mut reader_heads = [END; MOST_OUTPUTS];
+    let mut reader_next = [END; MOST_INPUTS];
+    let mut call_heads = [END; MOST_OUTPUTS];
+    let mut call_next = [END; MOST_INPUTS];
     chain_all(
         circuit,
         sources,

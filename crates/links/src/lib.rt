@@ -7,62 +7,11 @@ ghost use Rattle.model.specs.declared.Value.the-variants.{Nothing};
 ghost use Rattle.model.specs.Kinds.{value, fires};
 ghost use Rattle.kinds.specs.Pins.{in-of, out-of};
 ghost use Rattle.links.specs.Links.{gates-at, inputs-at, rows-at, entries, call-of, cell, net, first-reader, reader-count, reader-at, first-call, call-count, target, output-read, gates-of-word};
+use crate::layout::*;
 use model::Value;
 use values::value_of;
 
-// The cells in all.
-const CELLS: usize = 4816;
-
-// The cells that hold counts, and those that hold words of gates.
-const GATE_COUNT: usize = 0;
-
-const CONSTANT_COUNT: usize = 1;
-
-const INPUT_COUNT: usize = 2;
-
-const OUTPUT_COUNT: usize = 3;
-
-const TIME_SOURCES: usize = 4;
-
-const BUFFERS: usize = 5;
-
-const CLOCKS: usize = 6;
-
-const STOPWATCHES: usize = 7;
-
-const RECEIVERS: usize = 8;
-
-// Where the tables begin.
-const GATES: usize = 16;
-
-const SOURCES: usize = 80;
-
-const STORED_KINDS: usize = 720;
-
-const STORED_CONTENTS: usize = 1360;
-
-const INPUTS: usize = 2000;
-
-const OUTPUTS: usize = 2640;
-
-const ROWS: usize = 3216;
-
-const READERS: usize = 3792;
-
-const CALLS: usize = 4432;
-
-const CONSTANT_KINDS: usize = 4688;
-
-const CONSTANT_CONTENTS: usize = 4752;
-
-// How many a table holds at most.
-const MOST_GATES: usize = 64;
-
-const MOST_CONSTANTS: usize = 64;
-
-const MOST_INPUTS: usize = 640;
-
-const MOST_OUTPUTS: usize = 576;
+pub mod layout;
 
 // A digit of a cell is below this.
 const DIGIT: usize = 0x1_0000;
@@ -73,9 +22,6 @@ const SECOND: usize = 0x1_0000;
 const THIRD: usize = 0x1_0000_0000;
 
 const FOURTH: usize = 0x1_0000_0000_0000;
-
-// The word -1, which stands for no source.
-const MINUS_ONE: usize = 0xFFFF_FFFF_FFFF_FFFF;
 
 // What an input reads.
 pub enum Read {
@@ -278,8 +224,8 @@ pub fn source(links: &[usize], i: usize) -> Read
     requires { ⌜ length (now links) ≡ 4816 ⌝ }
     ensures { λ r. ⌜ output-read r ≡ source (net (now (links .entry))) i ⌝ }
 {
-    let o = entry(links, INPUT_COUNT, MOST_INPUTS, SOURCES, i, MINUS_ONE);
-    if o == MINUS_ONE {
+    let o = entry(links, INPUT_COUNT, MOST_INPUTS, SOURCES, i, NO_SOURCE);
+    if o == NO_SOURCE {
         return Read::Nothing;
     }
     Read::Output(o)

@@ -20,12 +20,11 @@ ghost use Rattle.run.specs.Running.{givens, Good-script, Logged};
 ghost use Rattle.run.specs.Told.{lent, answered, told};
 use crate::clearing::clear;
 use circuit::refusal_and_links;
+use links::layout::CELLS;
 use ticks::tick;
 use words::get;
 
 pub mod clearing;
-
-const CELLS: usize = 4816;
 
 const MOST_STEPS: u64 = 50000000;
 

@@ -20,17 +20,17 @@ abbrev μ-loop : tie.MeasureT-loop
 loop-holds : tie.Need-loop-holds Inv-loop μ-loop
 loop-holds c = (search needs, below-first _ 0 refl)
 
-add-word : tie.Need-add-word Inv-loop μ-loop
-add-word c = search needs
+add-read : tie.Need-add-read Inv-loop μ-loop
+add-read c = search needs
 
-word-requires : tie.Need-word-requires Inv-loop μ-loop
-word-requires c κs = search needs
+read-requires : tie.Need-read-requires Inv-loop μ-loop
+read-requires c κs = search needs
 
 gate-bit-requires : tie.Need-gate-bit-requires Inv-loop μ-loop
 gate-bit-requires c κs = search needs
 
 add-gates : tie.Need-add-gates Inv-loop μ-loop
-add-gates c = let q = bits-fit _ _ (λ h. getD (words (c .before .before .before .before .before .args .circuit .now)) (c .before .before .before .before .before .args .kinds + h) 0) _ _ _ _ (search needs) (c .before .before .before .loop .inv .1) (c .before .word .ensures) (c .gate-bit .ensures) in record { fits = q }
+add-gates c = let q = bits-fit _ _ (λ h. getD (words (c .before .before .before .before .before .args .circuit .now)) (c .before .before .before .before .before .args .kinds + h) 0) _ _ _ _ (search needs) (c .before .before .before .loop .inv .1) (c .before .read .ensures) (c .gate-bit .ensures) in record { fits = q }
 
 add-g : tie.Need-add-g Inv-loop μ-loop
 add-g c = search needs
@@ -39,7 +39,7 @@ loop-less : tie.Need-loop-less Inv-loop μ-loop
 loop-less c = search needs
 
 loop-again : tie.Need-loop-again Inv-loop μ-loop
-loop-again c = (search needs, bits-next _ _ (λ h. getD (words (c .before .before .before .before .before .args .circuit .now)) (c .before .before .before .before .before .args .kinds + h) 0) _ _ _ _ (c .before .before .before .loop .inv .1) (c .before .word .ensures) (c .gate-bit .ensures))
+loop-again c = (search needs, bits-next _ _ (λ h. getD (words (c .before .before .before .before .before .args .circuit .now)) (c .before .before .before .before .before .args .kinds + h) 0) _ _ _ _ (c .before .before .before .loop .inv .1) (c .before .read .ensures) (c .gate-bit .ensures))
 
 returns : tie.Need-returns Inv-loop μ-loop
 unfolding bits-of
@@ -52,8 +52,8 @@ gates-within-spec =
     Inv-loop
     μ-loop
     loop-holds
-    add-word
-    word-requires
+    add-read
+    read-requires
     gate-bit-requires
     add-gates
     add-g
