@@ -23,51 +23,51 @@ counts-at = 0
 
 -- 64 gates: kind, rank, first input, first output
 abbrev pub gates-at : ℕ
-gates-at = 16
+gates-at = counts-at + 16
 
 -- 640 inputs: the source
 abbrev pub sources-at : ℕ
-sources-at = 80
+sources-at = gates-at + 64
 
 -- the kind of the stored value
 abbrev pub stored-kinds-at : ℕ
-stored-kinds-at = 720
+stored-kinds-at = sources-at + 640
 
 -- its content
 abbrev pub stored-contents-at : ℕ
-stored-contents-at = 1360
+stored-contents-at = stored-kinds-at + 640
 
 -- the gate, and whether it is watched
 abbrev pub inputs-at : ℕ
-inputs-at = 2000
+inputs-at = stored-contents-at + 640
 
 -- 576 outputs: the gate
 abbrev pub outputs-at : ℕ
-outputs-at = 2640
+outputs-at = inputs-at + 640
 
 -- where its readers begin and how many they are, and the same of its calls
 abbrev pub rows-at : ℕ
-rows-at = 3216
+rows-at = outputs-at + 576
 
 -- 640 readers: inputs
 abbrev pub readers-at : ℕ
-readers-at = 3792
+readers-at = rows-at + 576
 
 -- 256 calls: targets
 abbrev pub calls-at : ℕ
-calls-at = 4432
+calls-at = readers-at + 640
 
 -- 64 constants, of which the first is named 1: the kind
 abbrev pub constant-kinds-at : ℕ
-constant-kinds-at = 4688
+constant-kinds-at = calls-at + 256
 
 -- the content
 abbrev pub constant-contents-at : ℕ
-constant-contents-at = 4752
+constant-contents-at = constant-kinds-at + 64
 
 -- the cells in all
 abbrev pub total : ℕ
-total = 4816
+total = constant-contents-at + 64
 
 -- four numbers below 65,536 in one cell, the first one lowest
 unfoldable pub packed : ℕ → ℕ → ℕ → ℕ → ℕ
