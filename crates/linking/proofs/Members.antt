@@ -15,7 +15,7 @@ use Rattle.links.specs.Links.{rows-at, readers-at, calls-at, listed, packed}
 use Rattle.links.proofs.Tables.{shares}
 use Rattle.linking.specs.Building.{written, below, Chains, chains, chained, all-chained, chain, chain-at, size-at, target, row-of, members, lists-written}
 use Rattle.linking.proofs.Loops.{below-same}
-use Rattle.linking.proofs.Lists.{listed-same, map-same, joined-length}
+use Rattle.linking.proofs.Elements.{listed-same, map-same, joined-length}
 
 -- ---- a chain as a relation: from p on it has the members l, which ascend from `low` on
 

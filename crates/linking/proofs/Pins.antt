@@ -17,8 +17,8 @@ use Rattle.model.proofs.Lists.{both-length, from-length}
 use Rattle.links.specs.Links.{packed, call-cell, gate-cells, listed}
 use Rattle.links.proofs.Reading.{listed-in}
 use Rattle.linking.specs.Building.{below, members, row-of, ins-at, input-cell, input-cells}
-use Rattle.linking.proofs.Lists.{map-same, open-listed, listed-same, map-listed, starts-listed, map-joined, keep-map, keep-from}
-use Rattle.linking.proofs.Cells.{packed-listed}
+use Rattle.linking.proofs.Elements.{map-same, open-listed, listed-same, map-listed, starts-listed, map-joined, keep-map, keep-from}
+use Rattle.linking.proofs.Written.{packed-listed}
 
 -- ---- parallel lists, part after part
 

@@ -10,7 +10,7 @@ use Rattle.model.specs.Base.{joined, both, sum}
 use Rattle.links.specs.Links.{table-of}
 use Rattle.links.proofs.Tables.{base, Room, [·], _∷·_, table-length}
 use Rattle.linking.specs.Building.{written}
-use Rattle.linking.proofs.Lists.{listed-replicate}
+use Rattle.linking.proofs.Elements.{listed-replicate}
 
 -- tables of these sizes, one behind the other
 unfoldable pub tables : List ℕ → List (List ℕ) → List ℕ

@@ -23,11 +23,11 @@ use Rattle.links.proofs.Reading.{listed-length, listed-in}
 use Rattle.links.proofs.Tables.{table-sizes}
 use Rattle.linking.specs.Building.{written, below, named-word, Small, row-of, members, lists-written, ins-at, outs-at, gate-cell, input-cells, output-cells, word-cells, gates-written, inputs-written, constants-written, all-written}
 use Rattle.linking.proofs.Loops.{below-same}
-use Rattle.linking.proofs.Lists.{map-listed, both-listed, part-listed, joined-length}
+use Rattle.linking.proofs.Elements.{map-listed, both-listed, part-listed, joined-length}
 use Rattle.linking.proofs.Members.{members-most}
 use Rattle.linking.proofs.Tables.{tables, cleared, table-put}
-use Rattle.linking.proofs.Gates.{ins-below, outs-below, inputs-size, outputs-size}
-use Rattle.linking.proofs.Cells.{gate-table, output-table, word-within, word-within-two, one-kind, two-kinds, source-table, constant-back, constant-table, stored-table}
+use Rattle.linking.proofs.GateByGate.{ins-below, outs-below, inputs-size, outputs-size}
+use Rattle.linking.proofs.Written.{gate-table, output-table, word-within, word-within-two, one-kind, two-kinds, source-table, constant-back, constant-table, stored-table}
 use Rattle.linking.proofs.Pins.{input-table, reader-lists, call-at, call-lists, call-table, row-table}
 
 -- ---- the tests of kinds, as ranges

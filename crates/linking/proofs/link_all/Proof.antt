@@ -3,7 +3,7 @@ use native.Mathlib.Omega.{arith}
 use borrow.Author.Needs.{needs}
 use Rattle.words.specs.Words.{words}
 use Rattle.linking.proofs.Leaves.{all-are}
-use Rattle.linking.proofs.Gates.{outs-below}
+use Rattle.linking.proofs.GateByGate.{outs-below}
 use Rattle.linking.proofs.link_all.Statement.{statement}
 use Rattle.linking.proofs.link_all.Tie as tie
 

@@ -1,0 +1,62 @@
+// Words of a circuit and cells of the links: reading one, writing one, writing several in a row.
+ghost use mathlib.Core.Path.{_≡_};
+ghost use Prim.Native.Nat.{_+_, _<_, _≤_};
+ghost use lib.ListN.{getD, set};
+ghost use Rattle.words.specs.Words.{words};
+ghost use Rattle.links.specs.Links.{packed};
+ghost use Rattle.linking.specs.Building.{written};
+
+// Word i of the circuit, and 0 past the end.
+pub fn word(circuit: &[u8], i: usize) -> usize
+    ensures { λ r. ⌜ r ≡ getD (words (now (circuit .entry))) i 0 ⌝ }
+{
+    words::read(circuit, i) as usize
+}
+
+// Cell i becomes v. Where there is no cell i, nothing changes.
+pub fn put(cells: &mut [usize], i: usize, v: usize)
+    ensures { λ _. ⌜ now (cells .exit) ≡ set (now (cells .entry)) i v ⌝ }
+{
+    if i < cells.len() {
+        cells[i] = v;
+    }
+}
+
+// n cells, from cell `base` on, become v.
+pub fn fill(cells: &mut [usize], base: usize, n: usize, v: usize)
+    requires { ⌜ base ≤ 65536 ⌝ }
+    requires { ⌜ n ≤ 65536 ⌝ }
+    ensures { λ _. ⌜ now (cells .exit) ≡ written (now (cells .entry)) base n (λ k. v) ⌝ }
+{
+    let mut k: usize = 0;
+    while k < n {
+        put(cells, base + k, v);
+        k += 1;
+    }
+}
+
+// n cells, from cell `base` on, become the words of the circuit from word `first` on.
+pub fn copy(circuit: &[u8], first: usize, n: usize, cells: &mut [usize], base: usize)
+    requires { ⌜ first ≤ 65536 ⌝ }
+    requires { ⌜ n ≤ 65536 ⌝ }
+    requires { ⌜ base ≤ 65536 ⌝ }
+    ensures { λ _. ⌜ now (cells .exit) ≡ written (now (cells .entry)) base n (λ k. getD (words (now (circuit .entry))) (first + k) 0) ⌝ }
+{
+    let mut k: usize = 0;
+    while k < n {
+        let v = word(circuit, first + k);
+        put(cells, base + k, v);
+        k += 1;
+    }
+}
+
+// Four numbers below 65,536 in one cell, the first one lowest.
+pub fn pack(a: usize, b: usize, c: usize, d: usize) -> usize
+    requires { ⌜ a < 65536 ⌝ }
+    requires { ⌜ b < 65536 ⌝ }
+    requires { ⌜ c < 65536 ⌝ }
+    requires { ⌜ d < 65536 ⌝ }
+    ensures { λ r. ⌜ r ≡ packed a b c d ⌝ }
+{
+    a + 65536 * (b + 65536 * (c + 65536 * d))
+}

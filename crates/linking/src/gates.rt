@@ -1,0 +1,117 @@
+// What is written of the gates, and of their outputs the gate.
+ghost use mathlib.Core.Path.{_≡_};
+ghost use mathlib.Core.List.{[], _∷_};
+ghost use Prim.Native.Nat.{_*_, _≤_};
+ghost use lib.Seq.{sets};
+ghost use Rattle.words.specs.Words.{words};
+ghost use Rattle.model.specs.Base.{joined};
+ghost use Rattle.links.specs.Links.{listed};
+ghost use Rattle.linking.specs.Building.{written, below, Small, ins-at, outs-at, gate-cell, output-cells, gates-written};
+use crate::cells::fill;
+use crate::cells::pack;
+use crate::cells::put;
+use crate::cells::word;
+use crate::gate_words::write_words;
+use links::layout::*;
+
+// The tables of counts, gates and outputs.
+pub fn link_gates(
+    circuit: &[u8],
+    kinds: usize,
+    gates: usize,
+    constants: usize,
+    inputs: usize,
+    outputs: usize,
+    cells: &mut [usize],
+)
+    requires { ⌜ kinds ≤ 65536 ⌝ }
+    requires { ⌜ gates ≤ 64 ⌝ }
+    requires { ⌜ Small (words (now circuit)) kinds (2 * gates) ⌝ }
+    ensures { λ _. ⌜ now (cells .exit) ≡ gates-written (words (now (circuit .entry))) kinds gates constants inputs outputs (now (cells .entry)) ⌝ }
+{
+    write_counts(gates, constants, inputs, outputs, cells);
+    write_words(circuit, kinds, gates, cells);
+    write_gates(circuit, kinds, gates, cells, GATES);
+    write_outputs(circuit, kinds, gates, cells, OUTPUTS);
+}
+
+// The counts.
+fn write_counts(gates: usize, constants: usize, inputs: usize, outputs: usize, cells: &mut [usize])
+    ensures { λ _. ⌜ now (cells .exit) ≡ sets (now (cells .entry)) 0 (gates ∷ constants ∷ inputs ∷ outputs ∷ []) ⌝ }
+{
+    put(cells, GATE_COUNT, gates);
+    put(cells, CONSTANT_COUNT, constants);
+    put(cells, INPUT_COUNT, inputs);
+    put(cells, OUTPUT_COUNT, outputs);
+}
+
+// n cells, from cell `base` on, become those of n gates: kind, rank, first input, first output. The ranks stand behind the kinds.
+fn write_gates(circuit: &[u8], kinds: usize, n: usize, cells: &mut [usize], base: usize)
+    requires { ⌜ kinds ≤ 65536 ⌝ }
+    requires { ⌜ n ≤ 64 ⌝ }
+    requires { ⌜ base ≤ 65536 ⌝ }
+    requires { ⌜ Small (words (now circuit)) kinds (2 * n) ⌝ }
+    ensures { λ _. ⌜ now (cells .exit) ≡ written (now (cells .entry)) base n (gate-cell (words (now (circuit .entry))) kinds n) ⌝ }
+{
+    let mut inputs: usize = 0;
+    let mut outputs: usize = 0;
+    let mut g: usize = 0;
+    while g < n {
+        let kind = word(circuit, kinds + g);
+        let rank = word(circuit, kinds + n + g);
+        put(cells, base + g, pack(kind, rank, inputs, outputs));
+        inputs += inputs_of(circuit, kinds, g);
+        outputs += outputs_of(circuit, kinds, g);
+        g += 1;
+    }
+}
+
+// The cells from cell `base` on become those of the outputs of n gates: each output's gate.
+fn write_outputs(circuit: &[u8], kinds: usize, n: usize, cells: &mut [usize], base: usize)
+    requires { ⌜ kinds ≤ 65536 ⌝ }
+    requires { ⌜ n ≤ 64 ⌝ }
+    requires { ⌜ base ≤ 32768 ⌝ }
+    ensures { λ _. ⌜ now (cells .exit) ≡ sets (now (cells .entry)) base (joined (listed n (output-cells (words (now (circuit .entry))) kinds))) ⌝ }
+{
+    let mut done: usize = 0;
+    let mut g: usize = 0;
+    while g < n {
+        let outputs = outputs_of(circuit, kinds, g);
+        fill(cells, base + done, outputs, g);
+        done += outputs;
+        g += 1;
+    }
+}
+
+// How many outputs n gates have.
+pub fn count_outputs(circuit: &[u8], kinds: usize, n: usize) -> usize
+    requires { ⌜ kinds ≤ 65536 ⌝ }
+    requires { ⌜ n ≤ 64 ⌝ }
+    ensures { λ r. ⌜ r ≡ below (outs-at (words (now (circuit .entry))) kinds) n ⌝ }
+{
+    let mut outputs: usize = 0;
+    let mut g: usize = 0;
+    while g < n {
+        outputs += outputs_of(circuit, kinds, g);
+        g += 1;
+    }
+    outputs
+}
+
+// How many inputs gate g has; the kinds of the gates are the words from word `kinds` on.
+pub fn inputs_of(circuit: &[u8], kinds: usize, g: usize) -> usize
+    requires { ⌜ kinds ≤ 65536 ⌝ }
+    requires { ⌜ g ≤ 65536 ⌝ }
+    ensures { λ r. ⌜ r ≡ ins-at (words (now (circuit .entry))) kinds g ⌝ }
+{
+    kinds::inputs(words::read(circuit, kinds + g))
+}
+
+// How many outputs gate g has, likewise.
+fn outputs_of(circuit: &[u8], kinds: usize, g: usize) -> usize
+    requires { ⌜ kinds ≤ 65536 ⌝ }
+    requires { ⌜ g ≤ 65536 ⌝ }
+    ensures { λ r. ⌜ r ≡ outs-at (words (now (circuit .entry))) kinds g ⌝ }
+{
+    kinds::outputs(words::read(circuit, kinds + g))
+}
