@@ -1,6 +1,6 @@
 // The links of a circuit, read. Each function looks one thing up in the array that specs/Links.antt lays out; what the array holds makes no difference.
 ghost use mathlib.Core.Path.{_≡_};
-ghost use Prim.Native.Nat.{_+_, _<_, _≤_, _-_, min};
+ghost use Prim.Native.Nat.{_+_, _<_, _≤_, min};
 ghost use lib.ListN.{length, getD, drop};
 ghost use Rattle.model.specs.Circuit.{kind-of-gate, rank-of-gate, input, output, gate-at-input, gate-at-output, watching, source, stored-in, setting};
 ghost use Rattle.model.specs.declared.Value.the-variants.{Nothing};
@@ -10,6 +10,7 @@ ghost use Rattle.links.specs.Links.{gates-at, inputs-at, rows-at, entrie
 use crate::layout::*;
 use model::Value;
 use values::value_of;
+use words::counting::less;
 
 pub mod layout;
 
@@ -179,16 +180,6 @@ fn input_entry(links: &[usize], i: usize) -> usize
     entry(links, INPUT_COUNT, MOST_INPUTS, INPUTS, i, 0)
 }
 
-// How far i is past the first, and 0 where it is before.
-fn past(i: usize, first: usize) -> usize
-    ensures { λ r. ⌜ r ≡ i - first ⌝ }
-{
-    if i < first {
-        return 0;
-    }
-    i - first
-}
-
 // What input i is, and a value where there is none.
 pub fn pin_at(links: &[usize], i: usize) -> kinds::Pin
     requires { ⌜ length (now links) ≡ 4816 ⌝ }
@@ -199,7 +190,7 @@ pub fn pin_at(links: &[usize], i: usize) -> kinds::Pin
     }
     let g = input_entry(links, i) % DIGIT;
     let gate = cell(links, GATES, g);
-    let p = past(i, gate / THIRD % DIGIT);
+    let p = less(i, gate / THIRD % DIGIT);
     kinds::pin_at((gate % DIGIT) as u64, p)
 }
 
@@ -269,7 +260,7 @@ pub fn out_at(links: &[usize], o: usize) -> kinds::Out
     }
     let g = gate_at_output(links, o);
     let gate = cell(links, GATES, g);
-    let p = past(o, gate / FOURTH % DIGIT);
+    let p = less(o, gate / FOURTH % DIGIT);
     kinds::out_at((gate % DIGIT) as u64, p)
 }
 

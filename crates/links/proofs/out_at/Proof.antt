@@ -17,14 +17,14 @@ gate-at-output-requires c κs = search needs
 cell-requires : tie.Need-cell-requires
 cell-requires c κs = search needs
 
-past-requires : tie.Need-past-requires
-past-requires c κs = search needs
+less-requires : tie.Need-less-requires
+less-requires c κs = search needs
 
 out-at-requires : tie.Need-out-at-requires
 out-at-requires c κs = search needs
 
 returns-2 : tie.Need-returns-2
-returns-2 c = out-some _ _ _ _ _ _ _ (c .before .before .before .before .before .outputs .ensures) (c .before .before .before .before .if1 .left) (c .before .before .before .gate-at-output .ensures) (c .before .before .cell .ensures) (c .before .past .ensures) (c .out-at .ensures)
+returns-2 c = out-some _ _ _ _ _ _ _ (c .before .before .before .before .before .outputs .ensures) (c .before .before .before .before .if1 .left) (c .before .before .before .gate-at-output .ensures) (c .before .before .cell .ensures) (c .before .less .ensures) (c .out-at .ensures)
 
 pub out-at-spec : {M : Type 1} → statement M
 out-at-spec =
@@ -34,6 +34,6 @@ out-at-spec =
     returns
     gate-at-output-requires
     cell-requires
-    past-requires
+    less-requires
     out-at-requires
     returns-2)

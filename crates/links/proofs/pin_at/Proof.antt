@@ -17,14 +17,14 @@ input-entry-requires c κs = search needs
 cell-requires : tie.Need-cell-requires
 cell-requires c κs = search needs
 
-past-requires : tie.Need-past-requires
-past-requires c κs = search needs
+less-requires : tie.Need-less-requires
+less-requires c κs = search needs
 
 pin-at-requires : tie.Need-pin-at-requires
 pin-at-requires c κs = search needs
 
 returns-2 : tie.Need-returns-2
-returns-2 c = pin-some _ _ _ _ _ _ _ (c .before .before .before .before .before .inputs .ensures) (c .before .before .before .before .if1 .left) (c .before .before .before .input-entry .ensures) (c .before .before .cell .ensures) (c .before .past .ensures) (c .pin-at .ensures)
+returns-2 c = pin-some _ _ _ _ _ _ _ (c .before .before .before .before .before .inputs .ensures) (c .before .before .before .before .if1 .left) (c .before .before .before .input-entry .ensures) (c .before .before .cell .ensures) (c .before .less .ensures) (c .pin-at .ensures)
 
 pub pin-at-spec : {M : Type 1} → statement M
 pin-at-spec =
@@ -34,6 +34,6 @@ pin-at-spec =
     returns
     input-entry-requires
     cell-requires
-    past-requires
+    less-requires
     pin-at-requires
     returns-2)
