@@ -68,7 +68,9 @@ fn recorder(c: &mut Circuit, rank: i64, channel: i64, slot: &Slot, activity: Gat
     announce
 }
 
-/// Counts three wheels while `on`: the second turns when the first is at 0.
+/// Counts three wheels while `on` is true, and before it shows anything: a
+/// Clock whose bEnabled reads nothing is enabled. The second wheel turns when
+/// the first is at 0, the third when the second is.
 fn day(c: &mut Circuit, rank: i64, on: Gate, wheels: [i64; 3]) -> Gate {
     let clock = c.clock(rank, 1.0);
     c.feed(clock.pin("bEnabled"), on);
@@ -84,7 +86,8 @@ fn day(c: &mut Circuit, rank: i64, on: Gate, wheels: [i64; 3]) -> Gate {
     hours
 }
 
-/// A Stopwatch that runs while driving; at the limit it warns and begins anew.
+/// A Stopwatch that a rise of `driving` resumes and a fall pauses; at the
+/// limit it warns and begins anew.
 fn driving_time(c: &mut Circuit, rank: i64, driving: Gate, limit: impl Into<Feed>) -> Gate {
     let edge = c.edge_exec(rank, driving);
     let watch = c.stopwatch(rank, limit);
