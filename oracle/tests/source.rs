@@ -1,8 +1,11 @@
 //! What is left of the source is a part of it: line by line, body by body.
 //!
-//! Looks for `docs/src` under SOURCE_DIR, else beside the repository.
+//! SOURCE_DIR names the folder of the source, the one that has
+//! `crates/wirescript-sim` in it. Without it the two tests that read the source
+//! say that they did not compare, and pass.
 
 use std::collections::BTreeSet;
+use std::io::Write;
 use std::path::{Path, PathBuf};
 
 /// Our file, the source's file, and the bodies kept from it.
@@ -113,13 +116,10 @@ fn every_added_line_records_or_tests_a_limit_or_is_listed() {
 
 #[test]
 fn what_is_left_is_a_part_of_the_source() {
-    let Some(dir) = source_dir() else {
-        println!("docs/src is not here: what is left was not compared with it");
-        return;
-    };
+    let Some(dir) = source_dir() else { return not_run("the bodies") };
     let mut cut = String::new();
     for (ours, theirs, names) in KEPT {
-        let (ours, theirs) = (our_file(ours), std::fs::read_to_string(dir.join(theirs)).unwrap());
+        let (ours, theirs) = (our_file(ours), file(&dir.join(theirs)));
         let (ours, theirs) = (bodies(&ours), bodies(&theirs));
         for name in names {
             let (ours, theirs) = (only(&ours, name), only(&theirs, name));
@@ -142,12 +142,9 @@ fn what_is_left_is_a_part_of_the_source() {
 /// marked lines, is a part of the source's file.
 #[test]
 fn what_stands_between_the_bodies_is_a_part_of_the_source() {
-    let Some(dir) = source_dir() else {
-        println!("docs/src is not here: what is left was not compared with it");
-        return;
-    };
+    let Some(dir) = source_dir() else { return not_run("what stands between them") };
     for (ours, theirs, _) in KEPT {
-        let theirs = std::fs::read_to_string(dir.join(theirs)).unwrap();
+        let theirs = file(&dir.join(theirs));
         let mut left = theirs.lines().map(str::trim);
         for line in our_file(ours).lines().map(str::trim).filter(|l| !is_head(l) && !l.contains(MARK)) {
             assert!(left.any(|l| l == line), "{ours}: not in the source in this place: {line}");
@@ -220,14 +217,20 @@ fn crate_dir() -> PathBuf {
 }
 
 fn our_file(name: &str) -> String {
-    std::fs::read_to_string(crate_dir().join("src/source").join(name)).unwrap()
+    file(&crate_dir().join("src/source").join(name))
 }
 
+fn file(path: &Path) -> String {
+    std::fs::read_to_string(path).unwrap_or_else(|e| panic!("{}: {e}", path.display()))
+}
+
+/// The folder of the source's files, if SOURCE_DIR is given.
 fn source_dir() -> Option<PathBuf> {
-    let root = match std::env::var_os("SOURCE_DIR") {
-        Some(dir) => PathBuf::from(dir),
-        None => crate_dir().join("../../shared/docs/src"),
-    };
-    let dir = root.join("crates/wirescript-sim/src");
-    dir.is_dir().then_some(dir)
+    let root = std::env::var_os("SOURCE_DIR")?;
+    Some(Path::new(&root).join("crates/wirescript-sim/src"))
+}
+
+/// Says so on standard error itself, which the tests' runner does not hold back.
+fn not_run(what: &str) {
+    writeln!(std::io::stderr(), "not compared with the source, since SOURCE_DIR is not given: {what}").unwrap();
 }

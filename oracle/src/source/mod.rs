@@ -1,4 +1,4 @@
-//! The source (`docs/src`) with its outside operations cut off: strings,
+//! The source (wirescript-sim) with its outside operations cut off: strings,
 //! arrays, maps, prefabs, chat, displays, functions and loops, tweens,
 //! random, spawners, dampen and worlds. What is left of a body stands as in
 //! the source; every line added to it ends with an `oracle:` mark. This file
