@@ -18,8 +18,9 @@ pub mod questions;
 pub mod script;
 pub mod words;
 
-// The stated circuits (build, generate, circuits, vectors, pack, runs):
+// The stated circuits (build, case, generate, circuits, vectors, pack, runs):
 pub mod build;
+pub mod case;
 pub mod circuits;
 pub mod generate;
 pub mod pack;

@@ -4,7 +4,7 @@ use super::valid::draft;
 use super::{Family, Random};
 use crate::Lent;
 use crate::build::*;
-use crate::circuits::Case;
+use crate::case::Case;
 
 /// A damaged case and the questions whose answer is no in it.
 pub struct Damaged {

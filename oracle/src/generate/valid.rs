@@ -3,7 +3,7 @@
 use super::family::Profile;
 use super::{Family, Random};
 use crate::build::*;
-use crate::circuits::Case;
+use crate::case::Case;
 
 const INTS: &[i64] =
     &[0, 1, 2, 3, 5, -1, -7, 60, i64::MAX, i64::MIN, 1 << 53, (1 << 53) + 1, 1 << 24, (1 << 24) + 1];
