@@ -122,8 +122,15 @@ impl Mutant {
 struct Scratch(PathBuf);
 
 /// What goes from the copy: modules of lib.rs.
-const STATED: [&str; 5] =
-    ["pub mod build;", "pub mod circuits;", "pub mod generate;", "pub mod pack;", "pub mod vectors;"];
+const STATED: [&str; 7] = [
+    "pub mod build;",
+    "pub mod case;",
+    "pub mod circuits;",
+    "pub mod generate;",
+    "pub mod pack;",
+    "pub mod runs;",
+    "pub mod vectors;",
+];
 
 impl Scratch {
     fn new() -> Self {
