@@ -232,5 +232,6 @@ fn source_dir() -> Option<PathBuf> {
 
 /// Says so on standard error itself, which the tests' runner does not hold back.
 fn not_run(what: &str) {
-    writeln!(std::io::stderr(), "not compared with the source, since SOURCE_DIR is not given: {what}").unwrap();
+    let line = format!("not compared with the source, since SOURCE_DIR is not given: {what}\n");
+    std::io::stderr().write_all(line.as_bytes()).unwrap();
 }
