@@ -23,8 +23,8 @@ use lists::Filed;
 use settling::settle;
 use units::Place;
 use wires;
-use wires::invalidate_all;
-use wires::lower_all;
+use wires::marking::invalidate_all;
+use wires::pulses::lower_all;
 
 mod filing;
 mod moving;
@@ -35,7 +35,7 @@ fn begin_tick(links: &[usize], values: &mut [u8], units: &mut [u8], dt: u64)
     ensures { λ _. ⌜ ((d : Delays) → together (wiring (net (now (links .entry))) (now (values .exit))) (view (net (now (links .entry))) (now (units .exit))) d ≡ with-state (reopened (net (now (links .entry))) (together (wiring (net (now (links .entry))) (now (values .entry))) (view (net (now (links .entry))) (now (units .entry))) d)) (begin-tick (together (wiring (net (now (links .entry))) (now (values .entry))) (view (net (now (links .entry))) (now (units .entry))) d .state) dt)) ⌝ }
 {
     units::raising::next_tick(links, units);
-    wires::next_tick(links, values, dt);
+    wires::ticks::next_tick(links, values, dt);
 }
 
 // The events of the tick before are delivered, then the stimuli come.

@@ -41,9 +41,9 @@ use values::as_float;
 use values::enabled;
 use values::value_of;
 use wires;
-use wires::look;
-use wires::ready;
-use wires::set_out;
+use wires::marking::set_out;
+use wires::reading::look;
+use wires::refreshing::ready;
 
 // 1.0
 const ONE: u64 = 0x3FF0_0000_0000_0000;
@@ -188,7 +188,7 @@ fn move_clock(links: &[usize], values: &mut [u8], delays: &mut [u8], g: usize) -
     ready(links, values, i + 1);
     let seconds = interval(links, values, g, i + 1);
     let on = enabled(look(links, values, i));
-    let dt = wires::dt(links, values);
+    let dt = wires::ticks::dt(links, values);
     clock_advance(links, delays, g, dt, seconds, on)
 }
 
@@ -255,7 +255,7 @@ fn move_timer(links: &[usize], values: &mut [u8], delays: &mut [u8], g: usize) -
     let i = input(links, g, 3);
     ready(links, values, i);
     let limit = as_float(look(links, values, i), 0);
-    let dt = wires::dt(links, values);
+    let dt = wires::ticks::dt(links, values);
     let s = stopwatch_advance(links, delays, g, dt, limit);
     show_time(links, values, g, s.shows, s.time);
     s.expired

@@ -46,7 +46,7 @@ fn start(links: &[usize], values: &mut [u8], units: &mut [u8], delays: &mut [u8]
     requires { ⌜ (length (now links) ≡ 4816) × (65536 ≤ length (now values)) × (65536 ≤ length (now units)) × (queue-at (queues (net (now links))) * 8 ≤ length (now delays)) ⌝ }
     ensures { λ _. ⌜ (areas (net (now (links .entry))) (now (values .exit)) (now (units .exit)) (now (delays .exit)) .state ≡ start (net (now (links .entry)))) × (areas (net (now (links .entry))) (now (values .exit)) (now (units .exit)) (now (delays .exit)) .lists .carried ≡ []) × Lent (net (now (links .entry))) (now (delays .exit)) ⌝ }
 {
-    wires::start(links, values);
+    wires::start::start(links, values);
     units::raising::start(links, units);
     parts::start(links, delays);
 }

@@ -35,13 +35,13 @@ use values::same;
 use values::truthy;
 use wires::Remembered;
 use wires::Waiting;
-use wires::last;
-use wires::look;
-use wires::pulse;
-use wires::ready;
-use wires::refresh_all;
-use wires::set_last;
-use wires::take_check;
+use wires::checks::last;
+use wires::checks::set_last;
+use wires::checks::take_check;
+use wires::pulses::pulse;
+use wires::reading::look;
+use wires::refreshing::ready;
+use wires::refreshing::refresh_all;
 
 // The forms of an activation: Fire, by a pin, by an output.
 const FIRE: usize = 0;

@@ -29,14 +29,14 @@ use units::events::has_sent;
 use units::events::send;
 use values::as_int;
 use values::truthy;
-use wires::look;
-use wires::pass;
-use wires::passed;
-use wires::ready;
-use wires::record_write;
-use wires::set_out;
-use wires::show;
-use wires::shown;
+use wires::marking::set_out;
+use wires::reading::look;
+use wires::reading::show;
+use wires::reading::shown;
+use wires::refreshing::ready;
+use wires::ticks::pass;
+use wires::ticks::passed;
+use wires::written::record_write;
 
 pub mod reading;
 

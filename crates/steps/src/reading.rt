@@ -12,8 +12,8 @@ ghost use Rattle.wires.specs.View.{values as view, with-wires};
 use model::Value;
 use values::content_of;
 use values::kind_of;
-use wires::look;
-use wires::ready;
+use wires::reading::look;
+use wires::refreshing::ready;
 
 // Eight values, by their kinds and contents.
 pub struct Row {

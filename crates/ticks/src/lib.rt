@@ -28,7 +28,7 @@ use passes::main_pass;
 use units::begun::begun;
 use units::raising::carried;
 use wires;
-use wires::refresh_all;
+use wires::refreshing::refresh_all;
 
 // What a tick comes to: how many words its record has, 0 where it does not fit, and its stop, or 0.
 pub struct Ticked {
@@ -127,7 +127,7 @@ fn head(
 {
     let n = begun(units) as u64;
     Head {
-        tick: wires::tick(links, values),
+        tick: wires::ticks::tick(links, values),
         steps: steps(limit, left, stop),
         late: late as u64,
         main: less(n, late as u64),

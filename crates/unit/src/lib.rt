@@ -33,8 +33,8 @@ use units::entries::form_of;
 use units::entries::gate_of;
 use units::events::event_value;
 use units::events::events;
-use wires::publish_writes;
-use wires::set_out;
+use wires::marking::set_out;
+use wires::written::publish_writes;
 
 // The entry that a unit begins with: one that waited, or a delivered event.
 pub enum Act {

@@ -3,10 +3,10 @@ pub mod Area
 pub mod Tags
 pub mod Leaves
 pub mod Steps
-pub mod Checks
-pub mod Reading
+pub mod Checking
+pub mod Recomputing
 pub mod Marks
 pub mod Memory
-pub mod Pulses
+pub mod Pulsing
 pub mod Gates
 pub mod Starting

@@ -30,7 +30,7 @@ use Rattle.links.proofs.Reading.{inputs-counted, outputs-counted}
 use Rattle.wires.specs.View.{sizes, of, cut, last-of, pulse-of, Values, with-wires, values}
 use Rattle.wires.specs.Marking.{Area, area-with, area}
 use Rattle.wires.specs.Start.{blank, prepared, noted}
-use Rattle.wires.proofs.Reading.{refresh-to-keeps}
+use Rattle.wires.proofs.Recomputing.{refresh-to-keeps}
 
 -- ---- the area cleared
 

@@ -1,0 +1,26 @@
+use Rattle.wires.proofs.Checking.{unqueue-in, unqueue-past}
+use borrow.Author.Needs.{needs}
+use Rattle.wires.proofs.checks.unqueue.Statement.{statement}
+use Rattle.wires.proofs.checks.unqueue.Tie as tie
+
+inputs-requires : tie.Need-inputs-requires
+inputs-requires c κs = search needs
+
+add-put : tie.Need-add-put
+add-put c = search needs
+
+put-requires : tie.Need-put-requires
+put-requires c κs = search needs
+
+same-length : tie.Need-same-length
+same-length c = search needs
+
+returns : tie.Need-returns
+returns c = unqueue-in _ _ _ _ (c .before .before .before .before .before .inputs .ensures) _ (c .before .before .before .before .if1 .taken) (c .before .before .put .ensures)
+
+returns-2 : tie.Need-returns-2
+returns-2 c = unqueue-past _ _ _ _ (c .before .inputs .ensures) (c .if1 .left)
+
+pub unqueue-spec : {M : Type 1} → statement M
+unqueue-spec =
+    tie.close (tie.spec inputs-requires add-put put-requires same-length returns returns-2)

@@ -1,0 +1,132 @@
+// Marking: everything that reads an output is stale, through any depth of pure gates, and the watched inputs that this reaches wait to be checked.
+ghost use Prim.Native.Nat.{_≤_};
+ghost use mathlib.Core.Path.{_≡_};
+ghost use lib.ListN.{length};
+ghost use Rattle.model.specs.Base.{each};
+ghost use Rattle.model.specs.Circuit.{readers-of};
+ghost use Rattle.model.specs.Wires.{mark-reader, mark-on, mark-readers, invalidate, set-out};
+ghost use Rattle.links.specs.Links.{net};
+// The definition `values` is named `view` here, beside the slice of that name.
+ghost use Rattle.wires.specs.View.{values as view, with-wires};
+ghost use Rattle.wires.specs.Marking.{marking, with-marking, to-do};
+use crate::checks::watch;
+use crate::layout::STACK;
+use crate::reading::show;
+use crate::reading::shown;
+use crate::stale::is_clean;
+use crate::stale::soil;
+use kinds;
+use links::first_reader;
+use links::gate_at_input;
+use links::gates;
+use links::kind_of_gate;
+use links::output;
+use links::reader;
+use links::reader_count;
+use links::time_sources;
+use links::watching;
+use model::Value;
+use values::same;
+use words::get;
+use words::put;
+
+// One reader, input i, where n outputs are on the stack: how many there are then. A pure gate that is stale already marks nothing further.
+fn mark_reader(links: &[usize], values: &mut [u8], n: usize, i: usize) -> usize
+    requires { ⌜ (length (now links) ≡ 4816) × (65536 ≤ length (now values)) ⌝ }
+    requires { ⌜ to-do (marking (net (now links)) (now values) n .marking) ≤ 65 ⌝ }
+    ensures { λ r. ⌜ marking (net (now (links .entry))) (now (values .exit)) r ≡ with-marking (marking (net (now (links .entry))) (now (values .entry)) n) (mark-reader (net (now (links .entry))) (marking (net (now (links .entry))) (now (values .entry)) n .marking) i) ⌝ }
+{
+    let g = gate_at_input(links, i);
+    if kinds::is_pure(kind_of_gate(links, g)) {
+        if is_clean(links, values, g) {
+            soil(links, values, g);
+            put(values, STACK + n, output(links, g, 0) as u64);
+            n + 1
+        } else {
+            n
+        }
+    } else if watching(links, i) {
+        watch(links, values, i);
+        n
+    } else {
+        n
+    }
+}
+
+// The readers of output o, in their order.
+fn mark_row(links: &[usize], values: &mut [u8], n: usize, o: usize) -> usize
+    requires { ⌜ (length (now links) ≡ 4816) × (65536 ≤ length (now values)) ⌝ }
+    requires { ⌜ to-do (marking (net (now links)) (now values) n .marking) ≤ 65 ⌝ }
+    ensures { λ r. ⌜ marking (net (now (links .entry))) (now (values .exit)) r ≡ with-marking (marking (net (now (links .entry))) (now (values .entry)) n) (each (mark-reader (net (now (links .entry)))) (marking (net (now (links .entry))) (now (values .entry)) n .marking) (readers-of (net (now (links .entry))) o)) ⌝ }
+{
+    let first = first_reader(links, o);
+    let count = reader_count(links, o);
+    let mut h = n;
+    let mut k = 0;
+    while k < count {
+        h = mark_reader(links, values, h, reader(links, first + k));
+        k += 1;
+    }
+    h
+}
+
+// The readers of the n outputs on the stack and of all that this finds, the last one found first, in at most `rounds` rounds.
+fn mark_on(links: &[usize], values: &mut [u8], n: usize, rounds: usize)
+    requires { ⌜ (length (now links) ≡ 4816) × (65536 ≤ length (now values)) ⌝ }
+    requires { ⌜ to-do (marking (net (now links)) (now values) n .marking) ≤ 65 ⌝ }
+    ensures { λ _. ⌜ view (net (now (links .entry))) (now (values .exit)) ≡ with-wires (view (net (now (links .entry))) (now (values .entry))) (mark-on (net (now (links .entry))) rounds (marking (net (now (links .entry))) (now (values .entry)) n .marking)) ⌝ }
+{
+    let mut h = n;
+    let mut m = rounds;
+    while m > 0 {
+        if h == 0 {
+            return;
+        }
+        let o = get(values, STACK + (h - 1)) as usize;
+        h = mark_row(links, values, h - 1, o);
+        m -= 1;
+    }
+}
+
+// All that reads output o.
+pub fn mark_readers(links: &[usize], values: &mut [u8], o: usize)
+    requires { ⌜ (length (now links) ≡ 4816) × (65536 ≤ length (now values)) ⌝ }
+    ensures { λ _. ⌜ view (net (now (links .entry))) (now (values .exit)) ≡ with-wires (view (net (now (links .entry))) (now (values .entry))) (mark-readers (net (now (links .entry))) (view (net (now (links .entry))) (now (values .entry)) .wires) o) ⌝ }
+{
+    put(values, STACK, o as u64);
+    mark_on(links, values, 1, gates(links) + 1);
+}
+
+// Time source g becomes stale itself, and all that reads it is marked.
+pub fn invalidate(links: &[usize], values: &mut [u8], g: usize)
+    requires { ⌜ (length (now links) ≡ 4816) × (65536 ≤ length (now values)) ⌝ }
+    ensures { λ _. ⌜ view (net (now (links .entry))) (now (values .exit)) ≡ with-wires (view (net (now (links .entry))) (now (values .entry))) (invalidate (net (now (links .entry))) (view (net (now (links .entry))) (now (values .entry)) .wires) g) ⌝ }
+{
+    soil(links, values, g);
+    mark_readers(links, values, output(links, g, 0));
+}
+
+// All time sources, in their order.
+pub fn invalidate_all(links: &[usize], values: &mut [u8])
+    requires { ⌜ (length (now links) ≡ 4816) × (65536 ≤ length (now values)) ⌝ }
+    ensures { λ _. ⌜ view (net (now (links .entry))) (now (values .exit)) ≡ with-wires (view (net (now (links .entry))) (now (values .entry))) (each (invalidate (net (now (links .entry)))) (view (net (now (links .entry))) (now (values .entry)) .wires) (net (now (links .entry)) .time-sources)) ⌝ }
+{
+    let mut d = time_sources(links) as u64;
+    while d > 0 {
+        invalidate(links, values, u64::trailing_zeros(d) as usize);
+        d = d & (d - 1);
+    }
+}
+
+// Output o gets value v, which reaches its readers at once if it is not equal to the old one.
+pub fn set_out(links: &[usize], values: &mut [u8], o: usize, v: Value)
+    requires { ⌜ (length (now links) ≡ 4816) × (65536 ≤ length (now values)) ⌝ }
+    ensures { λ _. ⌜ view (net (now (links .entry))) (now (values .exit)) ≡ with-wires (view (net (now (links .entry))) (now (values .entry))) (set-out (net (now (links .entry))) (view (net (now (links .entry))) (now (values .entry)) .wires) o v) ⌝ }
+{
+    let old = shown(links, values, o);
+    if same(old, v) {
+        return;
+    }
+    show(links, values, o, v);
+    mark_readers(links, values, o);
+}

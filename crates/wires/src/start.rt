@@ -1,0 +1,102 @@
+// The wires at the start of a run.
+ghost use Prim.Native.Nat.{_≤_};
+ghost use mathlib.Core.Path.{_≡_};
+ghost use lib.ListN.{length};
+ghost use Rattle.model.specs.Base.{each, from};
+ghost use Rattle.model.specs.Opening.{wires-at-start};
+ghost use Rattle.links.specs.Links.{net};
+// The definition `values` is named `view` here, beside the slice of that name.
+ghost use Rattle.wires.specs.View.{values as view, with-wires};
+ghost use Rattle.wires.specs.Start.{blank, prepared, noted};
+use crate::checks::set_last;
+use crate::layout::TABLES;
+use crate::reading::look;
+use crate::reading::show;
+use crate::refreshing::refresh_all;
+use crate::stale::soil;
+use kinds;
+use links::gates;
+use links::inputs;
+use links::kind_of_gate;
+use links::output;
+use links::setting;
+use links::watching;
+use words::put;
+
+// The kind of a Var.
+const VAR: u64 = 5;
+
+// All tables are cleared.
+fn clear(links: &[usize], values: &mut [u8])
+    requires { ⌜ (length (now links) ≡ 4816) × (65536 ≤ length (now values)) ⌝ }
+    ensures { λ _. ⌜ view (net (now (links .entry))) (now (values .exit)) ≡ with-wires (view (net (now (links .entry))) (now (values .entry))) (blank (net (now (links .entry)))) ⌝ }
+{
+    let mut k = 0;
+    while k < TABLES {
+        put(values, k, 0);
+        k += 1;
+    }
+}
+
+// Gate g, if it is pure, is stale; a Var shows its initial.
+fn prepare(links: &[usize], values: &mut [u8], g: usize)
+    requires { ⌜ (length (now links) ≡ 4816) × (65536 ≤ length (now values)) ⌝ }
+    ensures { λ _. ⌜ view (net (now (links .entry))) (now (values .exit)) ≡ with-wires (view (net (now (links .entry))) (now (values .entry))) (prepared (net (now (links .entry))) (view (net (now (links .entry))) (now (values .entry)) .wires) g) ⌝ }
+{
+    let kind = kind_of_gate(links, g);
+    if kinds::is_pure(kind) {
+        soil(links, values, g);
+        return;
+    }
+    if kind == VAR {
+        show(links, values, output(links, g, 0), setting(links, g, 0));
+    }
+}
+
+// Every gate is prepared.
+fn prepare_all(links: &[usize], values: &mut [u8])
+    requires { ⌜ (length (now links) ≡ 4816) × (65536 ≤ length (now values)) ⌝ }
+    ensures { λ _. ⌜ view (net (now (links .entry))) (now (values .exit)) ≡ with-wires (view (net (now (links .entry))) (now (values .entry))) (each (prepared (net (now (links .entry)))) (view (net (now (links .entry))) (now (values .entry)) .wires) (from 0 (length (net (now (links .entry)) .kinds)))) ⌝ }
+{
+    let n = gates(links);
+    let mut g = 0;
+    while g < n {
+        prepare(links, values, g);
+        g += 1;
+    }
+}
+
+// The last value of input i, if it is watched, is what it reads.
+fn note(links: &[usize], values: &mut [u8], i: usize)
+    requires { ⌜ (length (now links) ≡ 4816) × (65536 ≤ length (now values)) ⌝ }
+    ensures { λ _. ⌜ view (net (now (links .entry))) (now (values .exit)) ≡ with-wires (view (net (now (links .entry))) (now (values .entry))) (noted (net (now (links .entry))) (view (net (now (links .entry))) (now (values .entry)) .wires) i) ⌝ }
+{
+    if watching(links, i) {
+        let v = look(links, values, i);
+        set_last(links, values, i, v);
+    }
+}
+
+// The last value of every watched input is what it reads.
+fn note_all(links: &[usize], values: &mut [u8])
+    requires { ⌜ (length (now links) ≡ 4816) × (65536 ≤ length (now values)) ⌝ }
+    ensures { λ _. ⌜ view (net (now (links .entry))) (now (values .exit)) ≡ with-wires (view (net (now (links .entry))) (now (values .entry))) (each (noted (net (now (links .entry)))) (view (net (now (links .entry))) (now (values .entry)) .wires) (from 0 (length (net (now (links .entry)) .pins)))) ⌝ }
+{
+    let n = inputs(links);
+    let mut i = 0;
+    while i < n {
+        note(links, values, i);
+        i += 1;
+    }
+}
+
+// The wires at the start of a run, whatever the area held.
+pub fn start(links: &[usize], values: &mut [u8])
+    requires { ⌜ (length (now links) ≡ 4816) × (65536 ≤ length (now values)) ⌝ }
+    ensures { λ _. ⌜ view (net (now (links .entry))) (now (values .exit)) ≡ with-wires (view (net (now (links .entry))) (now (values .entry))) (wires-at-start (net (now (links .entry)))) ⌝ }
+{
+    clear(links, values);
+    prepare_all(links, values);
+    refresh_all(links, values);
+    note_all(links, values);
+}
