@@ -15,7 +15,7 @@ use Rattle.model.specs.Base.{both}
 use Rattle.model.specs.Circuit.{Circuit}
 use Rattle.model.proofs.Lists.{both-length}
 use Rattle.wires.specs.Held.{held}
-use Rattle.wires.specs.View.{cut as cut-values, values}
+use Rattle.wires.specs.View.{cut as cut-values, values, out-tags-at, out-contents-at}
 use Rattle.wires.proofs.Lists.{both-get}
 use Rattle.wires.proofs.Area.{cut-peek, sized}
 use Rattle.units.specs.View.{begun-of, cut, units}
@@ -43,7 +43,7 @@ module _ (bs : List ℕ) (n : ℕ) (l : 65536 ≤ length bs) (h : n ≤ 576) whe
       let k : length (both held (t .out-tags) (t .out-contents)) ≡ 576 = both-length held (t .out-tags) (t .out-contents) (tags-length ∙ sym contents-length) ∙ tags-length in
       length-take-le n (both held (t .out-tags) (t .out-contents)) (omega arith)
 
-  outs-get : (i : ℕ) → i < n → getD (outs-in n bs) i Nothing ≡ held (getD (words bs) (8 + i) 0) (getD (words bs) (584 + i) 0)
+  outs-get : (i : ℕ) → i < n → getD (outs-in n bs) i Nothing ≡ held (getD (words bs) (out-tags-at + i) 0) (getD (words bs) (out-contents-at + i) 0)
   unfolding outs-in
   outs-get i k =
       let t = cut-values (words bs) in
@@ -52,7 +52,7 @@ module _ (bs : List ℕ) (n : ℕ) (l : 65536 ≤ length bs) (h : n ≤ 576) whe
       ∙ sym (ap₂ held (cut-peek (words bs) 8 i (omega arith)) (cut-peek (words bs) 9 i (omega arith)))
 
   -- the i-th of them, and those behind it
-  pub outs-at : (i : ℕ) → i < n → drop i (outs-in n bs) ≡ held (getD (words bs) (8 + i) 0) (getD (words bs) (584 + i) 0) ∷ drop (i + 1) (outs-in n bs)
+  pub outs-at : (i : ℕ) → i < n → drop i (outs-in n bs) ≡ held (getD (words bs) (out-tags-at + i) 0) (getD (words bs) (out-contents-at + i) 0) ∷ drop (i + 1) (outs-in n bs)
   outs-at i k =
       let d : drop i (outs-in n bs) ≡ getD (outs-in n bs) i Nothing ∷ drop (suc i) (outs-in n bs) = drop-cons (outs-in n bs) i Nothing (omega (arith, outs-in-length)) in
       rw (add-one i) (d ∙ ap (λ (v : Value). v ∷ drop (suc i) (outs-in n bs)) (outs-get i k))

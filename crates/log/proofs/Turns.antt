@@ -10,6 +10,7 @@ use Rattle.model.specs.Value.{kind-of, content-of}
 use Rattle.model.specs.Circuit.{Circuit}
 use Rattle.links.specs.Links.{net}
 use Rattle.wires.specs.Held.{held}
+use Rattle.wires.specs.View.{out-tags-at, out-contents-at}
 use Rattle.units.specs.View.{Begun, begun-of, units}
 use Rattle.log.specs.declared.Head.{Head}
 use Rattle.log.specs.Rows.{Filled, head-row, begun-in, outs-in}
@@ -56,7 +57,7 @@ module _ (f : Begun → ℕ) (us : List ℕ) where
 
 module _ (f : Value → ℕ) (vs : List ℕ) {n : ℕ} (l : 65536 ≤ length vs) (m : n ≤ 576) where
   pub outs-next :
-      {s t u : List ℕ} {p i x : ℕ} → i < n → x ≡ f (held (getD (words vs) (8 + i) 0) (getD (words vs) (584 + i) 0)) → Stored t u (p + i) x →
+      {s t u : List ℕ} {p i x : ℕ} → i < n → x ≡ f (held (getD (words vs) (out-tags-at + i) 0) (getD (words vs) (out-contents-at + i) 0)) → Stored t u (p + i) x →
       Filling f (outs-in n vs) s t p i → Filling f (outs-in n vs) s u p (i + 1)
   outs-next {i = i} h = filling-next f (outs-in n vs) _ (outs-at vs n l m i h)
 

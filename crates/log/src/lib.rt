@@ -10,7 +10,7 @@ ghost use Rattle.model.specs.Value.{kind-of, content-of};
 ghost use Rattle.links.specs.Links.{net};
 ghost use Rattle.wires.specs.Held.{held};
 // The definitions `values` and `units` are named for what they hold, beside the slices of their names.
-ghost use Rattle.wires.specs.View.{values as values-view};
+ghost use Rattle.wires.specs.View.{values as values-view, out-tags-at, out-contents-at};
 ghost use Rattle.units.specs.View.{units as units-view};
 ghost use Rattle.log.specs.Log.{record-of, fits, written-as, Writes};
 ghost use Rattle.log.specs.Rows.{Filled, head-row, begun-in, units-row, outs-in, outputs-row};
@@ -20,6 +20,8 @@ use units::entries::form_of;
 use units::entries::gate_of;
 use wires::held::content_held;
 use wires::held::kind_held;
+use wires::layout::OUT_CONTENTS;
+use wires::layout::OUT_TAGS;
 use words::get;
 use words::put;
 
@@ -39,16 +41,11 @@ pub enum Written {
     Full,
 }
 
-// How many words a head has.
-const HEAD: usize = 6;
+// How many words a head has, the definition's `head` (crates/model/specs/Record.antt).
+pub const HEAD: usize = 6;
 
 // Where the entries of the units begun begin in the area `units`, in words.
 const BEGUN: usize = 1353;
-
-// Where the tags and the contents of the outputs begin in the area `values`, in words.
-const OUT_TAGS: usize = 8;
-
-const OUT_CONTENTS: usize = 584;
 
 // The head becomes the words of the log from word p on.
 fn write_head(log: &mut [u8], p: usize, head: Head)
@@ -115,7 +112,7 @@ fn outputs_shown(links: &[usize], stop: u64) -> usize
 // The kind of what output o shows.
 fn kind_at(values: &[u8], o: usize) -> u64
     requires { ⌜ (65536 ≤ length (now values)) × (o < 576) ⌝ }
-    ensures { λ r. ⌜ r ≡ kind-of (held (getD (words (now (values .entry))) (8 + o) 0) (getD (words (now (values .entry))) (584 + o) 0)) ⌝ }
+    ensures { λ r. ⌜ r ≡ kind-of (held (getD (words (now (values .entry))) (out-tags-at + o) 0) (getD (words (now (values .entry))) (out-contents-at + o) 0)) ⌝ }
 {
     kind_held(get(values, OUT_TAGS + o))
 }
@@ -123,7 +120,7 @@ fn kind_at(values: &[u8], o: usize) -> u64
 // The content of what output o shows.
 fn content_at(values: &[u8], o: usize) -> u64
     requires { ⌜ (65536 ≤ length (now values)) × (o < 576) ⌝ }
-    ensures { λ r. ⌜ r ≡ content-of (held (getD (words (now (values .entry))) (8 + o) 0) (getD (words (now (values .entry))) (584 + o) 0)) ⌝ }
+    ensures { λ r. ⌜ r ≡ content-of (held (getD (words (now (values .entry))) (out-tags-at + o) 0) (getD (words (now (values .entry))) (out-contents-at + o) 0)) ⌝ }
 {
     content_held(get(values, OUT_TAGS + o), get(values, OUT_CONTENTS + o))
 }

@@ -5,7 +5,7 @@ use mathlib.Core.List.{List, [], _∷_, _++_, map}
 use mathlib.Core.Option.{Option, none, some}
 use lib.ListN.{length, getD, take}
 use Rattle.words.specs.Words.{words, tail}
-use Rattle.words.specs.Tables.{tables, marked, digits, marks, ring}
+use Rattle.words.specs.Tables.{tables, base, marked, digits, marks, ring}
 use Rattle.model.specs.declared.Value.{Value}
 use Rattle.model.specs.Base.{both}
 use Rattle.model.specs.Value.{value-of}
@@ -41,6 +41,13 @@ pub record Tables : Type 0 where
 -- their sizes
 abbrev pub sizes : List ℕ
 sizes = 1 ∷ 1 ∷ 1 ∷ 1 ∷ 1 ∷ 1 ∷ 1 ∷ 1 ∷ 576 ∷ 576 ∷ 640 ∷ 1024 ∷ 640 ∷ 640 ∷ 576 ∷ 9 ∷ 64 ∷ 65 ∷ []
+
+-- where the tags and the contents of the outputs begin, in words
+abbrev pub out-tags-at : ℕ
+out-tags-at = base sizes 8
+
+abbrev pub out-contents-at : ℕ
+out-contents-at = base sizes 9
 
 -- by their numbers
 abbrev pub of : List (List ℕ) → Tables
