@@ -10,6 +10,7 @@ ghost use Rattle.model.specs.Circuit.{part, circuit as circuit-of};
 ghost use Rattle.model.specs.Questions.{question-1, question-8, question-9, question-10, good-length, within};
 use super::columns::all_within;
 use super::columns::within;
+use floats::MINUS_ZERO;
 use kinds::numbers::WORLD_EVENT;
 use words::get;
 
@@ -45,9 +46,6 @@ pub fn script_sizes(script: &[u8]) -> bool
 }
 
 // ---- ticks
-
-// The bits of -0.0.
-const MINUS_ZERO: u64 = 0x8000_0000_0000_0000;
 
 // The bits of 3,600.0.
 const LONGEST: u64 = 0x40AC_2000_0000_0000;

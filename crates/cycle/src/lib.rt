@@ -6,7 +6,7 @@ ghost use Rattle.cycle.specs.Step.{step};
 use words::unsigned;
 
 // The words of negative numbers begin here.
-const SIGN: u64 = 0x8000_0000_0000_0000;
+const FIRST_NEGATIVE: u64 = 0x8000_0000_0000_0000;
 
 // The remainder of a by n; it divides only where a is not below n.
 fn wrapped(a: u64, n: u64) -> u64
@@ -46,14 +46,14 @@ pub fn cycle_next(down: bool, count: i64, now: i64) -> u64
     ensures { λ r. ⌜ r ≡ cycle-next down count now ⌝ }
 {
     let n = unsigned(count);
-    if SIGN <= n {
+    if FIRST_NEGATIVE <= n {
         return 0;
     }
     if n == 0 {
         return 0;
     }
     let w = unsigned(now);
-    if w < SIGN {
+    if w < FIRST_NEGATIVE {
         return step(down, n, wrapped(w, n));
     }
     step(down, n, from_end(n, wrapped(!w, n)))

@@ -15,7 +15,7 @@ use crate::countdown::of_word;
 use model::Value;
 
 // The most fires that can be under way.
-const MOST: usize = 32;
+pub const MOST_FIRES: usize = 32;
 
 // The fires stand as words in a ring, `count` of them from slot `first` on, the oldest first. `seconds` says whether their countdowns count seconds, and `fired`
 // how many fired as the buffer last moved on.
@@ -23,18 +23,24 @@ pub struct Fires {
     pub seconds: bool,
     pub first: usize,
     pub count: usize,
-    pub words: [u64; 32],
+    pub words: [u64; MOST_FIRES],
     pub fired: usize,
 }
 
 // The words of the fires, each of which counts down by one tick of the length dt.
-fn count_down(mut words: [u64; 32], seconds: bool, first: usize, count: usize, dt: u32) -> [u64; 32]
+fn count_down(
+    mut words: [u64; MOST_FIRES],
+    seconds: bool,
+    first: usize,
+    count: usize,
+    dt: u32,
+) -> [u64; MOST_FIRES]
     requires { ⌜ (first < 32) × (count ≤ 32) ⌝ }
     ensures { λ r. ⌜ under-way seconds count first r ≡ map (tick-down dt) (under-way seconds count first words) ⌝ }
 {
     let mut i: usize = 0;
     while i < count {
-        let at = (first + i) % MOST;
+        let at = (first + i) % MOST_FIRES;
         words[at] = of_word(seconds, words[at]).tick_down(dt).word();
         i += 1;
     }
@@ -45,7 +51,7 @@ fn count_down(mut words: [u64; 32], seconds: bool, first: usize, count: usize, d
 fn limited(n: usize) -> usize
     ensures { λ r. ⌜ r ≡ min most-fires n ⌝ }
 {
-    if n < MOST { n } else { MOST }
+    if n < MOST_FIRES { n } else { MOST_FIRES }
 }
 
 impl Fires {
@@ -53,7 +59,7 @@ impl Fires {
     pub fn full(self) -> bool
         ensures { λ r. ⌜ r ≡ leb most-fires (length (fires-of self)) ⌝ }
     {
-        MOST <= self.count
+        MOST_FIRES <= self.count
     }
 
     // One fire more, with the countdown for a rising value: the zero wait is never used. When it is full none is added.
@@ -62,8 +68,8 @@ impl Fires {
     {
         self.fired = 0;
         let count = self.count;
-        if count < MOST {
-            let at = (self.first % MOST + count) % MOST;
+        if count < MOST_FIRES {
+            let at = (self.first % MOST_FIRES + count) % MOST_FIRES;
             self.words[at] = buffer_countdown(self.seconds, true, wait, Value::Nothing).word();
             self.count = count + 1;
         }
@@ -77,7 +83,7 @@ impl Fires {
     {
         self.fired = 0;
         while 0 < self.count {
-            let at = self.first % MOST;
+            let at = self.first % MOST_FIRES;
             let front = of_word(self.seconds, self.words[at]);
             if !front.due() {
                 return self;
@@ -93,7 +99,7 @@ impl Fires {
     pub fn advance(mut self, dt: u32) -> Self
         ensures { λ r. ⌜ (r .seconds ≡ self .seconds) × (fires-moved r ≡ advance-fires dt (fires self)) ⌝ }
     {
-        let first = self.first % MOST;
+        let first = self.first % MOST_FIRES;
         let count = limited(self.count);
         let words = self.words;
         let left = count_down(words, self.seconds, first, count, dt);

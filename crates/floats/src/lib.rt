@@ -12,13 +12,19 @@ use std::num::nearest_i64_to_f64;
 pub mod narrowing;
 
 // The sign's bit of an f64.
-const SIGN: u64 = 0x8000_0000_0000_0000;
+pub const SIGN: u64 = 0x8000_0000_0000_0000;
 
 // The leading digit of an f64, in which the exponent's field counts.
 const LEADING: u64 = 0x10_0000_0000_0000;
 
 // The bits of the f64 infinity; NaNs lie above.
-const INFINITY: u64 = 0x7ff0_0000_0000_0000;
+pub const INFINITY: u64 = 0x7ff0_0000_0000_0000;
+
+// 1.0
+pub const ONE: u64 = 0x3ff0_0000_0000_0000;
+
+// -0.0
+pub const MINUS_ZERO: u64 = SIGN;
 
 // The bits that a NaN gets.
 const NAN: u64 = 0x7ff8_0000_0000_0000;

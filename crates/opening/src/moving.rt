@@ -21,6 +21,7 @@ use crate::filing::fire_late;
 use crate::filing::fire_pending;
 use crate::filing::is_full;
 use delays::buffer::Optional;
+use floats::ONE;
 use links::buffers;
 use links::clocks;
 use links::first_gate;
@@ -44,9 +45,6 @@ use wires;
 use wires::marking::set_out;
 use wires::reading::look;
 use wires::refreshing::ready;
-
-// 1.0
-const ONE: u64 = 0x3FF0_0000_0000_0000;
 
 // ---- buffers and Queues
 

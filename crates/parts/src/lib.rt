@@ -24,10 +24,13 @@ use delays::countdown::in_ticks;
 use links::gates;
 use links::kind_of_gate;
 use model::Value;
+use queue::PART;
+use queue::PART_BYTES;
 use queue::Record;
 use queue::Released;
 use queue::advance;
 use queue::push;
+use states::slots::PARTS;
 use values::as_float;
 use values::as_int;
 use words::get;
@@ -39,13 +42,6 @@ const TICKS: u64 = 16;
 
 // The kind of a Queue whose records wait for seconds.
 const SECONDS: u64 = 17;
-
-// Where the parts begin, and how many words and bytes each has.
-const PARTS: usize = 2816;
-
-const PART: usize = 4354;
-
-const PART_BYTES: usize = 34832;
 
 // The countdown that a record starts by its wait.
 fn countdown(seconds: bool, wait: Value) -> Countdown

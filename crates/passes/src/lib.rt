@@ -30,6 +30,7 @@ use units::counts::late;
 use units::counts::pending;
 use units::entries::entry;
 use units::entries::gate_of;
+use units::layout::MOST_UNITS;
 use units::raising::take_delivered;
 use units::raising::take_late;
 use units::raising::take_pending;
@@ -40,9 +41,6 @@ pub enum Next {
     Begins(Act),
 }
 
-// The most units that may begin in a tick.
-const MOST: usize = 1024;
-
 // A list was full, or one more unit would begin than may.
 const LIST_FULL: u64 = 12;
 
@@ -52,7 +50,7 @@ fn units_left(units: &[u8]) -> usize
     ensures { λ r. ⌜ ((c : Circuit) → r ≡ 1024 - length (view c (now (units .entry)) .begun)) ⌝ }
 {
     let n = begun(units);
-    if n < MOST { MOST - n } else { 0 }
+    if n < MOST_UNITS { MOST_UNITS - n } else { 0 }
 }
 
 // The entry by which a unit begun is listed.

@@ -41,13 +41,18 @@ const COUNT: usize = 1;
 const COUNTDOWNS: usize = 2;
 
 // Where the kinds of slot 0 begin.
-const KINDS: usize = 258;
+const KINDS: usize = COUNTDOWNS + SLOTS;
 
 // Where the contents of slot 0 begin.
-const CONTENTS: usize = 266;
+const CONTENTS: usize = KINDS + 8;
 
 // The words of a row: eight kinds, eight contents.
 const ROW: usize = 16;
+
+// How many words and bytes the part of a Queue has.
+pub const PART: usize = KINDS + SLOTS * ROW;
+
+pub const PART_BYTES: usize = PART * 8;
 
 // The slot of the front record.
 fn first_of(queue: &[u8]) -> usize

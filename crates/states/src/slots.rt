@@ -26,6 +26,7 @@ use delays::countdown::Countdown;
 use delays::countdown::buffer_countdown;
 use delays::countdown::of_word;
 use delays::fires::Fires;
+use delays::fires::MOST_FIRES;
 use delays::stopwatch::Stopwatch;
 use links::gates;
 use links::kind_of_gate;
@@ -67,15 +68,19 @@ const COUNT: usize = 10;
 
 const FIRES: usize = 11;
 
-// The most fires that can be under way.
-const MOST: usize = 32;
+// The gates that a circuit has at the most.
+const MOST_GATES: usize = 64;
 
-// Where the slots begin, and how many words and bytes each has.
-const SLOTS: usize = 64;
+// Where the slots begin: behind a word for each gate, the number of a Queue's part.
+const SLOTS: usize = MOST_GATES;
 
-const SLOT: usize = 43;
+// How many words and bytes a slot has.
+const SLOT: usize = FIRES + MOST_FIRES;
 
-const SLOT_BYTES: usize = 344;
+const SLOT_BYTES: usize = SLOT * 8;
+
+// Where the parts of the Queues begin: behind a slot for each gate.
+pub const PARTS: usize = SLOTS + SLOT * MOST_GATES;
 
 // From this kind on countdowns are in seconds.
 const SECONDS: u64 = 12;
@@ -199,13 +204,13 @@ fn fly(links: &[usize], slot: &mut [u8], g: usize, seconds: bool, dt: u32) -> Op
 }
 
 // The places of the fires in the slot.
-fn load_places(slot: &[u8]) -> [u64; 32]
+fn load_places(slot: &[u8]) -> [u64; MOST_FIRES]
     requires { ⌜ length (now slot) ≡ 344 ⌝ }
     ensures { λ r. ⌜ r ≡ part (words (now (slot .entry))) 11 32 ⌝ }
 {
-    let mut places = [0; 32];
+    let mut places = [0; MOST_FIRES];
     let mut i: usize = 0;
-    while i < MOST {
+    while i < MOST_FIRES {
         places[i] = get(slot, FIRES + i);
         i += 1;
     }
@@ -213,12 +218,12 @@ fn load_places(slot: &[u8]) -> [u64; 32]
 }
 
 // The places of the fires go into the slot.
-fn store_places(slot: &mut [u8], places: [u64; 32])
+fn store_places(slot: &mut [u8], places: [u64; MOST_FIRES])
     requires { ⌜ length (now slot) ≡ 344 ⌝ }
     ensures { λ _. ⌜ (take 11 (words (now (slot .exit))) ≡ take 11 (words (now (slot .entry)))) × (part (words (now (slot .exit))) 11 32 ≡ places) ⌝ }
 {
     let mut i: usize = 0;
-    while i < MOST {
+    while i < MOST_FIRES {
         put(slot, FIRES + i, places[i]);
         i += 1;
     }
@@ -257,7 +262,7 @@ fn start_fire(links: &[usize], slot: &mut [u8], g: usize, seconds: bool) -> File
     requires { ⌜ (length (now links) ≡ 4816) × (length (now slot) ≡ 344) × (seconds ≡ leb 12 (kind-of-gate (net (now links)) g)) ⌝ }
     ensures { λ r. ⌜ Added seconds (words (now (slot .entry))) (words (now (slot .exit))) (countdown (net (now (links .entry))) g true) r ⌝ }
 {
-    if MOST <= get(slot, COUNT) as usize {
+    if MOST_FIRES <= get(slot, COUNT) as usize {
         return Filed::Full;
     }
     let fires = load_fires(slot, seconds);

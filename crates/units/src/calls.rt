@@ -7,6 +7,10 @@ ghost use Rattle.model.specs.Chain.{no-calls, pop};
 // The definition `units` is named `view` here, beside the slice of that name.
 ghost use Rattle.units.specs.View.{units as view};
 ghost use Rattle.units.specs.Calls.{with-calls, fits-one, called, forked, popped, calls-left};
+use crate::layout::FORKS;
+use crate::layout::MOST_CALLS;
+use crate::layout::PENDING;
+use crate::layout::STACK;
 use lists::Filed;
 use lists::Taken;
 use lists::clear;
@@ -15,25 +19,12 @@ use lists::enqueue;
 use lists::stack_pop;
 use lists::stack_push;
 
-// Where the chain stack begins and ends, in bytes.
-const STACK: usize = 0;
-
-const STACK_END: usize = 2056;
-
-// Where the forks begin and end, in bytes.
-const FORKS: usize = 2056;
-
-const FORKS_END: usize = 4120;
-
-// The most calls that either may hold.
-const MOST: usize = 256;
-
 // A call on top of the chain stack, if there is room.
 pub fn push_call(units: &mut [u8], i: usize) -> Filed
     requires { ⌜ 65536 ≤ length (now units) ⌝ }
     ensures { λ r. ⌜ ((c : Circuit) → (r ≡ fits-one (view c (now (units .entry)) .calls .stack)) × (view c (now (units .exit)) ≡ with-calls (view c (now (units .entry))) (called i (view c (now (units .entry)) .calls)))) ⌝ }
 {
-    stack_push(&mut units[STACK..STACK_END], MOST, i as u64)
+    stack_push(&mut units[STACK..FORKS], MOST_CALLS, i as u64)
 }
 
 // A call behind the forks, if there is room.
@@ -41,7 +32,7 @@ pub fn push_fork(units: &mut [u8], i: usize) -> Filed
     requires { ⌜ 65536 ≤ length (now units) ⌝ }
     ensures { λ r. ⌜ ((c : Circuit) → (r ≡ fits-one (view c (now (units .entry)) .calls .forks)) × (view c (now (units .exit)) ≡ with-calls (view c (now (units .entry))) (forked i (view c (now (units .entry)) .calls)))) ⌝ }
 {
-    enqueue(&mut units[FORKS..FORKS_END], MOST, i as u64)
+    enqueue(&mut units[FORKS..PENDING], MOST_CALLS, i as u64)
 }
 
 // The next call to make is taken off: from the stack, else from the forks.
@@ -49,9 +40,9 @@ pub fn pop_call(units: &mut [u8]) -> Taken
     requires { ⌜ 65536 ≤ length (now units) ⌝ }
     ensures { λ r. ⌜ ((c : Circuit) → (r ≡ popped (pop (view c (now (units .entry)) .calls .stack) (view c (now (units .entry)) .calls .forks))) × (view c (now (units .exit)) ≡ with-calls (view c (now (units .entry))) (calls-left (view c (now (units .entry)) .calls) (pop (view c (now (units .entry)) .calls .stack) (view c (now (units .entry)) .calls .forks))))) ⌝ }
 {
-    let top = stack_pop(&mut units[STACK..STACK_END], MOST);
+    let top = stack_pop(&mut units[STACK..FORKS], MOST_CALLS);
     match top {
-        Taken::Empty => dequeue(&mut units[FORKS..FORKS_END], MOST),
+        Taken::Empty => dequeue(&mut units[FORKS..PENDING], MOST_CALLS),
         Taken::Entry(i) => Taken::Entry(i),
     }
 }
@@ -61,6 +52,6 @@ pub fn clear_calls(units: &mut [u8])
     requires { ⌜ 65536 ≤ length (now units) ⌝ }
     ensures { λ _. ⌜ ((c : Circuit) → view c (now (units .exit)) ≡ with-calls (view c (now (units .entry))) no-calls) ⌝ }
 {
-    clear(&mut units[STACK..STACK_END]);
-    clear(&mut units[FORKS..FORKS_END]);
+    clear(&mut units[STACK..FORKS]);
+    clear(&mut units[FORKS..PENDING]);
 }

@@ -7,7 +7,7 @@ ghost use Rattle.units.specs.View.{gate-of, form-of, brings, entry-of};
 const PART: u64 = 0x1_0000;
 
 // An entry divided by it has the gate lowest.
-const GATE: u64 = 0x1_0000_0000;
+const GATE: u64 = PART * PART;
 
 // The entry of a gate, a form, and a number that says what it brings, each by its remainder.
 pub fn entry(g: usize, form: usize, k: usize) -> u64

@@ -13,26 +13,16 @@ ghost use Rattle.model.specs.Circuit.{Circuit};
 // The definition `units` is named `view` here, beside the slice of that name.
 ghost use Rattle.units.specs.View.{cut, second-half, units as view};
 ghost use Rattle.units.specs.Calls.{with-outbox, sent};
+use crate::layout::COUNTS;
+use crate::layout::HALF;
+use crate::layout::MOST_EVENTS;
+use crate::layout::ROW;
+use crate::layout::ROWS;
+use crate::layout::SENDERS;
 use model::Value;
 use values::value_of;
 use words::get;
 use words::put;
-
-// The word that says which half is the outbox: the first if it is 0.
-const HALF: usize = 2377;
-
-// Where the counts of both halves begin, in words; then their senders, and their rows of eight kinds and eight contents.
-const COUNTS: usize = 2378;
-
-const SENDERS: usize = 2380;
-
-const ROWS: usize = 2508;
-
-// The most events of a half.
-const MOST: usize = 64;
-
-// The words of a row.
-const ROW: usize = 16;
 
 // The half that is the outbox.
 fn outbox(units: &[u8]) -> usize
@@ -48,7 +38,7 @@ fn held(units: &[u8], h: usize) -> usize
     ensures { λ r. ⌜ (r ≡ min (getD (words (now (units .entry))) (2378 + h) 0) 64) × (r ≤ 64) ⌝ }
 {
     let n = get(units, COUNTS + h) as usize;
-    if n < MOST { n } else { MOST }
+    if n < MOST_EVENTS { n } else { MOST_EVENTS }
 }
 
 // Whether gate g sent one of the n events from place a on.
@@ -85,13 +75,13 @@ pub fn send(units: &mut [u8], g: usize, kinds: [u64; 8], contents: [u64; 8])
 {
     let h = outbox(units);
     let n = held(units, h);
-    if MOST <= n {
+    if MOST_EVENTS <= n {
         return;
     }
-    if sent_by(units, h * MOST, n, g) {
+    if sent_by(units, h * MOST_EVENTS, n, g) {
         return;
     }
-    let k = h * MOST + n;
+    let k = h * MOST_EVENTS + n;
     put(units, SENDERS + k, g as u64);
     put_eight(units, ROWS + ROW * k, kinds);
     put_eight(units, ROWS + (ROW * k + 8), contents);
@@ -105,7 +95,7 @@ pub fn has_sent(units: &[u8], g: usize) -> bool
 {
     let h = outbox(units);
     let n = held(units, h);
-    sent_by(units, h * MOST, n, g)
+    sent_by(units, h * MOST_EVENTS, n, g)
 }
 
 // How many events the tick before sent.
@@ -126,7 +116,7 @@ pub fn sender(units: &[u8], e: usize) -> usize
     if held(units, h) <= e {
         return 0;
     }
-    get(units, SENDERS + (h * MOST + e)) as usize
+    get(units, SENDERS + (h * MOST_EVENTS + e)) as usize
 }
 
 // Value j of the row of event e.
@@ -141,7 +131,7 @@ pub fn event_value(units: &[u8], e: usize, j: usize) -> Value
     if 8 <= j {
         return Value::Nothing;
     }
-    let k = h * MOST + e;
+    let k = h * MOST_EVENTS + e;
     let kind = get(units, ROWS + (ROW * k + j));
     value_of(kind, get(units, ROWS + (ROW * k + 8 + j)))
 }

@@ -21,6 +21,23 @@ ghost use Rattle.units.specs.Calls.{with-calls, with-begun, first-of, ac
 use crate::Place;
 use crate::entries::entry;
 use crate::entries::gate_of;
+use crate::layout::BEGUN;
+use crate::layout::BEGUN_COUNT;
+use crate::layout::CARRIED;
+use crate::layout::CARRIED_COUNT;
+use crate::layout::DELIVERED;
+use crate::layout::DELIVERED_COUNT;
+use crate::layout::FIRST_COUNT;
+use crate::layout::FORKS_COUNT;
+use crate::layout::HALF;
+use crate::layout::LATE;
+use crate::layout::LATE_COUNT;
+use crate::layout::MOST_DELIVERED;
+use crate::layout::MOST_WAITING;
+use crate::layout::PENDING;
+use crate::layout::PENDING_COUNT;
+use crate::layout::SECOND_COUNT;
+use crate::layout::STACK_COUNT;
 use links::rank_of_gate;
 use lists::Filed;
 use lists::Taken;
@@ -30,45 +47,6 @@ use lists::stack_pop;
 use lists::stack_push;
 use words::get;
 use words::put;
-
-// How many entries the lists may have.
-const MOST: usize = 256;
-
-const MOST_DELIVERED: usize = 64;
-
-// Where their tables begin, in bytes; they stand in this order, and `BEGUN` is behind them.
-const PENDING: usize = 4120;
-
-const LATE: usize = 6176;
-
-const CARRIED: usize = 8232;
-
-const DELIVERED: usize = 10288;
-
-const BEGUN: usize = 10816;
-
-// The words that are the counts of the lists.
-const STACK_COUNT: usize = 0;
-
-const FORKS_COUNT: usize = 257;
-
-const PENDING_COUNT: usize = 515;
-
-const LATE_COUNT: usize = 772;
-
-const CARRIED_COUNT: usize = 1029;
-
-const DELIVERED_COUNT: usize = 1286;
-
-const BEGUN_COUNT: usize = 1352;
-
-// The word that says which half of the events is the outbox.
-const HALF: usize = 2377;
-
-// The words that say how many events each half has.
-const FIRST_COUNT: usize = 2378;
-
-const SECOND_COUNT: usize = 2379;
 
 // x, of that rank, goes below those of the n entries, from the last one down, whose rank is not above its own; these move up by one.
 fn place(links: &[usize], list: &mut [u8], n: usize, x: u64, rank: u64)
@@ -93,8 +71,8 @@ fn file(links: &[usize], list: &mut [u8], x: u64, rank: u64) -> Filed
     requires { ⌜ (length (now links) ≡ 4816) × (length (now list) ≡ 2056) × (rank ≡ rank-of-gate (net (now links)) (gate-of x)) ⌝ }
     ensures { λ r. ⌜ (r ≡ cond (ltb (length (map (act-of (net (now (links .entry)))) (ranked 256 (words (now (list .entry)))))) 256) Done Full) × (map (act-of (net (now (links .entry)))) (ranked 256 (words (now (list .exit)))) ≡ cond (ltb (length (map (act-of (net (now (links .entry)))) (ranked 256 (words (now (list .entry)))))) 256) (by-rank (net (now (links .entry))) (act-of (net (now (links .entry))) x) (map (act-of (net (now (links .entry)))) (ranked 256 (words (now (list .entry)))))) (map (act-of (net (now (links .entry)))) (ranked 256 (words (now (list .entry)))))) ⌝ }
 {
-    let n = lists::count(list, MOST);
-    if MOST <= n {
+    let n = lists::count(list, MOST_WAITING);
+    if MOST_WAITING <= n {
         return Filed::Full;
     }
     place(links, list, n, x, rank);
@@ -123,7 +101,7 @@ fn carry(units: &mut [u8], x: u64) -> Filed
     requires { ⌜ 65536 ≤ length (now units) ⌝ }
     ensures { λ r. ⌜ ((c : Circuit) → (r ≡ answer (room ((view c (now (units .entry)) .lists) .carried) 256 (carried≔ (view c (now (units .entry)) .lists) (snoc ((view c (now (units .entry)) .lists) .carried) (act-of c x))))) × (view c (now (units .exit)) ≡ with-lists (view c (now (units .entry))) (lists-after (view c (now (units .entry)) .lists) (room ((view c (now (units .entry)) .lists) .carried) 256 (carried≔ (view c (now (units .entry)) .lists) (snoc ((view c (now (units .entry)) .lists) .carried) (act-of c x))))))) ⌝ }
 {
-    stack_push(&mut units[CARRIED..DELIVERED], MOST, x)
+    stack_push(&mut units[CARRIED..DELIVERED], MOST_WAITING, x)
 }
 
 // x goes where it belongs, if there is room.
@@ -159,7 +137,7 @@ pub fn take_late(units: &mut [u8]) -> Taken
     requires { ⌜ 65536 ≤ length (now units) ⌝ }
     ensures { λ r. ⌜ ((c : Circuit) → (act-taken (act-of c) r ≡ first-of (view c (now (units .entry)) .lists .late)) × (view c (now (units .exit)) ≡ with-lists (view c (now (units .entry))) (late≔ (view c (now (units .entry)) .lists) (drop 1 (view c (now (units .entry)) .lists .late))))) ⌝ }
 {
-    stack_pop(&mut units[LATE..CARRIED], MOST)
+    stack_pop(&mut units[LATE..CARRIED], MOST_WAITING)
 }
 
 // The oldest of the delivered events is taken off.
@@ -175,7 +153,7 @@ pub fn take_pending(units: &mut [u8]) -> Taken
     requires { ⌜ 65536 ≤ length (now units) ⌝ }
     ensures { λ r. ⌜ ((c : Circuit) → (act-taken (act-of c) r ≡ first-of (view c (now (units .entry)) .lists .pending)) × (view c (now (units .exit)) ≡ with-lists (view c (now (units .entry))) (pending≔ (view c (now (units .entry)) .lists) (drop 1 (view c (now (units .entry)) .lists .pending))))) ⌝ }
 {
-    stack_pop(&mut units[PENDING..LATE], MOST)
+    stack_pop(&mut units[PENDING..LATE], MOST_WAITING)
 }
 
 // How many are carried.
@@ -184,7 +162,7 @@ pub fn carried(units: &[u8]) -> usize
     ensures { λ r. ⌜ ((c : Circuit) → r ≡ length (view c (now (units .entry)) .lists .carried)) ⌝ }
     ensures { λ r. ⌜ r ≤ 256 ⌝ }
 {
-    lists::count(&units[CARRIED..DELIVERED], MOST)
+    lists::count(&units[CARRIED..DELIVERED], MOST_WAITING)
 }
 
 // The late list is empty: the carried are filed there, in the order raised.

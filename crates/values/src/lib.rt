@@ -2,6 +2,9 @@
 ghost use mathlib.Core.Path.{_≡_};
 ghost use Rattle.model.specs.Value.{truthy, as-int, as-float, same, bit, kind-of, content-of, value-of};
 ghost use Rattle.model.specs.Opening.{enabled};
+use floats::INFINITY;
+use floats::ONE;
+use floats::SIGN;
 use floats::eq64;
 use floats::of_int;
 use floats::to_int;
@@ -13,15 +16,6 @@ const NOTHING: u64 = 0;
 
 // The kind of a Float.
 const FLOAT: u64 = 2;
-
-// The sign's bit of a Float; what lies below it is its magnitude.
-const SIGN: u64 = 0x8000_0000_0000_0000;
-
-// The magnitude of an infinity; those above it are NaNs.
-const INFINITY: u64 = 0x7ff0_0000_0000_0000;
-
-// 1.0
-const ONE: u64 = 0x3ff0_0000_0000_0000;
 
 // 1 for true.
 fn bit(t: bool) -> u64
