@@ -13,6 +13,8 @@ use lists::Filed;
 use lists::Taken;
 use steps::Step;
 use steps::exec;
+use stops::LIST_FULL;
+use stops::RUNAWAY;
 use units::calls::pop_call;
 
 pub mod pushing;
@@ -22,12 +24,6 @@ pub struct Ran {
     pub left: u64,
     pub stop: u64,
 }
-
-// A tick would make one step more than it may.
-const RUNAWAY: u64 = 11;
-
-// A list was full.
-const LIST_FULL: u64 = 12;
 
 // The gate that has input i makes its step, and what it fires is called.
 fn make_call(

@@ -20,6 +20,7 @@ ghost use Rattle.passes.specs.Taking.{next-of, Takes, over, one-begun, W
 use chain::Ran;
 use links::rank_of_gate;
 use lists::Taken;
+use stops::LIST_FULL;
 use unit::Act;
 use unit::unit;
 use units::Place;
@@ -40,9 +41,6 @@ pub enum Next {
     Nothing,
     Begins(Act),
 }
-
-// A list was full, or one more unit would begin than may.
-const LIST_FULL: u64 = 12;
 
 // How many units may still begin.
 fn units_left(units: &[u8]) -> usize

@@ -25,6 +25,9 @@ use log::write_record;
 use opening::open;
 use passes::late_pass;
 use passes::main_pass;
+use stops::LIST_FULL;
+use stops::LOG_FULL;
+use stops::RUNAWAY;
 use units::begun::begun;
 use units::raising::carried;
 use wires;
@@ -35,15 +38,6 @@ pub struct Ticked {
     pub size: usize,
     pub stop: u64,
 }
-
-// More steps than a tick may make.
-const RUNAWAY: u64 = 11;
-
-// A list was full.
-const LIST_FULL: u64 = 12;
-
-// A record did not fit.
-const LOG_FULL: u64 = 13;
 
 // The late pass, unless the opening found a list full.
 fn run_late(

@@ -25,6 +25,7 @@ use links::kind_of_gate;
 use links::output;
 use lists::Filed;
 use settling::settle;
+use stops::LIST_FULL;
 use units::Place;
 use units::calls::clear_calls;
 use units::calls::push_call;
@@ -41,9 +42,6 @@ pub enum Act {
     Waiting(u64),
     Event(u64),
 }
-
-// A list was full.
-const LIST_FULL: u64 = 12;
 
 // The form of a stimulus, which brings a constant.
 const STIMULUS: usize = 2;
