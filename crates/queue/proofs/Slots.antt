@@ -11,6 +11,7 @@ use lib.ListN.{length, getD, set, take, drop, length-drop, take-append-drop, Lis
 use lib.Seq.{drop-cons, drop-set-lt, getD-set-same, getD-set-other, getD-take, length-take-le, take-all, take-at, drop-at, drop-append-le, take-append-le, drop-drop, paste, paste-suc, drop-paste, length-paste}
 use Rattle.words.specs.Words.{words}
 use Rattle.words.proofs.Laws.{words-long}
+use Rattle.words.proofs.Putting.{put-here, put-before, put-apart}
 use Rattle.model.specs.Base.{both}
 use Rattle.model.specs.Value.{value-of}
 use Rattle.model.specs.State.{Countdown}
@@ -41,57 +42,6 @@ eight-words s p a b c d e f g h l ea eb ec ed ee ef eg eh =
     (next-word 2 (p + 5) (p + 6) (words s) f _ (omega arith) ef (omega arith)
     (next-word 1 (p + 6) (p + 7) (words s) g _ (omega arith) eg (omega arith)
     (next-word 0 (p + 7) (p + 8) (words s) h _ (omega arith) eh (omega arith) refl)))))))
-
--- one more of them is put
-pub put-next : (s t u vs : List ℕ) (p i : ℕ) → (p + 8) * 8 ≤ length s → i < 8 → length vs ≡ 8 → words t ≡ paste (words s) p vs i → words u ≡ set (words t) (p + i) (getD vs i 0)
-    → words u ≡ paste (words s) p vs (i + 1)
-put-next s t u vs p i l h k e f =
-    let m = words-long (p + 8) s l in
-    rw (f, e, add-one) (paste-suc (words s) p vs i 0 (omega arith) (omega arith))
-
--- all eight are put
-pub put-last : (s t vs : List ℕ) (p i : ℕ) → 8 ≤ i → i ≤ 8 → words t ≡ paste (words s) p vs i → words t ≡ paste (words s) p vs 8
-put-last s t vs p i h k e = let m : i ≡ 8 = omega arith in e ∙ ap (paste (words s) p vs) m
-
--- eight words from p on became vs
-module _ (w vs : List ℕ) (p : ℕ) (l : p + 8 ≤ length w) (k : length vs ≡ 8) where
-  -- they are vs
-  put-here : take 8 (drop p (paste w p vs 8)) ≡ vs
-  put-here =
-      rw (append-assoc (take p w) (take 8 vs) (drop (p + 8) w), drop-at (take p w) (take 8 vs ++ drop (p + 8) w) p (length-take-le p w (omega arith)))
-      (take-at (take 8 vs) (drop (p + 8) w) 8 (length-take-le 8 vs (omega arith)) ∙ take-all 8 vs (omega arith))
-
-  -- a word before p
-  put-before : (i : ℕ) → i < p → getD (paste w p vs 8) i 0 ≡ getD w i 0
-  put-before i h =
-      let m = length-take-le p w (omega arith) in
-      rw (append-assoc (take p w) (take 8 vs) (drop (p + 8) w), List·getD-append (take p w) (take 8 vs ++ drop (p + 8) w) 0 i (omega arith)) (getD-take p w i 0 h)
-
-  -- eight words that lie before p, whatever comes behind
-  front : (q : ℕ) (r : List ℕ) → q + 8 ≤ p → take 8 (drop q (take p w ++ r)) ≡ take 8 (drop q (take p w))
-  front q r h =
-      let m = length-take-le p w (omega arith) in
-      let d = length-drop q (take p w) in
-      rw (drop-append-le q (take p w) r (omega arith)) (take-append-le 8 (drop q (take p w)) r (omega arith))
-
-  -- eight words apart from them
-  put-apart : (q : ℕ) → (leb (q + 8) p ≡ false → p + 8 ≤ q) → take 8 (drop q (paste w p vs 8)) ≡ take 8 (drop q w)
-  put-apart q apart = go (leb (q + 8) p) refl
-    where
-      go : (b : Bool) → leb (q + 8) p ≡ b → take 8 (drop q (paste w p vs 8)) ≡ take 8 (drop q w)
-      go true e =
-          let h : q + 8 ≤ p = leb-true (q + 8) p e in
-          rw (append-assoc (take p w) (take 8 vs) (drop (p + 8) w))
-          (front q (take 8 vs ++ drop (p + 8) w) h ∙ sym (front q (drop p w) h) ∙ ap (λ (x : List ℕ). take 8 (drop q x)) (take-append-drop p w))
-      go false e =
-          let h : p + 8 ≤ q = apart e in
-          let m : q ≡ p + 8 + (q - (p + 8)) = omega arith in
-          ap (λ (x : List ℕ). take 8 x)
-          (ap (λ (n : ℕ). drop n (paste w p vs 8)) m
-          ∙ sym (drop-drop (q - (p + 8)) (p + 8) (paste w p vs 8))
-          ∙ ap (drop (q - (p + 8))) (drop-paste w p vs 8 (omega arith) (omega arith))
-          ∙ drop-drop (q - (p + 8)) (p + 8) w
-          ∙ ap (λ (n : ℕ). drop n w) (sym m))
 
 -- ---- a slot
 
@@ -125,25 +75,25 @@ module _ (seconds : Bool) (w w₁ w₂ ks cs : List ℕ) (i v : ℕ) (k : Countd
   -- the words before the rows
   before : (j : ℕ) → j < 258 → getD w₂ j 0 ≡ getD w j 0
   before j m =
-      ap (λ (x : List ℕ). getD x j 0) e₂ ∙ put-before w₁ cs (266 + i * 16) (omega (arith, length₁)) lc j (omega arith)
-      ∙ ap (λ (x : List ℕ). getD x j 0) e₁ ∙ put-before w ks (258 + i * 16) (omega arith) lk j (omega arith)
+      ap (λ (x : List ℕ). getD x j 0) e₂ ∙ put-before 8 w₁ cs (266 + i * 16) (omega (arith, length₁)) lc j (omega arith)
+      ∙ ap (λ (x : List ℕ). getD x j 0) e₁ ∙ put-before 8 w ks (258 + i * 16) (omega arith) lk j (omega arith)
 
   -- eight words apart from both
   apart : (q : ℕ) → (leb (q + 8) (266 + i * 16) ≡ false → 266 + i * 16 + 8 ≤ q) → (leb (q + 8) (258 + i * 16) ≡ false → 258 + i * 16 + 8 ≤ q)
       → take 8 (drop q w₂) ≡ take 8 (drop q w)
   apart q b a =
-      ap (λ (x : List ℕ). take 8 (drop q x)) e₂ ∙ put-apart w₁ cs (266 + i * 16) (omega (arith, length₁)) lc q b
-      ∙ ap (λ (x : List ℕ). take 8 (drop q x)) e₁ ∙ put-apart w ks (258 + i * 16) (omega arith) lk q a
+      ap (λ (x : List ℕ). take 8 (drop q x)) e₂ ∙ put-apart 8 w₁ cs (266 + i * 16) (omega (arith, length₁)) lc 8 q b
+      ∙ ap (λ (x : List ℕ). take 8 (drop q x)) e₁ ∙ put-apart 8 w ks (258 + i * 16) (omega arith) lk 8 q a
 
   -- the row itself
   kinds-here : take 8 (drop (258 + i * 16) w₂) ≡ ks
   kinds-here =
       ap (λ (x : List ℕ). take 8 (drop (258 + i * 16) x)) e₂
-      ∙ put-apart w₁ cs (266 + i * 16) (omega (arith, length₁)) lc (258 + i * 16) (λ z. omega (arith, leb-false (258 + i * 16 + 8) (266 + i * 16) z))
-      ∙ ap (λ (x : List ℕ). take 8 (drop (258 + i * 16) x)) e₁ ∙ put-here w ks (258 + i * 16) (omega arith) lk
+      ∙ put-apart 8 w₁ cs (266 + i * 16) (omega (arith, length₁)) lc 8 (258 + i * 16) (λ z. omega (arith, leb-false (258 + i * 16 + 8) (266 + i * 16) z))
+      ∙ ap (λ (x : List ℕ). take 8 (drop (258 + i * 16) x)) e₁ ∙ put-here 8 w ks (258 + i * 16) (omega arith) lk
 
   contents-here : take 8 (drop (266 + i * 16) w₂) ≡ cs
-  contents-here = ap (λ (x : List ℕ). take 8 (drop (266 + i * 16) x)) e₂ ∙ put-here w₁ cs (266 + i * 16) (omega (arith, length₁)) lc
+  contents-here = ap (λ (x : List ℕ). take 8 (drop (266 + i * 16) x)) e₂ ∙ put-here 8 w₁ cs (266 + i * 16) (omega (arith, length₁)) lc
 
   -- the slot is the new record, and the other slots are as before
   pub row-placed : Placed seconds w (set w₂ (2 + i) v) i (record { row = both value-of ks cs; left = k })
@@ -185,10 +135,14 @@ counted-slot s t seconds dt i w v k n l h ew ek en ev et =
     rw et (left-placed seconds (words s) i v (tick-down dt (of-word seconds (getD (words s) (2 + i) 0))) m h (sym (ap (λ (b : Bool). of-word b v) c) ∙ ev ∙ d))
 
 -- a record is stored
-pub stored-slot : (s t u z : List ℕ) (i v : ℕ) (r : Record) → 34832 ≤ length s → i < 256 → (words t ≡ paste (words s) (258 + i * 16) (r .kinds) 8) × (length (r .kinds) ≡ 8)
-    → (words u ≡ paste (words t) (266 + i * 16) (r .contents) 8) × (length (r .contents) ≡ 8)
+pub stored-slot : (s t u z : List ℕ) (i v : ℕ) (r : Record) → 34832 ≤ length s → i < 256 → length (r .kinds) ≡ 8 → length (r .contents) ≡ 8
+    → words t ≡ paste (words s) (258 + i * 16) (r .kinds) (length (r .kinds)) → words u ≡ paste (words t) (266 + i * 16) (r .contents) (length (r .contents))
     → of-word (counts-seconds (counted (r .left))) v ≡ counted (r .left) → words z ≡ set (words u) (2 + i) v
     → Placed (counts-seconds (counted (r .left))) (words s) (words z) i (queued r)
 unfolding queued
-stored-slot s t u z i v r l h et eu ev ez =
-    rw ez (row-placed (counts-seconds (counted (r .left))) (words s) (words t) (words u) (r .kinds) (r .contents) i v (counted (r .left)) (words-long 4354 s l) h (et .1) (eu .1) (et .0) (eu .0) ev)
+stored-slot s t u z i v r l h lk lc et eu ev ez =
+    rw ez
+    (row-placed (counts-seconds (counted (r .left))) (words s) (words t) (words u) (r .kinds) (r .contents) i v (counted (r .left)) (words-long 4354 s l) h lk lc
+    (et ∙ ap (paste (words s) (258 + i * 16) (r .kinds)) lk)
+    (eu ∙ ap (paste (words t) (266 + i * 16) (r .contents)) lc)
+    ev)

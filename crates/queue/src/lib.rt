@@ -4,7 +4,6 @@ ghost use mathlib.Core.Bool.{false};
 ghost use mathlib.Core.List.{map};
 ghost use Prim.Native.Nat.{_+_, _*_, _%_, _<_, _≤_, min};
 ghost use lib.ListN.{length, getD, take, drop};
-ghost use lib.Seq.{paste};
 ghost use Rattle.words.specs.Words.{words};
 ghost use Rattle.model.specs.State.{idle, records≔};
 ghost use Rattle.model.specs.Delays.{queue-record, hand-out, advance-records};
@@ -14,6 +13,7 @@ use delays::countdown::Countdown;
 use delays::countdown::of_word;
 use words::get;
 use words::put;
+use words::rows::put_row;
 
 // A record: eight values, by their kinds and contents, travel together with their countdown.
 pub struct Record {
@@ -88,18 +88,6 @@ fn get_eight(queue: &[u8], p: usize) -> [u64; 8]
     ]
 }
 
-// Eight words from word p on become these.
-fn put_eight(queue: &mut [u8], p: usize, values: [u64; 8])
-    requires { ⌜ (p + 8) * 8 ≤ length (now queue) ⌝ }
-    ensures { λ _. ⌜ (words (now (queue .exit)) ≡ paste (words (now (queue .entry))) p values 8) × (length values ≡ 8) ⌝ }
-{
-    let mut i = 0;
-    while i < 8 {
-        put(queue, p + i, values[i]);
-        i += 1;
-    }
-}
-
 // The record in slot s.
 fn load(queue: &[u8], seconds: bool, s: usize) -> Record
     requires { ⌜ (34832 ≤ length (now queue)) × (s < 256) ⌝ }
@@ -123,8 +111,8 @@ fn store(queue: &mut [u8], s: usize, r: Record)
     let kinds = r.kinds;
     let contents = r.contents;
     let left = r.left;
-    put_eight(queue, KINDS + s * ROW, kinds);
-    put_eight(queue, CONTENTS + s * ROW, contents);
+    put_row(queue, KINDS + s * ROW, &kinds);
+    put_row(queue, CONTENTS + s * ROW, &contents);
     put(queue, COUNTDOWNS + s, left.word());
 }
 

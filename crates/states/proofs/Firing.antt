@@ -2,14 +2,15 @@
 use Prim.Native.Nat.{ℕ, suc, _+_, _-_, _*_, _≤_, _<_, min}
 use mathlib.Core.Path.{_≡_, refl, sym, ap, ap₂, _∙_, subst}
 use mathlib.Core.Bool.{Bool, true, false, cond}
-use mathlib.Core.List.{List, [], _∷_, _++_, map}
+use mathlib.Core.List.{List, [], _∷_, _++_, map, append-assoc}
 use native.Mathlib.Omega.{arith}
 use borrow.Author.Tests.{lt-ltb, le-ltb}
 use lib.Dec.{leb, ltb}
 use lib.ListN.{length, getD, set, take, drop, length-set, length-map}
-use lib.Seq.{take-all, take-suc, take-suc-set, take-set-le, take-set-lt, drop-set-add, getD-take, getD-drop, getD-set-same, getD-set-other}
+use lib.Seq.{length-take-le, take-at, paste, take-all, take-suc, take-suc-set, take-set-le, getD-take, getD-drop, getD-set-same, getD-set-other}
 use Rattle.words.specs.Words.{words}
 use Rattle.words.proofs.Laws.{length-words}
+use Rattle.words.proofs.Putting.{put-here}
 use Rattle.lists.specs.declared.Filed.{Filed}
 use Rattle.lists.specs.declared.Filed.the-variants.{Full, Done}
 use Rattle.model.specs.declared.Value.{Value}
@@ -32,11 +33,6 @@ use Rattle.states.proofs.Lists.{part-length, part-front}
 use Rattle.states.proofs.Lending.{lent-delay, becomes, turns-gate, becomes-past, turns-past, delay-past}
 
 -- ---- the 32 places
-
--- a store into place i
-placed : (ws : List ℕ) (i v : ℕ) → i < 32 → part (set ws (11 + i) v) 11 32 ≡ set (part ws 11 32) i v
-unfolding part
-placed ws i v h = rw (drop-set-add 11 ws i v) (take-set-lt 32 (drop 11 ws) i v h)
 
 -- what place i holds
 place : (ws : List ℕ) (i : ℕ) → i < 32 → getD (part ws 11 32) i 0 ≡ getD ws (11 + i) 0
@@ -77,30 +73,13 @@ load-last s xs i h l q t = sym (take-all i xs (omega arith)) ∙ q ∙ take-all 
 
 -- ---- the places stored
 
--- the first i places are those of ps, and what stands before them is the same
-pub record Copied (ws vs ps : List ℕ) (i : ℕ) : Type 0 where
-  pub front : take 11 vs ≡ take 11 ws
-  pub here : take i (part vs 11 32) ≡ take i ps
-
-pub store-first : (ws ps : List ℕ) → Copied ws ws ps 0
-store-first ws ps = record { front = refl; here = refl }
-
-pub store-next :
-    (ws s vs ps : List ℕ) (i : ℕ) → length s ≡ 344 → length ps ≡ 32 → i < 32 → Copied ws (words s) ps i → vs ≡ set (words s) (11 + i) (getD ps i 0) →
-    Copied ws vs ps (i + 1)
-store-next ws s vs ps i h l t q e =
-    record {
-      front = ap (take 11) e ∙ take-set-le 11 (words s) (11 + i) (getD ps i 0) (omega arith) ∙ q .front;
-      here =
-          ap (λ (w : List ℕ). take (i + 1) (part w 11 32)) e ∙ ap (take (i + 1)) (placed (words s) i (getD ps i 0) t)
-          ∙ copied-next (part (words s) 11 32) ps i (getD ps i 0) (omega (arith, places s h)) (omega arith) (q .here) refl;
-    }
-
-pub store-last :
-    (ws s ps : List ℕ) (i : ℕ) → length s ≡ 344 → length ps ≡ 32 → Copied ws (words s) ps i → 32 ≤ i →
-    (take 11 (words s) ≡ take 11 ws) × (part (words s) 11 32 ≡ ps)
-store-last ws s ps i h l q t =
-    (q .front, sym (take-all i (part (words s) 11 32) (omega (arith, places s h))) ∙ q .here ∙ take-all i ps (omega arith))
+-- the places of a slot became ps: what stands before them is the same
+stored-places : (ws ps : List ℕ) → length ws ≡ 43 → length ps ≡ 32 → (take 11 (paste ws 11 ps 32) ≡ take 11 ws) × (part (paste ws 11 ps 32) 11 32 ≡ ps)
+unfolding part
+stored-places ws ps l k = (
+  ap (take 11) (append-assoc (take 11 ws) (take 32 ps) (drop 43 ws)) ∙ take-at (take 11 ws) (take 32 ps ++ drop 43 ws) 11 (length-take-le 11 ws (omega arith)),
+  put-here 32 ws ps 11 (omega arith) k,
+)
 
 -- ---- the fires loaded and stored
 
@@ -111,13 +90,15 @@ unfolding fires-of fires-in
 loaded-fires s ws ps h n i eh en ep = λ j. under-way s (min 32 (en j)) (eh j) (ep j)
 
 pub stored-fires :
-    (f : Fires) (bs w₁ w₂ w₃ : List ℕ) → length bs ≡ 344 → w₁ ≡ set (words bs) 9 (f .first) → w₂ ≡ set w₁ 10 (f .count) →
-    (take 11 w₃ ≡ take 11 w₂) × (part w₃ 11 32 ≡ f .words) → Becomes (f .seconds) (words bs) w₃ (λ d. fires≔ d (fires-of f))
+    (f : Fires) (bs w₁ w₂ w₃ : List ℕ) → length bs ≡ 344 → length (f .words) ≡ 32 → w₁ ≡ set (words bs) 9 (f .first) → w₂ ≡ set w₁ 10 (f .count) →
+    w₃ ≡ paste w₂ 11 (f .words) (length (f .words)) → Becomes (f .seconds) (words bs) w₃ (λ d. fires≔ d (fires-of f))
 unfolding fires-of fires-in
-stored-fires f bs w₁ w₂ w₃ l e₁ e₂ p qs =
+stored-fires f bs w₁ w₂ w₃ l k e₁ e₂ e₃ qs =
     let ws = words bs in
     let lw : length ws ≡ 43 = length-words 43 bs l in
     let w : w₂ ≡ set (set ws 9 (f .first)) 10 (f .count) = e₂ ∙ ap (λ (t : List ℕ). set t 10 (f .count)) e₁ in
+    let lw₂ : length w₂ ≡ 43 = ap length w ∙ length-set (set ws 9 (f .first)) 10 (f .count) ∙ length-set ws 9 (f .first) ∙ lw in
+    let p : (take 11 w₃ ≡ take 11 w₂) × (part w₃ 11 32 ≡ f .words) = rw (e₃ ∙ ap (paste w₂ 11 (f .words)) k) (stored-places w₂ (f .words) lw₂ k) in
     let front : take 9 w₃ ≡ take 9 ws = part-front 11 9 w₂ w₃ (omega arith) (p .0) ∙ ap (take 9) w ∙ take-set-le 9 (set ws 9 (f .first)) 10 (f .count) (omega arith) ∙ take-set-le 9 ws 9 (f .first) (omega arith) in
     let same : (i : ℕ) → i < 11 → getD w₃ i 0 ≡ getD (set (set ws 9 (f .first)) 10 (f .count)) i 0 = λ i h. sym (getD-take 11 w₃ i 0 h) ∙ ap (λ (t : List ℕ). getD t i 0) (p .0) ∙ getD-take 11 w₂ i 0 h ∙ ap (λ (t : List ℕ). getD t i 0) w in
     let first : getD w₃ 9 0 ≡ f .first = same 9 (omega arith) ∙ getD-set-other (set ws 9 (f .first)) 10 9 (f .count) 0 (λ q. omega arith) ∙ getD-set-same ws 9 (f .first) 0 (omega arith) in

@@ -5,7 +5,7 @@ ghost use mathlib.Core.List.{[]};
 ghost use mathlib.Core.Option.{some};
 ghost use Prim.Native.Nat.{_≤_};
 ghost use lib.Dec.{leb, ltb};
-ghost use lib.ListN.{length, take};
+ghost use lib.ListN.{length};
 ghost use Rattle.words.specs.Words.{words};
 ghost use Rattle.lists.specs.declared.Filed.the-variants.{Full, Done};
 ghost use Rattle.model.specs.Value.{truthy, bit};
@@ -39,6 +39,7 @@ use values::truthy;
 use values::value_of;
 use words::get;
 use words::put;
+use words::rows::put_row;
 
 // Where the words of a slot stand. First the seconds so far, and a mark if it runs.
 const ELAPSED: usize = 0;
@@ -217,18 +218,6 @@ fn load_places(slot: &[u8]) -> [u64; MOST_FIRES]
     places
 }
 
-// The places of the fires go into the slot.
-fn store_places(slot: &mut [u8], places: [u64; MOST_FIRES])
-    requires { ⌜ length (now slot) ≡ 344 ⌝ }
-    ensures { λ _. ⌜ (take 11 (words (now (slot .exit))) ≡ take 11 (words (now (slot .entry)))) × (part (words (now (slot .exit))) 11 32 ≡ places) ⌝ }
-{
-    let mut i: usize = 0;
-    while i < MOST_FIRES {
-        put(slot, FIRES + i, places[i]);
-        i += 1;
-    }
-}
-
 // The buffer in exec mode in the slot.
 fn load_fires(slot: &[u8], seconds: bool) -> Fires
     requires { ⌜ length (now slot) ≡ 344 ⌝ }
@@ -254,7 +243,7 @@ fn store_fires(slot: &mut [u8], fires: Fires)
     put(slot, FIRST, fires.first as u64);
     put(slot, COUNT, fires.count as u64);
     let places = fires.words;
-    store_places(slot, places);
+    put_row(slot, FIRES, &places);
 }
 
 // One fire more, if there is room.

@@ -2,15 +2,15 @@
 use Prim.Native.Nat.{ℕ, zero, suc, _+_, _-_, _*_, _≤_, _<_, min}
 use mathlib.Core.Path.{_≡_, refl, sym, ap, ap₂, _∙_}
 use mathlib.Core.Bool.{Bool, true, false, cond, not, _||_, or-true}
-use mathlib.Core.List.{List, [], _∷_, _++_, map, append-assoc}
+use mathlib.Core.List.{List, [], _∷_, _++_, map}
 use native.Mathlib.Omega.{arith}
-use native.Mathlib.Numerals.{add-one}
-use borrow.Author.Tests.{le-leb, lt-leb, leb-true, leb-false, eq-eqb, ne-eqb}
+use borrow.Author.Tests.{le-leb, lt-leb, leb-false, eq-eqb, ne-eqb}
 use lib.Dec.{eqb, leb}
-use lib.ListN.{length, getD, set, take, drop, length-set, length-drop, length-map, length-take, take-append-drop, List·getD-eq-default}
-use lib.Seq.{getD-take, getD-drop, getD-set-same, getD-set-other, length-take-le, take-all, take-at, drop-at, take-append-le, drop-append-le, drop-drop, paste, paste-zero, paste-suc, drop-paste, length-paste}
+use lib.ListN.{length, getD, set, drop, length-set, length-drop, length-map, length-take, List·getD-eq-default}
+use lib.Seq.{getD-take, getD-drop, getD-set-same, getD-set-other, length-take-le, paste, paste-zero, paste-suc, length-paste}
 use Rattle.words.specs.Words.{words, tail, Stored}
 use Rattle.words.proofs.Laws.{words-long}
+use Rattle.words.proofs.Putting.{put-here, put-apart}
 use Rattle.lists.specs.Lists.{queued}
 use Rattle.model.specs.declared.Value.{Value}
 use Rattle.model.specs.declared.Value.the-variants.{Nothing}
@@ -269,62 +269,17 @@ module _ (bs : List ℕ) (h n k : ℕ) (o : Outbox bs h) (e : Held bs (1 - h) n)
 
 -- ---- eight words in a row
 
--- what i turns of putting vs from word p on have done to the bytes s
-pub record Put (s t vs : List ℕ) (p i : ℕ) : Type 0 where
-  pub words : words t ≡ paste (words s) p vs i
-  pub tail : tail t ≡ tail s
-
-pub put-first : (s vs : List ℕ) (p : ℕ) → Put s s vs p 0
-put-first s vs p = record { words = paste-zero (words s) p vs; tail = refl }
-
-pub put-next : (s t u vs : List ℕ) (p i : ℕ) → (p + 8) * 8 ≤ length s → i < 8 → length vs ≡ 8 → Put s t vs p i → Stored t u (p + i) (getD vs i 0) → Put s u vs p (i + 1)
-put-next s t u vs p i l h k e f =
-    let m = words-long (p + 8) s l in
-    record {
-      words = rw (f .words, e .words, add-one) (paste-suc (words s) p vs i 0 (omega arith) (omega arith));
-      tail = f .tail ∙ e .tail;
-    }
-
-pub put-last :
-    (s t vs : List ℕ) (p i : ℕ) → 8 ≤ i → i ≤ 8 → Put s t vs p i → length vs ≡ 8 →
-    (words t ≡ paste (words s) p vs 8) × (tail t ≡ tail s) × (length vs ≡ 8)
-put-last s t vs p i h k e n = let m : i ≡ 8 = omega arith in (e .words ∙ ap (paste (words s) p vs) m, e .tail, n)
-
 -- eight words from p on became vs
 module _ (w vs : List ℕ) (p : ℕ) (l : p + 8 ≤ length w) (k : length vs ≡ 8) where
   -- they are vs
-  put-here : part (paste w p vs 8) p 8 ≡ vs
+  row-here : part (paste w p vs 8) p 8 ≡ vs
   unfolding part
-  put-here =
-      rw (append-assoc (take p w) (take 8 vs) (drop (p + 8) w), drop-at (take p w) (take 8 vs ++ drop (p + 8) w) p (length-take-le p w (omega arith)))
-      (take-at (take 8 vs) (drop (p + 8) w) 8 (length-take-le 8 vs (omega arith)) ∙ take-all 8 vs (omega arith))
-
-  -- eight words that lie before p, whatever comes behind
-  front : (q : ℕ) (r : List ℕ) → q + 8 ≤ p → take 8 (drop q (take p w ++ r)) ≡ take 8 (drop q (take p w))
-  front q r h =
-      let m = length-take-le p w (omega arith) in
-      let d = length-drop q (take p w) in
-      rw (drop-append-le q (take p w) r (omega arith)) (take-append-le 8 (drop q (take p w)) r (omega arith))
+  row-here = put-here 8 w vs p l k
 
   -- eight words apart from them
-  put-apart : (q : ℕ) → (leb (q + 8) p ≡ false → p + 8 ≤ q) → part (paste w p vs 8) q 8 ≡ part w q 8
+  row-apart : (q : ℕ) → (leb (q + 8) p ≡ false → p + 8 ≤ q) → part (paste w p vs 8) q 8 ≡ part w q 8
   unfolding part
-  put-apart q apart = go (leb (q + 8) p) refl
-    where
-      go : (b : Bool) → leb (q + 8) p ≡ b → take 8 (drop q (paste w p vs 8)) ≡ take 8 (drop q w)
-      go true e =
-          let h : q + 8 ≤ p = leb-true (q + 8) p e in
-          rw (append-assoc (take p w) (take 8 vs) (drop (p + 8) w))
-          (front q (take 8 vs ++ drop (p + 8) w) h ∙ sym (front q (drop p w) h) ∙ ap (λ (x : List ℕ). take 8 (drop q x)) (take-append-drop p w))
-      go false e =
-          let h : p + 8 ≤ q = apart e in
-          let m : q ≡ p + 8 + (q - (p + 8)) = omega arith in
-          ap (λ (x : List ℕ). take 8 x)
-          (ap (λ (n : ℕ). drop n (paste w p vs 8)) m
-          ∙ sym (drop-drop (q - (p + 8)) (p + 8) (paste w p vs 8))
-          ∙ ap (drop (q - (p + 8))) (drop-paste w p vs 8 (omega arith) (omega arith))
-          ∙ drop-drop (q - (p + 8)) (p + 8) w
-          ∙ ap (λ (n : ℕ). drop n w) (sym m))
+  row-apart = put-apart 8 w vs p l k 8
 
 -- Words put into the rows change that table, and no other.
 cut-paste :
@@ -352,9 +307,9 @@ module _ (senders rows ks cs : List ℕ) (k g : ℕ) (ls : length senders ≡ 12
       let n = length-paste rows (16 * k) ks 8 (omega arith) (omega arith) in
       rw (
         getD-set-same senders k g 0 (omega arith),
-        put-apart (paste rows (16 * k) ks 8) cs (16 * k + 8) (omega arith) lc (16 * k) (λ z. omega (arith, leb-false (16 * k + 8) (16 * k + 8) z)),
-        put-here rows ks (16 * k) (omega arith) lk,
-        put-here (paste rows (16 * k) ks 8) cs (16 * k + 8) (omega arith) lc,
+        row-apart (paste rows (16 * k) ks 8) cs (16 * k + 8) (omega arith) lc (16 * k) (λ z. omega (arith, leb-false (16 * k + 8) (16 * k + 8) z)),
+        row-here rows ks (16 * k) (omega arith) lk,
+        row-here (paste rows (16 * k) ks 8) cs (16 * k + 8) (omega arith) lc,
       )
 
   event-other : (j : ℕ) → (j ≡ k → ⊥) → event-at (set senders k g) new-rows j ≡ event-at senders rows j
@@ -363,10 +318,10 @@ module _ (senders rows ks cs : List ℕ) (k g : ℕ) (ls : length senders ≡ 12
       let n = length-paste rows (16 * k) ks 8 (omega arith) (omega arith) in
       rw (
         getD-set-other senders k j g 0 d,
-        put-apart (paste rows (16 * k) ks 8) cs (16 * k + 8) (omega arith) lc (16 * j) (λ z. omega (arith, leb-false (16 * j + 8) (16 * k + 8) z)),
-        put-apart rows ks (16 * k) (omega arith) lk (16 * j) (λ z. omega (arith, leb-false (16 * j + 8) (16 * k) z)),
-        put-apart (paste rows (16 * k) ks 8) cs (16 * k + 8) (omega arith) lc (16 * j + 8) (λ z. omega (arith, leb-false (16 * j + 8 + 8) (16 * k + 8) z)),
-        put-apart rows ks (16 * k) (omega arith) lk (16 * j + 8) (λ z. omega (arith, leb-false (16 * j + 8 + 8) (16 * k) z)),
+        row-apart (paste rows (16 * k) ks 8) cs (16 * k + 8) (omega arith) lc (16 * j) (λ z. omega (arith, leb-false (16 * j + 8) (16 * k + 8) z)),
+        row-apart rows ks (16 * k) (omega arith) lk (16 * j) (λ z. omega (arith, leb-false (16 * j + 8) (16 * k) z)),
+        row-apart (paste rows (16 * k) ks 8) cs (16 * k + 8) (omega arith) lc (16 * j + 8) (λ z. omega (arith, leb-false (16 * j + 8 + 8) (16 * k + 8) z)),
+        row-apart rows ks (16 * k) (omega arith) lk (16 * j + 8) (λ z. omega (arith, leb-false (16 * j + 8 + 8) (16 * k) z)),
       )
 
 -- ---- an event is sent
@@ -494,23 +449,23 @@ module _ (bs : List ℕ) (h n g : ℕ) (ks cs : List ℕ) (o : Outbox bs h) (e :
 
     -- it has not
     pub send-new :
-        (bs₁ bs₂ bs₃ bs₄ : List ℕ) → 65536 ≤ length bs → n < 64 → r ≡ false → Stored bs bs₁ (2380 + (h * 64 + n)) g →
-        (words bs₂ ≡ paste (words bs₁) (2508 + 16 * (h * 64 + n)) ks 8) × (tail bs₂ ≡ tail bs₁) × (length ks ≡ 8) →
-        (words bs₃ ≡ paste (words bs₂) (2508 + (16 * (h * 64 + n) + 8)) cs 8) × (tail bs₃ ≡ tail bs₂) × (length cs ≡ 8) →
+        (bs₁ bs₂ bs₃ bs₄ : List ℕ) → 65536 ≤ length bs → n < 64 → r ≡ false → length ks ≡ 8 → length cs ≡ 8 → Stored bs bs₁ (2380 + (h * 64 + n)) g →
+        (words bs₂ ≡ paste (words bs₁) (2508 + 16 * (h * 64 + n)) ks (length ks)) × (tail bs₂ ≡ tail bs₁) →
+        (words bs₃ ≡ paste (words bs₂) (2508 + (16 * (h * 64 + n) + 8)) cs (length cs)) × (tail bs₃ ≡ tail bs₂) →
         Stored bs₃ bs₄ (2378 + h) (n + 1) →
         (c : Circuit) → units c bs₄ ≡ with-outbox (units c bs) (sent (record { gate = g; row = both value-of ks cs }) (units c bs .outbox))
     unfolding units second-half
-    send-new bs₁ bs₂ bs₃ bs₄ l m f e₁ e₂ e₃ e₄ c =
+    send-new bs₁ bs₂ bs₃ bs₄ l m f lk lc e₁ e₂ e₃ e₄ c =
         let t : Tables = cut (words bs) in
         let t′ : Tables = posted t h n g ks cs in
         let s : Send = record { gate = g; row = both value-of ks cs } in
         let a : events-of (second-half t′) t′ ≡ snoc (units c bs .outbox) s =
-        half-is (second-half t) t′ ∙ ap (λ (x : ℕ). half-events x t′) (sym (o .0)) ∙ half-more bs h n g ks cs l (o .1) e m (e₂ .2) (e₃ .2)
+        half-is (second-half t) t′ ∙ ap (λ (x : ℕ). half-events x t′) (sym (o .0)) ∙ half-more bs h n g ks cs l (o .1) e m lk lc
         ∙ ap (λ (x : List Send). snoc x s) (sym (outbox-is c bs h o)) in
         let b : events-of (not (second-half t′)) t′ ≡ units c bs .events =
-        other-half (second-half t) t′ ∙ ap (λ (x : ℕ). half-events (1 - x) t′) (sym (o .0)) ∙ half-stays bs h n g ks cs l (o .1) e m (e₂ .2) (e₃ .2)
+        other-half (second-half t) t′ ∙ ap (λ (x : ℕ). half-events (1 - x) t′) (sym (o .0)) ∙ half-stays bs h n g ks cs l (o .1) e m lk lc
         ∙ sym (events-are c bs h o) in
-        seen-is c bs₄ t′ (tail bs) (stored-event bs h n g ks cs l (o .1) e m (e₂ .2) (e₃ .2) bs₁ bs₂ bs₃ bs₄ e₁ (e₂ .0) (e₃ .0) e₄) (e₄ .tail ∙ e₃ .1 ∙ e₂ .1 ∙ e₁ .tail)
+        seen-is c bs₄ t′ (tail bs) (stored-event bs h n g ks cs l (o .1) e m lk lc bs₁ bs₂ bs₃ bs₄ e₁ (e₂ .0 ∙ ap (paste (words bs₁) (2508 + 16 * (h * 64 + n)) ks) lk) (e₃ .0 ∙ ap (paste (words bs₂) (2508 + (16 * (h * 64 + n) + 8)) cs) lc) e₄) (e₄ .tail ∙ e₃ .1 ∙ e₂ .1 ∙ e₁ .tail)
         ∙ (λ j. seen c t′ (a j) (b j) (tail bs))
         ∙ ap (with-outbox (units c bs))
         (sym (sent-new s (units c bs .outbox) (sym (sent-is bs h n g r o e q c) ∙ f) (omega (arith, ap length (outbox-is c bs h o), half-length bs h n (o .1) e))))

@@ -4,8 +4,7 @@ ghost use mathlib.Core.Bool.{cond};
 ghost use mathlib.Core.List.{[], map};
 ghost use Prim.Native.Nat.{_+_, _*_, _<_, _≤_, min};
 ghost use lib.ListN.{length, getD};
-ghost use lib.Seq.{paste};
-ghost use Rattle.words.specs.Words.{words, tail};
+ghost use Rattle.words.specs.Words.{words};
 ghost use Rattle.model.specs.declared.Value.the-variants.{Nothing};
 ghost use Rattle.model.specs.Base.{among, both, from};
 ghost use Rattle.model.specs.Value.{value-of};
@@ -23,6 +22,7 @@ use model::Value;
 use values::value_of;
 use words::get;
 use words::put;
+use words::rows::put_row;
 
 // The half that is the outbox.
 fn outbox(units: &[u8]) -> usize
@@ -56,18 +56,6 @@ fn sent_by(units: &[u8], a: usize, n: usize, g: usize) -> bool
     false
 }
 
-// Eight words from word p on become these.
-fn put_eight(units: &mut [u8], p: usize, values: [u64; 8])
-    requires { ⌜ (p + 8) * 8 ≤ length (now units) ⌝ }
-    ensures { λ _. ⌜ (words (now (units .exit)) ≡ paste (words (now (units .entry))) p values 8) × (tail (now (units .exit)) ≡ tail (now (units .entry))) × (length values ≡ 8) ⌝ }
-{
-    let mut i = 0;
-    while i < 8 {
-        put(units, p + i, values[i]);
-        i += 1;
-    }
-}
-
 // Gate g sends an event with eight values. A second one in a tick is ignored.
 pub fn send(units: &mut [u8], g: usize, kinds: [u64; 8], contents: [u64; 8])
     requires { ⌜ 65536 ≤ length (now units) ⌝ }
@@ -83,8 +71,8 @@ pub fn send(units: &mut [u8], g: usize, kinds: [u64; 8], contents: [u64; 8])
     }
     let k = h * MOST_EVENTS + n;
     put(units, SENDERS + k, g as u64);
-    put_eight(units, ROWS + ROW * k, kinds);
-    put_eight(units, ROWS + (ROW * k + 8), contents);
+    put_row(units, ROWS + ROW * k, &kinds);
+    put_row(units, ROWS + (ROW * k + 8), &contents);
     put(units, COUNTS + h, (n + 1) as u64);
 }
 

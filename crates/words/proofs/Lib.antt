@@ -1,3 +1,4 @@
 pub mod Laws
 pub mod Access
 pub mod Tables
+pub mod Putting

@@ -5,6 +5,7 @@ ghost use lib.ListN.{length, getD};
 ghost use Rattle.words.specs.Words.{words, Stored, signed, unsigned};
 
 pub mod counting;
+pub mod rows;
 
 // A byte as a word.
 fn wide(x: u8) -> u64

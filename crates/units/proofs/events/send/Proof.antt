@@ -39,26 +39,32 @@ add-put c = search needs
 put-requires : tie.Need-put-requires
 put-requires c κs = search needs
 
-mul-put-eight : tie.Need-mul-put-eight
-mul-put-eight c = search needs
+mul-put-row : tie.Need-mul-put-row
+mul-put-row c = search needs
 
-add-put-eight : tie.Need-add-put-eight
-add-put-eight c = search needs
+add-put-row : tie.Need-add-put-row
+add-put-row c = search needs
 
-put-eight-requires : tie.Need-put-eight-requires
-put-eight-requires c κs = search needs
+slice-aggregate-put-row : tie.Need-slice-aggregate-put-row
+slice-aggregate-put-row c = search needs
 
-mul-put-eight-2 : tie.Need-mul-put-eight-2
-mul-put-eight-2 c = search needs
+put-row-requires : tie.Need-put-row-requires
+put-row-requires c κs = search needs
 
-add-put-eight-2 : tie.Need-add-put-eight-2
-add-put-eight-2 c = search needs
+mul-put-row-2 : tie.Need-mul-put-row-2
+mul-put-row-2 c = search needs
 
-add-put-eight-3 : tie.Need-add-put-eight-3
-add-put-eight-3 c = search needs
+add-put-row-2 : tie.Need-add-put-row-2
+add-put-row-2 c = search needs
 
-put-eight-requires-2 : tie.Need-put-eight-requires-2
-put-eight-requires-2 c κs = search needs
+add-put-row-3 : tie.Need-add-put-row-3
+add-put-row-3 c = search needs
+
+slice-aggregate-put-row-2 : tie.Need-slice-aggregate-put-row-2
+slice-aggregate-put-row-2 c = search needs
+
+put-row-requires-2 : tie.Need-put-row-requires-2
+put-row-requires-2 c κs = search needs
 
 add-put-2 : tie.Need-add-put-2
 add-put-2 c = search needs
@@ -73,7 +79,7 @@ same-length-3 : tie.Need-same-length-3
 same-length-3 c = search needs
 
 returns-3 : tie.Need-returns-3
-returns-3 c = send-new _ _ _ _ _ _ (c .before .before .before .before .before .before .before .before .before .before .before .before .before .before .before .before .before .before .before .before .before .before .outbox .ensures) (c .before .before .before .before .before .before .before .before .before .before .before .before .before .before .before .before .before .before .before .before .held .ensures) _ (c .before .before .before .before .before .before .before .before .before .before .before .before .before .before .before .before .before .sent-by .ensures) _ _ _ _ (c .before .before .before .before .before .before .before .before .before .before .before .before .before .before .before .before .before .before .before .before .before .before .before .before .before .pre) (c .before .before .before .before .before .before .before .before .before .before .before .before .before .before .before .before .before .before .before .if1 .left) (c .before .before .before .before .before .before .before .before .before .before .before .before .before .before .before .before .if2 .left) (c .before .before .before .before .before .before .before .before .before .before .before .before .before .before .put .ensures) (c .before .before .before .before .before .before .before .before .before .before .put-eight .ensures) (c .before .before .before .before .before .before .put-eight2 .ensures) (c .before .before .put2 .ensures)
+returns-3 c = send-new _ _ _ _ _ _ (c .before .before .before .before .before .before .before .before .before .before .before .before .before .before .before .before .before .before .before .before .before .before .before .before .outbox .ensures) (c .before .before .before .before .before .before .before .before .before .before .before .before .before .before .before .before .before .before .before .before .before .before .held .ensures) _ (c .before .before .before .before .before .before .before .before .before .before .before .before .before .before .before .before .before .before .before .sent-by .ensures) _ _ _ _ (c .before .before .before .before .before .before .before .before .before .before .before .before .before .before .before .before .before .before .before .before .before .before .before .before .before .before .before .pre) (c .before .before .before .before .before .before .before .before .before .before .before .before .before .before .before .before .before .before .before .before .before .if1 .left) (c .before .before .before .before .before .before .before .before .before .before .before .before .before .before .before .before .before .before .if2 .left) (search needs) (search needs) (c .before .before .before .before .before .before .before .before .before .before .before .before .before .before .before .before .put .ensures) (c .before .before .before .before .before .before .before .before .before .before .before .put-row .ensures) (c .before .before .before .before .before .before .put-row2 .ensures) (c .before .before .put2 .ensures)
 
 pub send-spec : {M : Type 1} → statement M
 send-spec =
@@ -91,13 +97,15 @@ send-spec =
     add-k
     add-put
     put-requires
-    mul-put-eight
-    add-put-eight
-    put-eight-requires
-    mul-put-eight-2
-    add-put-eight-2
-    add-put-eight-3
-    put-eight-requires-2
+    mul-put-row
+    add-put-row
+    slice-aggregate-put-row
+    put-row-requires
+    mul-put-row-2
+    add-put-row-2
+    add-put-row-3
+    slice-aggregate-put-row-2
+    put-row-requires-2
     add-put-2
     add-put-3
     put-requires-2
