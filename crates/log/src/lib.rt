@@ -18,6 +18,7 @@ use links::outputs;
 use units::begun::begun;
 use units::entries::form_of;
 use units::entries::gate_of;
+use units::layout::BEGUN_COUNT;
 use wires::held::content_held;
 use wires::held::kind_held;
 use wires::layout::OUT_CONTENTS;
@@ -44,8 +45,8 @@ pub enum Written {
 // How many words a head has, the definition's `head` (crates/model/specs/Record.antt).
 pub const HEAD: usize = 6;
 
-// Where the entries of the units begun begin in the area `units`, in words.
-const BEGUN: usize = 1353;
+// Where the entries of the units begun begin in the area `units`, in words: behind their count.
+const BEGUN: usize = BEGUN_COUNT + 1;
 
 // The head becomes the words of the log from word p on.
 fn write_head(log: &mut [u8], p: usize, head: Head)

@@ -26,15 +26,12 @@ use units::Place;
 use units::entries::entry;
 use units::events::events;
 use units::events::sender;
+use units::forms::FIRE;
+use units::forms::STIMULUS;
 use units::raising::activate;
 use units::raising::deliver;
 use values::same;
 use words::get;
-
-// The forms of a Fire and of a stimulus.
-const FIRE: usize = 0;
-
-const WORLD: usize = 2;
 
 // Whether a list was full.
 pub fn is_full(r: Filed) -> bool
@@ -162,7 +159,7 @@ pub fn stimulate(
     while k < n {
         let g = get(script, gates_at + k) as usize;
         let constant = get(script, constants_at + k) as usize;
-        let r = activate(links, units, Place::Late, entry(g, WORLD, constant));
+        let r = activate(links, units, Place::Late, entry(g, STIMULUS, constant));
         if is_full(r) {
             return Filed::Full;
         }

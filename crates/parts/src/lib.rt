@@ -21,6 +21,8 @@ ghost use Rattle.parts.specs.Start.{Cleared, given, next-part, Numbered}
 use delays::countdown::Countdown;
 use delays::countdown::in_seconds;
 use delays::countdown::in_ticks;
+use kinds::numbers::QUEUE_IN_SECONDS;
+use kinds::numbers::QUEUE_IN_TICKS;
 use links::gates;
 use links::kind_of_gate;
 use model::Value;
@@ -36,12 +38,6 @@ use values::as_int;
 use words::get;
 use words::put;
 use words::write;
-
-// The kind of a Queue whose records wait for ticks.
-const TICKS: u64 = 16;
-
-// The kind of a Queue whose records wait for seconds.
-const SECONDS: u64 = 17;
 
 // The countdown that a record starts by its wait.
 fn countdown(seconds: bool, wait: Value) -> Countdown
@@ -66,7 +62,7 @@ pub fn queue_record(
     requires { ⌜ (length (now links) ≡ 4816) × Lent (net (now links)) (now delays) × (is-queue (net (now links)) g ≡ true) ⌝ }
     ensures { λ _. ⌜ view (net (now (links .entry))) (now (delays .exit)) ≡ with-delay (view (net (now (links .entry))) (now (delays .entry))) g (queue-record (delay-in (view (net (now (links .entry))) (now (delays .entry))) g) (both value-of kinds contents) (queue-countdown (eqb (kind-of-gate (net (now (links .entry))) g) 17) wait)) ⌝ }
 {
-    let left = countdown(kind_of_gate(links, g) == SECONDS, wait);
+    let left = countdown(kind_of_gate(links, g) == QUEUE_IN_SECONDS, wait);
     let r = Record {
         kinds,
         contents,
@@ -83,7 +79,7 @@ pub fn queue_advance(links: &[usize], delays: &mut [u8], g: usize, dt: u32) -> R
     requires { ⌜ (length (now links) ≡ 4816) × Lent (net (now links)) (now delays) × (is-queue (net (now links)) g ≡ true) ⌝ }
     ensures { λ r. ⌜ Moves (view (net (now (links .entry))) (now (delays .entry))) (view (net (now (links .entry))) (now (delays .exit))) g (advance-records dt (delay-in (view (net (now (links .entry))) (now (delays .entry))) g)) (released r [] .row) (released r [] .fires) ⌝ }
 {
-    let seconds = kind_of_gate(links, g) == SECONDS;
+    let seconds = kind_of_gate(links, g) == QUEUE_IN_SECONDS;
     let p = get(delays, g) as usize;
     let a = (PARTS + PART * p) * 8;
     let e = a + PART_BYTES;
@@ -110,10 +106,10 @@ fn give_part(links: &[usize], delays: &mut [u8], g: usize, n: usize) -> usize
     ensures { λ r. ⌜ (words (now (delays .exit)) ≡ given (net (now (links .entry))) g n (words (now (delays .entry)))) × (tail (now (delays .exit)) ≡ tail (now (delays .entry))) × (r ≡ next-part (net (now (links .entry))) g n) ⌝ }
 {
     let kind = kind_of_gate(links, g);
-    if kind < TICKS {
+    if kind < QUEUE_IN_TICKS {
         return n;
     }
-    if SECONDS < kind {
+    if QUEUE_IN_SECONDS < kind {
         return n;
     }
     write(delays, g, n as u64);

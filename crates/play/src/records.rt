@@ -3,21 +3,18 @@ ghost use mathlib.Core.Path.{_≡_};
 ghost use Prim.Native.Nat.{_^_, _≤_, _<_, min};
 ghost use Rattle.words.specs.Words.{words};
 ghost use Rattle.play.specs.Records.{outputs-of, record-words};
+use links::layout::MOST_CONSTANTS;
+use links::layout::MOST_GATES;
+use log::HEAD;
+use units::layout::MOST_UNITS;
 use words::read;
 
-// The words of a record before its units begun.
-const HEAD: usize = 6;
-
-const MOST_UNITS: u64 = 1024;
-
-const MOST_GATES: u64 = 64;
-
 // n, or most where that is less.
-fn least(n: u64, most: u64) -> usize
+fn least(n: u64, most: usize) -> usize
     ensures { λ r. ⌜ r ≡ min n most ⌝ }
     ensures { λ r. ⌜ r ≤ most ⌝ }
 {
-    if n < most { n as usize } else { most as usize }
+    if n < most as u64 { n as usize } else { most }
 }
 
 // How many outputs the circuit has.
@@ -26,7 +23,7 @@ pub fn outputs(circuit: &[u8]) -> usize
     ensures { λ r. ⌜ r ≤ 576 ⌝ }
 {
     let gates = least(read(circuit, 0), MOST_GATES);
-    let constants = least(read(circuit, 1), MOST_GATES);
+    let constants = least(read(circuit, 1), MOST_CONSTANTS);
     let first = 4 + 2 * constants;
     let mut total = 0;
     let mut g = 0;

@@ -29,6 +29,10 @@ use model::Value;
 use states::slots::buffer_input;
 use units::Place;
 use units::entries::entry;
+use units::forms::BY_OUTPUT;
+use units::forms::BY_PIN;
+use units::forms::FIRE;
+use units::forms::FORMS;
 use units::raising::activate;
 use values::as_float;
 use values::same;
@@ -42,16 +46,7 @@ use wires::pulses::pulse;
 use wires::reading::look;
 use wires::refreshing::ready;
 use wires::refreshing::refresh_all;
-
-// The forms of an activation: Fire, by a pin, by an output.
-const FIRE: usize = 0;
-
-const BY_PIN: usize = 16;
-
-const BY_OUTPUT: usize = 32;
-
-// A form is below this.
-const FORMS: usize = 0x1_0000;
+use words::counting::less;
 
 // What a check raises: nothing, or the activation of an entry.
 pub enum Raised {
@@ -117,23 +112,13 @@ fn edge_raised(g: usize, was: Value, v: Value) -> Raised
     }
 }
 
-// How far i is past the first, and 0 where it is before.
-fn past(i: usize, first: usize) -> usize
-    ensures { λ r. ⌜ r ≡ i - first ⌝ }
-{
-    if i < first {
-        return 0;
-    }
-    i - first
-}
-
 // Input i of gate g, an exec pin: the gate is raised where the value is true.
 fn pin_raised(links: &[usize], g: usize, i: usize, v: Value) -> Raised
     requires { ⌜ length (now links) ≡ 4816 ⌝ }
     ensures { λ r. ⌜ (g < 65536 → (truthy v ≡ true → i < 640) → (s : State) → settled (net (now (links .entry))) s r ≡ (if truthy v then raise s g (16 + (i - input (net (now (links .entry))) g 0)) else calm s)) ⌝ }
 {
     if truthy(v) {
-        let p = past(i, input(links, g, 0));
+        let p = less(i, input(links, g, 0));
         return Raised::Entry(entry(g, BY_PIN + p % FORMS, 0));
     }
     Raised::Nothing

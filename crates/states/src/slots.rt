@@ -28,8 +28,10 @@ use delays::countdown::of_word;
 use delays::fires::Fires;
 use delays::fires::MOST_FIRES;
 use delays::stopwatch::Stopwatch;
+use kinds::numbers::BUFFER_SECONDS;
 use links::gates;
 use links::kind_of_gate;
+use links::layout::MOST_GATES;
 use links::setting;
 use lists::Filed;
 use model::Value;
@@ -69,9 +71,6 @@ const COUNT: usize = 10;
 
 const FIRES: usize = 11;
 
-// The gates that a circuit has at the most.
-const MOST_GATES: usize = 64;
-
 // Where the slots begin: behind a word for each gate, the number of a Queue's part.
 const SLOTS: usize = MOST_GATES;
 
@@ -84,7 +83,7 @@ const SLOT_BYTES: usize = SLOT * 8;
 pub const PARTS: usize = SLOTS + SLOT * MOST_GATES;
 
 // From this kind on countdowns are in seconds.
-const SECONDS: u64 = 12;
+const SECONDS: u64 = BUFFER_SECONDS;
 
 // ---- a slot
 

@@ -37,6 +37,7 @@ use wires::refreshing::ready;
 use wires::ticks::pass;
 use wires::ticks::passed;
 use wires::written::record_write;
+use words::counting::less;
 
 pub mod reading;
 
@@ -209,11 +210,7 @@ fn pin(links: &[usize], g: usize, i: usize) -> usize
     requires { ⌜ length (now links) ≡ 4816 ⌝ }
     ensures { λ r. ⌜ r ≡ i - input (net (now (links .entry))) g 0 ⌝ }
 {
-    let first = input(links, g, 0);
-    if i < first {
-        return 0;
-    }
-    i - first
+    less(i, input(links, g, 0))
 }
 
 // Input i, and one input for all that no circuit has.

@@ -32,6 +32,7 @@ use units::begun::begun;
 use units::raising::carried;
 use wires;
 use wires::refreshing::refresh_all;
+use words::counting::less;
 
 // What a tick comes to: how many words its record has, 0 where it does not fit, and its stop, or 0.
 pub struct Ticked {
@@ -79,19 +80,12 @@ fn run_main(
     main_pass(links, values, units, delays, late.left)
 }
 
-// a - b, or 0 where b is above.
-fn less(a: u64, b: u64) -> u64
-    ensures { λ r. ⌜ r ≡ a - b ⌝ }
-{
-    if b < a { a - b } else { 0 }
-}
-
 // The steps made, where so many are left; of a tick stopped by 11 with the one not made.
 fn steps(limit: u64, left: u64, stop: u64) -> u64
     requires { ⌜ limit < 2 ^ 63 ⌝ }
     ensures { λ r. ⌜ r ≡ steps-made limit left stop ⌝ }
 {
-    let made = less(limit, left);
+    let made = less(limit as usize, left as usize) as u64;
     if stop == RUNAWAY { made + 1 } else { made }
 }
 
@@ -119,12 +113,12 @@ fn head(
     requires { ⌜ (length (now links) ≡ 4816) × (65536 ≤ length (now values)) × (65536 ≤ length (now units)) × (limit < 2 ^ 63) ⌝ }
     ensures { λ r. ⌜ r ≡ head-of limit late left stop (values-view (net (now (links .entry))) (now (values .entry))) (units-view (net (now (links .entry))) (now (units .entry))) ⌝ }
 {
-    let n = begun(units) as u64;
+    let n = begun(units);
     Head {
         tick: wires::ticks::tick(links, values),
         steps: steps(limit, left, stop),
         late: late as u64,
-        main: less(n, late as u64),
+        main: less(n, late) as u64,
         carried: carried(units) as u64,
         stop,
     }

@@ -19,6 +19,7 @@ ghost use Rattle.unit.specs.Unit.{Few-calls, act-in, stop-of, finished, 
 use chain::Ran;
 use chain::pushing::push_calls;
 use chain::run_chain;
+use kinds::numbers::STOPWATCH;
 use links::constant;
 use links::input;
 use links::kind_of_gate;
@@ -34,6 +35,7 @@ use units::entries::form_of;
 use units::entries::gate_of;
 use units::events::event_value;
 use units::events::events;
+use units::forms::STIMULUS;
 use wires::marking::set_out;
 use wires::written::publish_writes;
 
@@ -42,12 +44,6 @@ pub enum Act {
     Waiting(u64),
     Event(u64),
 }
-
-// The form of a stimulus, which brings a constant.
-const STIMULUS: usize = 2;
-
-// The kind of a Stopwatch.
-const STOPWATCH: u64 = 15;
 
 // How many values an event has.
 const ROW: usize = 8;

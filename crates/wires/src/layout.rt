@@ -1,11 +1,8 @@
 // Where the tables begin, in words; specs/View.antt says what they hold.
 
-// How many gates, inputs and outputs a circuit has at the most.
-pub const MOST_GATES: usize = 64;
-
-pub const MOST_INPUTS: usize = 640;
-
-pub const MOST_OUTPUTS: usize = 576;
+use links::layout::MOST_GATES;
+use links::layout::MOST_INPUTS;
+use links::layout::MOST_OUTPUTS;
 
 // How many Vars a unit writes at the most.
 pub const MOST_WRITTEN: usize = MOST_GATES;

@@ -15,6 +15,7 @@ use crate::reading::show;
 use crate::refreshing::refresh_all;
 use crate::stale::soil;
 use kinds;
+use kinds::numbers::VAR;
 use links::gates;
 use links::inputs;
 use links::kind_of_gate;
@@ -22,9 +23,6 @@ use links::output;
 use links::setting;
 use links::watching;
 use words::put;
-
-// The kind of a Var.
-const VAR: u64 = 5;
 
 // All tables are cleared.
 fn clear(links: &[usize], values: &mut [u8])

@@ -9,8 +9,8 @@ truthy-requires c κs = search needs
 input-requires : tie.Need-input-requires
 input-requires c κs = search needs
 
-past-requires : tie.Need-past-requires
-past-requires c κs = search needs
+less-requires : tie.Need-less-requires
+less-requires c κs = search needs
 
 add-entry : tie.Need-add-entry
 add-entry c = search needs
@@ -19,7 +19,7 @@ entry-requires : tie.Need-entry-requires
 entry-requires c κs = search needs
 
 returns : tie.Need-returns
-returns c = pin-true _ _ _ _ _ (c .before .before .before .before .truthy .ensures) _ _ _ (c .before .before .before .if1 .taken) (c .before .before .input .ensures) (c .before .past .ensures) (c .entry .ensures)
+returns c = pin-true _ _ _ _ _ (c .before .before .before .before .truthy .ensures) _ _ _ (c .before .before .before .if1 .taken) (c .before .before .input .ensures) (c .before .less .ensures) (c .entry .ensures)
 
 returns-2 : tie.Need-returns-2
 returns-2 c = pin-false _ _ _ _ _ (c .before .truthy .ensures) (c .if1 .left)
@@ -30,7 +30,7 @@ pin-raised-spec =
     (tie.spec
     truthy-requires
     input-requires
-    past-requires
+    less-requires
     add-entry
     entry-requires
     returns
