@@ -1,6 +1,6 @@
 // A case of the packed questions: its numbers, and what the two functions answer to it.
 ghost use mathlib.Core.Path.{_≡_};
-ghost use Rattle.words.specs.Words.{words};
+ghost use Rattle.words.specs.Slices.{before, was};
 ghost use Rattle.asked.specs.Case.{case-of, answers, right};
 use circuit::check;
 use circuit::refusal;
@@ -24,7 +24,7 @@ pub struct Answers {
 
 // The numbers from their six words.
 pub fn numbers(head: &[u8]) -> Case
-    ensures { λ r. ⌜ r ≡ case-of (words (now (head .entry))) ⌝ }
+    ensures { λ r. ⌜ r ≡ case-of (was head) ⌝ }
 {
     Case {
         check: read(head, 0),
@@ -38,7 +38,7 @@ pub fn numbers(head: &[u8]) -> Case
 
 // What both answer to this circuit and script, with areas of the case's lengths lent to `refusal`.
 pub fn ask(case: Case, circuit: &[u8], script: &[u8]) -> Answers
-    ensures { λ r. ⌜ r ≡ answers case (now (circuit .entry)) (now (script .entry)) ⌝ }
+    ensures { λ r. ⌜ r ≡ answers case (before circuit) (before script) ⌝ }
 {
     Answers {
         check: check(circuit, script),

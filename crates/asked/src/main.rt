@@ -1,4 +1,5 @@
 // Asks `check` and `refusal` about every case of questions.bin, and prints for each number how many cases had it as they should.
+ghost use Rattle.words.specs.Slices.{after};
 ghost use Rattle.io.specs.Counts.{Counts};
 
 mod case;
@@ -25,7 +26,7 @@ fn next_number(fd: i32) -> u64 {
 
 // Reads n bytes to the front of a buffer, none where it has no room for them, and answers how many came.
 fn next_bytes(fd: i32, buffer: &mut [u8], n: usize) -> usize
-    ensures { λ r. ⌜ Counts r (now (buffer .exit)) ⌝ }
+    ensures { λ r. ⌜ Counts r (after buffer) ⌝ }
 {
     if buffer.len() < n {
         return 0;

@@ -1,12 +1,8 @@
 // A chain of calls and its forks.
-ghost use Prim.Native.Nat.{_<_, _≤_};
-ghost use mathlib.Core.Path.{_≡_};
-ghost use lib.ListN.{length};
 ghost use Rattle.model.specs.Exec.{exec-gate};
-ghost use Rattle.model.specs.Chain.{pop, push-calls, run-chain};
-ghost use Rattle.links.specs.Links.{net};
-ghost use Rattle.states.specs.View.{Lent};
-ghost use Rattle.areas.specs.Areas.{areas};
+ghost use Rattle.model.specs.Chain.{push-calls, run-chain};
+ghost use Rattle.states.specs.Lent.{Slots-stay};
+ghost use Rattle.areas.specs.Lent.{Over-all, All-lent};
 ghost use Rattle.chain.specs.Chain.{Makes-call, Runs};
 use crate::pushing::push_calls;
 use lists::Filed;
@@ -33,9 +29,9 @@ fn make_call(
     delays: &mut [u8],
     i: usize,
 ) -> Filed
-    requires { ⌜ (length (now links) ≡ 4816) × (65536 ≤ length (now values)) × (65536 ≤ length (now units)) × Lent (net (now links)) (now delays) ⌝ }
-    ensures { λ r. ⌜ Makes-call (areas (net (now (links .entry))) (now (values .entry)) (now (units .entry)) (now (delays .entry))) (areas (net (now (links .entry))) (now (values .exit)) (now (units .exit)) (now (delays .exit))) r (exec-gate (net (now (links .entry))) (areas (net (now (links .entry))) (now (values .entry)) (now (units .entry)) (now (delays .entry)) .state) i) (push-calls (net (now (links .entry))) (exec-gate (net (now (links .entry))) (areas (net (now (links .entry))) (now (values .entry)) (now (units .entry)) (now (delays .entry)) .state) i .next) (areas (net (now (links .entry))) (now (values .entry)) (now (units .entry)) (now (delays .entry)) .calls)) ⌝ }
-    ensures { λ _. ⌜ Lent (net (now (links .entry))) (now (delays .exit)) ⌝ }
+    requires { ⌜ All-lent links values units delays ⌝ }
+    ensures { λ r. ⌜ Over-all links values units delays (λ c old new. Makes-call old new r (exec-gate c (old .state) i) (push-calls c (exec-gate c (old .state) i .next) (old .calls))) ⌝ }
+    ensures { λ _. ⌜ Slots-stay links delays ⌝ }
 {
     let step = exec(links, values, units, delays, i);
     match step {
@@ -53,9 +49,9 @@ pub fn run_chain(
     delays: &mut [u8],
     left: u64,
 ) -> Ran
-    requires { ⌜ (length (now links) ≡ 4816) × (65536 ≤ length (now values)) × (65536 ≤ length (now units)) × Lent (net (now links)) (now delays) ⌝ }
-    ensures { λ r. ⌜ Runs (areas (net (now (links .entry))) (now (values .entry)) (now (units .entry)) (now (delays .entry))) (areas (net (now (links .entry))) (now (values .exit)) (now (units .exit)) (now (delays .exit))) r (run-chain (net (now (links .entry))) left (areas (net (now (links .entry))) (now (values .entry)) (now (units .entry)) (now (delays .entry)) .calls) (areas (net (now (links .entry))) (now (values .entry)) (now (units .entry)) (now (delays .entry)) .state)) ⌝ }
-    ensures { λ _. ⌜ Lent (net (now (links .entry))) (now (delays .exit)) ⌝ }
+    requires { ⌜ All-lent links values units delays ⌝ }
+    ensures { λ r. ⌜ Over-all links values units delays (λ c old new. Runs old new r (run-chain c left (old .calls) (old .state))) ⌝ }
+    ensures { λ _. ⌜ Slots-stay links delays ⌝ }
 {
     let mut rest = left;
     while 0 < rest {

@@ -5,6 +5,7 @@ ghost use Prim.Native.Nat.{_+_, _*_, _≤_, max};
 ghost use lib.Dec.{leb};
 ghost use lib.ListN.{length};
 ghost use Rattle.words.specs.Words.{words};
+ghost use Rattle.words.specs.Slices.{was};
 ghost use Rattle.model.specs.Base.{keep};
 ghost use Rattle.model.specs.Circuit.{part, circuit as circuit-of};
 ghost use Rattle.model.specs.Questions.{question-1, within, queues};
@@ -16,7 +17,7 @@ const AREA: usize = 65536;
 // How many of the `count` kinds from word `first` on are Queues.
 fn queues_among(circuit: &[u8], first: usize, count: usize) -> usize
     requires { ⌜ (first + count) * 8 ≤ length (now circuit) ⌝ }
-    ensures { λ r. ⌜ r ≡ length (keep (within 16 17) (part (words (now (circuit .entry))) first count)) ⌝ }
+    ensures { λ r. ⌜ r ≡ length (keep (within 16 17) (part (was circuit) first count)) ⌝ }
 {
     let mut queues: usize = 0;
     let mut i = 0;
@@ -32,7 +33,7 @@ fn queues_among(circuit: &[u8], first: usize, count: usize) -> usize
 // How many Queues a circuit has.
 pub fn queues(circuit: &[u8]) -> usize
     requires { ⌜ question-1 (now circuit) (words (now circuit)) ≡ true ⌝ }
-    ensures { λ r. ⌜ r ≡ queues (circuit-of (words (now (circuit .entry)))) ⌝ }
+    ensures { λ r. ⌜ r ≡ queues (circuit-of (was circuit)) ⌝ }
 {
     let count = get(circuit, 0) as usize;
     let first = 4 + 2 * get(circuit, 1) as usize;

@@ -2,7 +2,7 @@
 ghost use mathlib.Core.Path.{_≡_};
 ghost use Prim.Native.Nat.{_+_, _*_, _≤_};
 ghost use lib.ListN.{length};
-ghost use Rattle.words.specs.Words.{words};
+ghost use Rattle.words.specs.Slices.{was};
 ghost use Rattle.model.specs.Base.{all};
 ghost use Rattle.model.specs.Circuit.{part};
 ghost use Rattle.model.specs.Questions.{within};
@@ -18,7 +18,7 @@ pub fn within(low: u64, high: u64, word: u64) -> bool
 // Whether the `count` words from `first` on are each low to high.
 pub fn all_within(area: &[u8], first: usize, count: usize, low: u64, high: u64) -> bool
     requires { ⌜ (first + count) * 8 ≤ length (now area) ⌝ }
-    ensures { λ r. ⌜ r ≡ all (within low high) (part (words (now (area .entry))) first count) ⌝ }
+    ensures { λ r. ⌜ r ≡ all (within low high) (part (was area) first count) ⌝ }
 {
     let mut i = 0;
     while i < count {

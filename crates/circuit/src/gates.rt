@@ -6,6 +6,7 @@ ghost use Prim.Native.Nat.{_+_, _*_, _≤_};
 ghost use lib.Dec.{eqb};
 ghost use lib.ListN.{length};
 ghost use Rattle.words.specs.Words.{words};
+ghost use Rattle.words.specs.Slices.{was};
 ghost use Rattle.model.specs.Base.{all, sum};
 ghost use Rattle.model.specs.Kinds.{kind-at};
 ghost use Rattle.model.specs.Circuit.{part, circuit as circuit-of};
@@ -19,8 +20,7 @@ use words::get;
 // Whether the `count` kinds from word `first` on are each 1 to 28, and have as many inputs together as there are.
 fn good_kinds(circuit: &[u8], first: usize, count: usize, inputs: u64) -> bool
     requires { ⌜ (count ≤ 64) × ((first + count) * 8 ≤ length (now circuit)) ⌝ }
-    ensures { λ r. ⌜ r ≡ (all (within 1 28) (part (words (now (circuit .entry))) first count)
-        && eqb (sum (map (λ k. length (kind-at k .ins)) (part (words (now (circuit .entry))) first count))) inputs) ⌝ }
+    ensures { λ r. ⌜ r ≡ (all (within 1 28) (part (was circuit) first count) && eqb (sum (map (λ k. length (kind-at k .ins)) (part (was circuit) first count))) inputs) ⌝ }
 {
     let mut total: usize = 0;
     let mut i = 0;
@@ -39,7 +39,7 @@ fn good_kinds(circuit: &[u8], first: usize, count: usize, inputs: u64) -> bool
 // Whether all gates of a circuit are good.
 pub fn gates(circuit: &[u8]) -> bool
     requires { ⌜ question-1 (now circuit) (words (now circuit)) ≡ true ⌝ }
-    ensures { λ r. ⌜ r ≡ question-3 (words (now (circuit .entry))) (circuit-of (words (now (circuit .entry)))) ⌝ }
+    ensures { λ r. ⌜ r ≡ question-3 (was circuit) (circuit-of (was circuit)) ⌝ }
 {
     let count = get(circuit, 0) as usize;
     let first = 4 + 2 * get(circuit, 1) as usize;

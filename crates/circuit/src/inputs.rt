@@ -3,13 +3,13 @@
 ghost use mathlib.Core.Path.{_≡_};
 ghost use mathlib.Core.Bool.{true, _&&_, _||_};
 ghost use lib.Dec.{eqb};
-ghost use lib.ListN.{length};
 ghost use Rattle.words.specs.Words.{words};
+ghost use Rattle.words.specs.Slices.{was};
 ghost use Rattle.model.specs.Base.{if_then_else_};
 ghost use Rattle.model.specs.Circuit.{minus-one, kind-of-gate};
 ghost use Rattle.model.specs.Questions.{within, question-1, value-output, int-such-that, int-or-nothing, float-or-nothing, good-setting, names-constant, good-input, question-4};
 ghost use Rattle.kinds.specs.Pins.{in-of};
-ghost use Rattle.links.specs.Links.{net};
+ghost use Rattle.links.specs.Lent.{Linked, net-of};
 use kinds::Out;
 use kinds::Pin;
 use kinds::numbers::VAR;
@@ -34,8 +34,8 @@ fn takes_source(pin: Pin) -> bool
 
 // Whether output o is there and shows a value; `out_at` says of one that is not there that it fires.
 fn value_output(links: &[usize], o: usize) -> bool
-    requires { ⌜ length (now links) ≡ 4816 ⌝ }
-    ensures { λ r. ⌜ r ≡ value-output (net (now (links .entry))) o ⌝ }
+    requires { ⌜ Linked links ⌝ }
+    ensures { λ r. ⌜ r ≡ value-output (net-of links) o ⌝ }
 {
     match links::out_at(links, o) {
         Out::Fires => false,
@@ -45,8 +45,8 @@ fn value_output(links: &[usize], o: usize) -> bool
 
 // Whether the pin's source is -1, or a value output where the pin takes one and no constant is stored.
 fn good_source(links: &[usize], pin: Pin, source: u64, stored: u64) -> bool
-    requires { ⌜ length (now links) ≡ 4816 ⌝ }
-    ensures { λ r. ⌜ r ≡ (if eqb source minus-one then true else value-output (net (now (links .entry))) source && in-of pin .source && eqb stored 0) ⌝ }
+    requires { ⌜ Linked links ⌝ }
+    ensures { λ r. ⌜ r ≡ (if eqb source minus-one then true else value-output (net-of links) source && in-of pin .source && eqb stored 0) ⌝ }
 {
     if source == MINUS_ONE {
         return true;
@@ -74,8 +74,8 @@ fn takes_constant(pin: Pin) -> bool
 
 // Whether a constant has this name; 0 names nothing.
 fn names_constant(links: &[usize], k: usize) -> bool
-    requires { ⌜ length (now links) ≡ 4816 ⌝ }
-    ensures { λ r. ⌜ r ≡ names-constant (net (now (links .entry))) k ⌝ }
+    requires { ⌜ Linked links ⌝ }
+    ensures { λ r. ⌜ r ≡ names-constant (net-of links) k ⌝ }
 {
     k < links::constants(links)
 }
@@ -118,8 +118,8 @@ fn float_or_nothing(v: Value) -> bool
 
 // The Int number of a Var.
 fn names_variable(links: &[usize], v: Value) -> bool
-    requires { ⌜ length (now links) ≡ 4816 ⌝ }
-    ensures { λ r. ⌜ r ≡ int-such-that (λ g. eqb (kind-of-gate (net (now (links .entry))) g) 5) v ⌝ }
+    requires { ⌜ Linked links ⌝ }
+    ensures { λ r. ⌜ r ≡ int-such-that (λ g. eqb (kind-of-gate (net-of links) g) 5) v ⌝ }
 {
     match v {
         Value::Nothing => false,
@@ -143,8 +143,8 @@ fn names_channel(v: Value) -> bool
 
 // Whether a pin, if it is a setting, may be set to v.
 fn good_setting(links: &[usize], pin: Pin, v: Value) -> bool
-    requires { ⌜ length (now links) ≡ 4816 ⌝ }
-    ensures { λ r. ⌜ r ≡ good-setting (net (now (links .entry))) (in-of pin .setting) v ⌝ }
+    requires { ⌜ Linked links ⌝ }
+    ensures { λ r. ⌜ r ≡ good-setting (net-of links) (in-of pin .setting) v ⌝ }
 {
     match pin {
         Pin::Ticks => int_or_nothing(v),
@@ -159,8 +159,8 @@ fn good_setting(links: &[usize], pin: Pin, v: Value) -> bool
 
 // Whether an input is good, by what it is, its words for source and stored, and the value stored.
 fn good_input(links: &[usize], pin: Pin, source: u64, stored: u64, v: Value) -> bool
-    requires { ⌜ length (now links) ≡ 4816 ⌝ }
-    ensures { λ r. ⌜ r ≡ good-input (net (now (links .entry))) (in-of pin) source stored v ⌝ }
+    requires { ⌜ Linked links ⌝ }
+    ensures { λ r. ⌜ r ≡ good-input (net-of links) (in-of pin) source stored v ⌝ }
 {
     if !good_source(links, pin, source, stored) {
         return false;
@@ -176,8 +176,8 @@ fn good_input(links: &[usize], pin: Pin, source: u64, stored: u64, v: Value) -> 
 
 // Whether each input is good.
 pub fn inputs_good(circuit: &[u8], links: &[usize]) -> bool
-    requires { ⌜ (question-1 (now circuit) (words (now circuit)) ≡ true) × (length (now links) ≡ 4816) ⌝ }
-    ensures { λ r. ⌜ r ≡ question-4 (words (now (circuit .entry))) (net (now (links .entry))) ⌝ }
+    requires { ⌜ (question-1 (now circuit) (words (now circuit)) ≡ true) × Linked links ⌝ }
+    ensures { λ r. ⌜ r ≡ question-4 (was circuit) (net-of links) ⌝ }
 {
     let n = get(circuit, 2) as usize;
     let first = 4 + 2 * (get(circuit, 1) as usize + get(circuit, 0) as usize);

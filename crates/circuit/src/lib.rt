@@ -2,11 +2,12 @@
 ghost use mathlib.Core.Path.{_≡_};
 ghost use mathlib.Core.Bool.{true};
 ghost use mathlib.Core.Option.{none, some};
-ghost use lib.ListN.{length};
 ghost use Rattle.words.specs.Words.{words};
+ghost use Rattle.words.specs.Slices.{before, after, was};
 ghost use Rattle.model.specs.Circuit.{circuit as circuit-of};
-ghost use Rattle.model.specs.Questions.{Areas, question-1, question-2, question-3, circuit-refusal, script-refusal, or-else, refusal};
-ghost use Rattle.links.specs.Links.{cells, net};
+ghost use Rattle.model.specs.Questions.{question-1, circuit-refusal, script-refusal, or-else, refusal};
+ghost use Rattle.links.specs.Links.{cells};
+ghost use Rattle.links.specs.Lent.{Linked};
 ghost use Rattle.circuit.specs.Refusals.{words-refusal, links-refusal, areas-refusal, links-after};
 use linking::link;
 use links::layout::CELLS;
@@ -23,7 +24,7 @@ mod sizes;
 
 // Questions 1 to 3, of a circuit's words.
 fn words_refusal(circuit: &[u8]) -> u64
-    ensures { λ r. ⌜ r ≡ words-refusal (now (circuit .entry)) ⌝ }
+    ensures { λ r. ⌜ r ≡ words-refusal (before circuit) ⌝ }
 {
     if !sizes::sizes(circuit) {
         return 1;
@@ -40,9 +41,9 @@ fn words_refusal(circuit: &[u8]) -> u64
 // Questions 4 to 7, of the links of a circuit whose words passed; no areas are lent.
 fn links_refusal(circuit: &[u8], links: &[usize]) -> u64
     requires { ⌜ words-refusal (now circuit) ≡ 0 ⌝ }
-    requires { ⌜ length (now links) ≡ 4816 ⌝ }
+    requires { ⌜ Linked links ⌝ }
     requires { ⌜ now links ≡ cells (circuit-of (words (now circuit))) ⌝ }
-    ensures { λ r. ⌜ r ≡ links-refusal (words (now (circuit .entry))) (circuit-of (words (now (circuit .entry)))) ⌝ }
+    ensures { λ r. ⌜ r ≡ links-refusal (was circuit) (circuit-of (was circuit)) ⌝ }
 {
     if !inputs::inputs_good(circuit, links) {
         return 4;
@@ -61,8 +62,8 @@ fn links_refusal(circuit: &[u8], links: &[usize]) -> u64
 
 // The number of the first question about a circuit whose answer is no, where no areas are lent; 0 where all are yes. The links are made where its words pass.
 pub fn circuit_refusal(circuit: &[u8], links: &mut [usize]) -> u64
-    requires { ⌜ length (now links) ≡ 4816 ⌝ }
-    ensures { λ r. ⌜ (r ≡ circuit-refusal none (now (circuit .entry))) × (now (links .exit) ≡ links-after (now (circuit .entry)) (now (links .entry))) ⌝ }
+    requires { ⌜ Linked links ⌝ }
+    ensures { λ r. ⌜ (r ≡ circuit-refusal none (before circuit)) × (after links ≡ links-after (before circuit) (before links)) ⌝ }
 {
     let first = words_refusal(circuit);
     if first != 0 {
@@ -75,7 +76,7 @@ pub fn circuit_refusal(circuit: &[u8], links: &mut [usize]) -> u64
 // The same of a script, for a circuit whose sizes are good.
 pub fn script_refusal(circuit: &[u8], script: &[u8]) -> u64
     requires { ⌜ question-1 (now circuit) (words (now circuit)) ≡ true ⌝ }
-    ensures { λ r. ⌜ r ≡ script-refusal (circuit-of (words (now (circuit .entry)))) (now (script .entry)) ⌝ }
+    ensures { λ r. ⌜ r ≡ script-refusal (circuit-of (was circuit)) (before script) ⌝ }
 {
     if !script::script_sizes(script) {
         return 8;
@@ -92,7 +93,7 @@ pub fn script_refusal(circuit: &[u8], script: &[u8]) -> u64
 // 7 where areas of these lengths are not enough for a circuit whose sizes are good, or 0.
 fn areas_refusal(circuit: &[u8], values: usize, units: usize, delays: usize) -> u64
     requires { ⌜ question-1 (now circuit) (words (now circuit)) ≡ true ⌝ }
-    ensures { λ r. ⌜ r ≡ areas-refusal (record { values = values; units = units; delays = delays }) (circuit-of (words (now (circuit .entry)))) ⌝ }
+    ensures { λ r. ⌜ r ≡ areas-refusal (record { values = values; units = units; delays = delays }) (circuit-of (was circuit)) ⌝ }
 {
     if areas::enough(areas::queues(circuit), values, units, delays) {
         0
@@ -117,9 +118,8 @@ pub fn refusal_and_links(
     units: usize,
     delays: usize,
 ) -> u64
-    requires { ⌜ length (now links) ≡ 4816 ⌝ }
-    ensures { λ r. ⌜ (r ≡ refusal (some (record { values = values; units = units; delays = delays })) (now (circuit .entry)) (now (script .entry)))
-        × (now (links .exit) ≡ links-after (now (circuit .entry)) (now (links .entry))) ⌝ }
+    requires { ⌜ Linked links ⌝ }
+    ensures { λ r. ⌜ (r ≡ refusal (some (record { values = values; units = units; delays = delays })) (before circuit) (before script)) × (after links ≡ links-after (before circuit) (before links)) ⌝ }
 {
     let first = circuit_refusal(circuit, links);
     if first != 0 {
@@ -132,7 +132,7 @@ pub fn refusal_and_links(
 
 // The number that a call with this circuit and script is refused with, or 0, where areas of these lengths are lent.
 pub fn refusal(circuit: &[u8], script: &[u8], values: usize, units: usize, delays: usize) -> u64
-    ensures { λ r. ⌜ r ≡ refusal (some (record { values = values; units = units; delays = delays })) (now (circuit .entry)) (now (script .entry)) ⌝ }
+    ensures { λ r. ⌜ r ≡ refusal (some (record { values = values; units = units; delays = delays })) (before circuit) (before script) ⌝ }
 {
     let mut links = [0usize; CELLS];
     refusal_and_links(circuit, script, &mut links, values, units, delays)
@@ -140,7 +140,7 @@ pub fn refusal(circuit: &[u8], script: &[u8], values: usize, units: usize, delay
 
 // The number that a call with this circuit and script is refused with, or 0, where no areas are lent: it only checks.
 pub fn check(circuit: &[u8], script: &[u8]) -> u64
-    ensures { λ r. ⌜ r ≡ refusal none (now (circuit .entry)) (now (script .entry)) ⌝ }
+    ensures { λ r. ⌜ r ≡ refusal none (before circuit) (before script) ⌝ }
 {
     let mut links = [0usize; CELLS];
     let first = circuit_refusal(circuit, &mut links);

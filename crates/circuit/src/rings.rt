@@ -3,11 +3,12 @@
 ghost use mathlib.Core.Path.{_≡_};
 ghost use Prim.Native.Nat.{ℕ, _+_, _*_, _<_, _≤_, _^_};
 ghost use lib.ListN.{length, getD};
+ghost use Rattle.words.specs.Slices.{before, after};
 ghost use Rattle.model.specs.Value.{bit};
 ghost use Rattle.model.specs.Kinds.{pure};
 ghost use Rattle.model.specs.Circuit.{kind-of-gate};
 ghost use Rattle.model.specs.Questions.{question-6};
-ghost use Rattle.links.specs.Links.{net};
+ghost use Rattle.links.specs.Lent.{Linked, net-of};
 ghost use Rattle.circuit.specs.Gates.{gates-where, gate-bit, source-bit, awaited, waits};
 use links::Read;
 use links::layout::MOST_GATES;
@@ -21,8 +22,8 @@ fn gate_bit(g: usize) -> u64
 
 // The word of the gate that input i reads; 0 where it reads none.
 fn source_bit(links: &[usize], i: usize) -> u64
-    requires { ⌜ length (now links) ≡ 4816 ⌝ }
-    ensures { λ r. ⌜ r ≡ source-bit (net (now (links .entry))) i ⌝ }
+    requires { ⌜ Linked links ⌝ }
+    ensures { λ r. ⌜ r ≡ source-bit (net-of links) i ⌝ }
 {
     match links::source(links, i) {
         Read::Output(o) => gate_bit(links::gate_at_output(links, o)),
@@ -32,8 +33,8 @@ fn source_bit(links: &[usize], i: usize) -> u64
 
 // The gates that gate g waits for: those that it reads, if it is pure.
 fn awaited(links: &[usize], g: usize) -> u64
-    requires { ⌜ length (now links) ≡ 4816 ⌝ }
-    ensures { λ r. ⌜ r ≡ awaited (net (now (links .entry))) g ⌝ }
+    requires { ⌜ Linked links ⌝ }
+    ensures { λ r. ⌜ r ≡ awaited (net-of links) g ⌝ }
 {
     let kind = links::kind_of_gate(links, g);
     if !kinds::is_pure(kind) {
@@ -52,8 +53,8 @@ fn awaited(links: &[usize], g: usize) -> u64
 
 // `words` gets what each of n gates waits for.
 fn fill(links: &[usize], words: &mut [u64], n: usize)
-    requires { ⌜ (length (now links) ≡ 4816) × (n ≤ length (now words)) ⌝ }
-    ensures { λ _. ⌜ ((g : ℕ) → g < n → getD (now (words .exit)) g 0 ≡ awaited (net (now (links .entry))) g) ⌝ }
+    requires { ⌜ Linked links × (n ≤ length (now words)) ⌝ }
+    ensures { λ _. ⌜ ((g : ℕ) → g < n → getD (after words) g 0 ≡ awaited (net-of links) g) ⌝ }
 {
     let mut g = 0;
     while g < n {
@@ -72,8 +73,8 @@ fn with_bit(word: u64, b: bool) -> u64
 
 // The pure ones of n gates.
 fn pure_gates(links: &[usize], n: usize) -> u64
-    requires { ⌜ (length (now links) ≡ 4816) × (n ≤ 64) ⌝ }
-    ensures { λ r. ⌜ r ≡ gates-where (λ g. pure (kind-of-gate (net (now (links .entry))) g)) n ⌝ }
+    requires { ⌜ Linked links × (n ≤ 64) ⌝ }
+    ensures { λ r. ⌜ r ≡ gates-where (λ g. pure (kind-of-gate (net-of links) g)) n ⌝ }
 {
     let mut word: u64 = 0;
     let mut g = n;
@@ -87,7 +88,7 @@ fn pure_gates(links: &[usize], n: usize) -> u64
 // One round: of n gates those that wait for one of `unplaced`, where `words` has what each waits for.
 fn round(words: &[u64], n: usize, unplaced: u64) -> u64
     requires { ⌜ (n ≤ 64) × (n ≤ length (now words)) ⌝ }
-    ensures { λ r. ⌜ r ≡ gates-where (waits (now (words .entry)) unplaced) n ⌝ }
+    ensures { λ r. ⌜ r ≡ gates-where (waits (before words) unplaced) n ⌝ }
 {
     let mut word: u64 = 0;
     let mut g = n;
@@ -100,8 +101,8 @@ fn round(words: &[u64], n: usize, unplaced: u64) -> u64
 
 // At most as many rounds as there are gates: what is unplaced then stands in a ring, or behind one.
 pub fn ordered(links: &[usize]) -> bool
-    requires { ⌜ length (now links) ≡ 4816 ⌝ }
-    ensures { λ r. ⌜ r ≡ question-6 (net (now (links .entry))) ⌝ }
+    requires { ⌜ Linked links ⌝ }
+    ensures { λ r. ⌜ r ≡ question-6 (net-of links) ⌝ }
 {
     let n = links::gates(links);
     let mut words: [u64; MOST_GATES] = [0; MOST_GATES];

@@ -5,6 +5,7 @@ ghost use Prim.Native.Nat.{_+_, _*_, _≤_};
 ghost use lib.Dec.{eqb};
 ghost use lib.ListN.{length, getD};
 ghost use Rattle.words.specs.Words.{words};
+ghost use Rattle.words.specs.Slices.{before, was};
 ghost use Rattle.model.specs.Base.{all, sum};
 ghost use Rattle.model.specs.Circuit.{part, circuit as circuit-of};
 ghost use Rattle.model.specs.Questions.{question-1, question-8, question-9, question-10, good-length, within};
@@ -26,7 +27,7 @@ fn words_of(ticks: u64, stimuli: u64) -> u64
 
 // Whether the bytes are whole words, at least two, the two sizes in range and the length as they give.
 pub fn script_sizes(script: &[u8]) -> bool
-    ensures { λ r. ⌜ r ≡ question-8 (now (script .entry)) (words (now (script .entry))) ⌝ }
+    ensures { λ r. ⌜ r ≡ question-8 (before script) (was script) ⌝ }
 {
     let bytes = script.len();
     if bytes % 8 != 0 {
@@ -63,7 +64,7 @@ fn good_length(bits: u64) -> bool
 // Whether all tick lengths are good.
 fn good_lengths(script: &[u8], count: usize) -> bool
     requires { ⌜ (2 + count) * 8 ≤ length (now script) ⌝ }
-    ensures { λ r. ⌜ r ≡ all good-length (part (words (now (script .entry))) 2 count) ⌝ }
+    ensures { λ r. ⌜ r ≡ all good-length (part (was script) 2 count) ⌝ }
 {
     let mut i = 0;
     while i < count {
@@ -79,8 +80,7 @@ fn good_lengths(script: &[u8], count: usize) -> bool
 // Whether the stimulus counts are each at most 64, and together as many as there are stimuli.
 fn good_counts(script: &[u8], first: usize, count: usize, stimuli: u64) -> bool
     requires { ⌜ (count ≤ 100000) × ((first + count) * 8 ≤ length (now script)) ⌝ }
-    ensures { λ r. ⌜ r ≡ (all (within 0 64) (part (words (now (script .entry))) first count)
-        && eqb (sum (part (words (now (script .entry))) first count)) stimuli) ⌝ }
+    ensures { λ r. ⌜ r ≡ (all (within 0 64) (part (was script) first count) && eqb (sum (part (was script) first count)) stimuli) ⌝ }
 {
     let mut total: u64 = 0;
     let mut i = 0;
@@ -99,7 +99,7 @@ fn good_counts(script: &[u8], first: usize, count: usize, stimuli: u64) -> bool
 // Whether all ticks of a script are good.
 pub fn ticks(script: &[u8]) -> bool
     requires { ⌜ question-8 (now script) (words (now script)) ≡ true ⌝ }
-    ensures { λ r. ⌜ r ≡ question-9 (words (now (script .entry))) ⌝ }
+    ensures { λ r. ⌜ r ≡ question-9 (was script) ⌝ }
 {
     let count = get(script, 0) as usize;
     let stimuli = get(script, 1);
@@ -111,7 +111,7 @@ pub fn ticks(script: &[u8]) -> bool
 // The kind of gate g, where the `count` kinds stand from word `first` on; 0 where there is no gate g.
 fn kind_of_gate(circuit: &[u8], first: usize, count: u64, g: u64) -> u64
     requires { ⌜ (first + count) * 8 ≤ length (now circuit) ⌝ }
-    ensures { λ r. ⌜ r ≡ getD (part (words (now (circuit .entry))) first count) g 0 ⌝ }
+    ensures { λ r. ⌜ r ≡ getD (part (was circuit) first count) g 0 ⌝ }
 {
     if g < count {
         get(circuit, first + g as usize)
@@ -130,7 +130,7 @@ fn world_events(
     count: usize,
 ) -> bool
     requires { ⌜ ((first + gates) * 8 ≤ length (now circuit)) × ((at + count) * 8 ≤ length (now script)) ⌝ }
-    ensures { λ r. ⌜ r ≡ all (λ g. eqb (getD (part (words (now (circuit .entry))) first gates) g 0) 28) (part (words (now (script .entry))) at count) ⌝ }
+    ensures { λ r. ⌜ r ≡ all (λ g. eqb (getD (part (was circuit) first gates) g 0) 28) (part (was script) at count) ⌝ }
 {
     let mut i = 0;
     while i < count {
@@ -146,7 +146,7 @@ fn world_events(
 // Whether all stimuli of a script are good for a circuit.
 pub fn stimuli(circuit: &[u8], script: &[u8]) -> bool
     requires { ⌜ (question-1 (now circuit) (words (now circuit)) ≡ true) × (question-8 (now script) (words (now script)) ≡ true) ⌝ }
-    ensures { λ r. ⌜ r ≡ question-10 (words (now (script .entry))) (circuit-of (words (now (circuit .entry)))) ⌝ }
+    ensures { λ r. ⌜ r ≡ question-10 (was script) (circuit-of (was circuit)) ⌝ }
 {
     let gates = get(circuit, 0);
     let constants = get(circuit, 1);

@@ -1,7 +1,7 @@
 // Question 1: are the bytes whole words, and as many as the circuit's sizes give?
 ghost use mathlib.Core.Path.{_≡_};
 ghost use Prim.Native.Nat.{_+_, _*_, _≤_};
-ghost use Rattle.words.specs.Words.{words};
+ghost use Rattle.words.specs.Slices.{before, was};
 ghost use Rattle.model.specs.Questions.{question-1};
 use super::columns::within;
 use words::get;
@@ -16,7 +16,7 @@ fn words_of(gates: u64, constants: u64, inputs: u64, calls: u64) -> u64
 
 // Whether the bytes are whole words, at least four, the four sizes in range and the length as they give.
 pub fn sizes(circuit: &[u8]) -> bool
-    ensures { λ r. ⌜ r ≡ question-1 (now (circuit .entry)) (words (now (circuit .entry))) ⌝ }
+    ensures { λ r. ⌜ r ≡ question-1 (before circuit) (was circuit) ⌝ }
 {
     let bytes = circuit.len();
     if bytes % 8 != 0 {

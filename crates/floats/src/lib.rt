@@ -1,7 +1,7 @@
 // Floats by their bits: sums, comparisons, narrowing, and conversions to and from Ints. Every function is total; all NaN patterns stand for one NaN.
-ghost use Prim.Native.Nat.{_+_, _-_, _*_, _/_, _^_, _≤_, _<_};
 ghost use mathlib.Core.Path.{_≡_};
 ghost use mathlib.Core.Bool.{cond};
+ghost use Prim.Native.Nat.{_+_, _-_, _*_, _/_, _^_, _≤_, _<_};
 ghost use lib.Dec.{leb};
 ghost use lib.IntN.{pos, negℤ};
 ghost use lib.Ieee.{binary32, binary64, ofBits, toBits};

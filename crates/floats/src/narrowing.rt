@@ -1,7 +1,7 @@
 // Narrowing: the f32 nearest to an f64, ties to even, worked out from the bits by whole numbers alone.
-ghost use Prim.Native.Nat.{_+_, _*_, _^_, _≤_, _<_};
 ghost use mathlib.Core.Path.{_≡_};
 ghost use mathlib.Core.Bool.{cond};
+ghost use Prim.Native.Nat.{_^_, _≤_, _<_};
 ghost use lib.Dec.{leb};
 ghost use lib.Ieee.Nearest.{closest};
 ghost use Rattle.model.specs.Value.{narrow};

@@ -2,20 +2,20 @@
 ghost use mathlib.Core.Path.{_≡_};
 ghost use Prim.Native.Nat.{_+_, _<_, _≤_};
 ghost use lib.ListN.{getD, set};
-ghost use Rattle.words.specs.Words.{words};
+ghost use Rattle.words.specs.Slices.{before, after, was};
 ghost use Rattle.links.specs.Links.{packed};
 ghost use Rattle.linking.specs.Building.{written};
 
 // Word i of the circuit, and 0 past the end.
 pub fn word(circuit: &[u8], i: usize) -> usize
-    ensures { λ r. ⌜ r ≡ getD (words (now (circuit .entry))) i 0 ⌝ }
+    ensures { λ r. ⌜ r ≡ getD (was circuit) i 0 ⌝ }
 {
     words::read(circuit, i) as usize
 }
 
 // Cell i becomes v. Where there is no cell i, nothing changes.
 pub fn put(cells: &mut [usize], i: usize, v: usize)
-    ensures { λ _. ⌜ now (cells .exit) ≡ set (now (cells .entry)) i v ⌝ }
+    ensures { λ _. ⌜ after cells ≡ set (before cells) i v ⌝ }
 {
     if i < cells.len() {
         cells[i] = v;
@@ -26,7 +26,7 @@ pub fn put(cells: &mut [usize], i: usize, v: usize)
 pub fn fill(cells: &mut [usize], base: usize, n: usize, v: usize)
     requires { ⌜ base ≤ 65536 ⌝ }
     requires { ⌜ n ≤ 65536 ⌝ }
-    ensures { λ _. ⌜ now (cells .exit) ≡ written (now (cells .entry)) base n (λ k. v) ⌝ }
+    ensures { λ _. ⌜ after cells ≡ written (before cells) base n (λ k. v) ⌝ }
 {
     let mut k: usize = 0;
     while k < n {
@@ -40,7 +40,7 @@ pub fn copy(circuit: &[u8], first: usize, n: usize, cells: &mut [usize], base: u
     requires { ⌜ first ≤ 65536 ⌝ }
     requires { ⌜ n ≤ 65536 ⌝ }
     requires { ⌜ base ≤ 65536 ⌝ }
-    ensures { λ _. ⌜ now (cells .exit) ≡ written (now (cells .entry)) base n (λ k. getD (words (now (circuit .entry))) (first + k) 0) ⌝ }
+    ensures { λ _. ⌜ after cells ≡ written (before cells) base n (λ k. getD (was circuit) (first + k) 0) ⌝ }
 {
     let mut k: usize = 0;
     while k < n {

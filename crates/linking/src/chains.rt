@@ -4,7 +4,7 @@ ghost use mathlib.Core.List.{map};
 ghost use Prim.Native.Nat.{_+_, _≤_};
 ghost use lib.ListN.{length, getD};
 ghost use lib.Seq.{sets};
-ghost use Rattle.words.specs.Words.{words};
+ghost use Rattle.words.specs.Slices.{before, after, was};
 ghost use Rattle.model.specs.Base.{joined};
 ghost use Rattle.links.specs.Links.{listed};
 ghost use Rattle.linking.specs.Building.{chains, chained, all-chained, chain-at, size-at, target};
@@ -22,7 +22,7 @@ pub const END: usize = MOST_INPUTS;
 pub fn chain_all(circuit: &[u8], keys: usize, n: usize, heads: &mut [usize], next: &mut [usize])
     requires { ⌜ keys ≤ 65536 ⌝ }
     requires { ⌜ n ≤ 65536 ⌝ }
-    ensures { λ _. ⌜ chains (now (heads .exit)) (now (next .exit)) ≡ all-chained (λ i. getD (words (now (circuit .entry))) (keys + i) 0) n (chains (now (heads .entry)) (now (next .entry))) ⌝ }
+    ensures { λ _. ⌜ chains (after heads) (after next) ≡ all-chained (λ i. getD (was circuit) (keys + i) 0) n (chains (before heads) (before next)) ⌝ }
 {
     let mut i = n;
     while 0 < i {
@@ -34,7 +34,7 @@ pub fn chain_all(circuit: &[u8], keys: usize, n: usize, heads: &mut [usize], nex
 
 // Number i comes first in chain `key`, if there is one.
 fn chain_one(heads: &mut [usize], next: &mut [usize], i: usize, key: usize)
-    ensures { λ _. ⌜ chains (now (heads .exit)) (now (next .exit)) ≡ chained (chains (now (heads .entry)) (now (next .entry))) i key ⌝ }
+    ensures { λ _. ⌜ chains (after heads) (after next) ≡ chained (chains (before heads) (before next)) i key ⌝ }
 {
     let head = at(heads, key);
     put(next, i, head);
@@ -43,7 +43,7 @@ fn chain_one(heads: &mut [usize], next: &mut [usize], i: usize, key: usize)
 
 // How many members chain o has.
 pub fn chain_size(heads: &[usize], next: &[usize], o: usize) -> usize
-    ensures { λ r. ⌜ r ≡ size-at (chains (now (heads .entry)) (now (next .entry))) o ⌝ }
+    ensures { λ r. ⌜ r ≡ size-at (chains (before heads) (before next)) o ⌝ }
 {
     let mut p = at(heads, o);
     let mut n: usize = 0;
@@ -71,7 +71,7 @@ pub fn write_chains(
     requires { ⌜ length (now next) ≤ 65536 ⌝ }
     requires { ⌜ n ≤ 65536 ⌝ }
     requires { ⌜ base ≤ 65536 ⌝ }
-    ensures { λ _. ⌜ now (cells .exit) ≡ sets (now (cells .entry)) base (joined (listed n (λ o. map (target (words (now (circuit .entry))) targets) (chain-at (chains (now (heads .entry)) (now (next .entry))) o)))) ⌝ }
+    ensures { λ _. ⌜ after cells ≡ sets (before cells) base (joined (listed n (λ o. map (target (was circuit) targets) (chain-at (chains (before heads) (before next)) o)))) ⌝ }
 {
     let mut done: usize = 0;
     let mut o: usize = 0;
@@ -96,7 +96,7 @@ fn write_chain(
     requires { ⌜ targets ≤ 65536 ⌝ }
     requires { ⌜ length (now next) ≤ 65536 ⌝ }
     requires { ⌜ base ≤ 4294967296 ⌝ }
-    ensures { λ _. ⌜ now (cells .exit) ≡ sets (now (cells .entry)) base (map (target (words (now (circuit .entry))) targets) (chain-at (chains (now (heads .entry)) (now (next .entry))) o)) ⌝ }
+    ensures { λ _. ⌜ after cells ≡ sets (before cells) base (map (target (was circuit) targets) (chain-at (chains (before heads) (before next)) o)) ⌝ }
 {
     let mut p = at(heads, o);
     let mut n: usize = 0;
@@ -115,7 +115,7 @@ fn write_chain(
 fn target(circuit: &[u8], targets: usize, i: usize) -> usize
     requires { ⌜ targets ≤ 65536 ⌝ }
     requires { ⌜ i ≤ 65536 ⌝ }
-    ensures { λ r. ⌜ r ≡ target (words (now (circuit .entry))) targets i ⌝ }
+    ensures { λ r. ⌜ r ≡ target (was circuit) targets i ⌝ }
 {
     if targets == 0 {
         return i;
@@ -125,7 +125,7 @@ fn target(circuit: &[u8], targets: usize, i: usize) -> usize
 
 // Cell i, and 0 past the end.
 fn at(cells: &[usize], i: usize) -> usize
-    ensures { λ r. ⌜ r ≡ getD (now (cells .entry)) i 0 ⌝ }
+    ensures { λ r. ⌜ r ≡ getD (before cells) i 0 ⌝ }
 {
     if i < cells.len() {
         return cells[i];

@@ -3,7 +3,7 @@ ghost use mathlib.Core.Path.{_≡_};
 ghost use Prim.Native.Nat.{_+_, _<_, _≤_};
 ghost use lib.ListN.{set};
 ghost use lib.Seq.{sets};
-ghost use Rattle.words.specs.Words.{words};
+ghost use Rattle.words.specs.Slices.{before, after, was};
 ghost use Rattle.linking.specs.Building.{gate-bit, bits-of, word-cells};
 use crate::cells::put;
 use kinds::numbers::*;
@@ -13,7 +13,7 @@ use links::layout::*;
 pub fn write_words(circuit: &[u8], kinds: usize, n: usize, cells: &mut [usize])
     requires { ⌜ kinds ≤ 65536 ⌝ }
     requires { ⌜ n ≤ 64 ⌝ }
-    ensures { λ _. ⌜ now (cells .exit) ≡ sets (now (cells .entry)) 4 (word-cells (words (now (circuit .entry))) kinds n) ⌝ }
+    ensures { λ _. ⌜ after cells ≡ sets (before cells) 4 (word-cells (was circuit) kinds n) ⌝ }
 {
     put_gates(
         circuit,
@@ -42,7 +42,7 @@ pub fn write_words(circuit: &[u8], kinds: usize, n: usize, cells: &mut [usize])
 fn put_buffers(circuit: &[u8], kinds: usize, n: usize, cells: &mut [usize], i: usize)
     requires { ⌜ kinds ≤ 65536 ⌝ }
     requires { ⌜ n ≤ 64 ⌝ }
-    ensures { λ _. ⌜ now (cells .exit) ≡ set (now (cells .entry)) i (bits-of (words (now (circuit .entry))) kinds n 10 13 + bits-of (words (now (circuit .entry))) kinds n 16 17) ⌝ }
+    ensures { λ _. ⌜ after cells ≡ set (before cells) i (bits-of (was circuit) kinds n 10 13 + bits-of (was circuit) kinds n 16 17) ⌝ }
 {
     let buffers = gates_within(circuit, kinds, n, BUFFER_TICKS, BUFFER_SECONDS_EXEC);
     let queues = gates_within(circuit, kinds, n, QUEUE_IN_TICKS, QUEUE_IN_SECONDS);
@@ -61,7 +61,7 @@ fn put_gates(
 )
     requires { ⌜ kinds ≤ 65536 ⌝ }
     requires { ⌜ n ≤ 64 ⌝ }
-    ensures { λ _. ⌜ now (cells .exit) ≡ set (now (cells .entry)) i (bits-of (words (now (circuit .entry))) kinds n low high) ⌝ }
+    ensures { λ _. ⌜ after cells ≡ set (before cells) i (bits-of (was circuit) kinds n low high) ⌝ }
 {
     let gates = gates_within(circuit, kinds, n, low, high);
     put(cells, i, gates);
@@ -71,7 +71,7 @@ fn put_gates(
 fn gates_within(circuit: &[u8], kinds: usize, n: usize, low: u64, high: u64) -> usize
     requires { ⌜ kinds ≤ 65536 ⌝ }
     requires { ⌜ n ≤ 64 ⌝ }
-    ensures { λ r. ⌜ r ≡ bits-of (words (now (circuit .entry))) kinds n low high ⌝ }
+    ensures { λ r. ⌜ r ≡ bits-of (was circuit) kinds n low high ⌝ }
 {
     let mut gates: usize = 0;
     let mut g: usize = 0;

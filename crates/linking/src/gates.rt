@@ -4,6 +4,7 @@ ghost use mathlib.Core.List.{[], _∷_};
 ghost use Prim.Native.Nat.{_*_, _≤_};
 ghost use lib.Seq.{sets};
 ghost use Rattle.words.specs.Words.{words};
+ghost use Rattle.words.specs.Slices.{before, after, was};
 ghost use Rattle.model.specs.Base.{joined};
 ghost use Rattle.links.specs.Links.{listed};
 ghost use Rattle.linking.specs.Building.{written, below, Small, ins-at, outs-at, gate-cell, output-cells, gates-written};
@@ -27,7 +28,7 @@ pub fn link_gates(
     requires { ⌜ kinds ≤ 65536 ⌝ }
     requires { ⌜ gates ≤ 64 ⌝ }
     requires { ⌜ Small (words (now circuit)) kinds (2 * gates) ⌝ }
-    ensures { λ _. ⌜ now (cells .exit) ≡ gates-written (words (now (circuit .entry))) kinds gates constants inputs outputs (now (cells .entry)) ⌝ }
+    ensures { λ _. ⌜ after cells ≡ gates-written (was circuit) kinds gates constants inputs outputs (before cells) ⌝ }
 {
     write_counts(gates, constants, inputs, outputs, cells);
     write_words(circuit, kinds, gates, cells);
@@ -37,7 +38,7 @@ pub fn link_gates(
 
 // The counts.
 fn write_counts(gates: usize, constants: usize, inputs: usize, outputs: usize, cells: &mut [usize])
-    ensures { λ _. ⌜ now (cells .exit) ≡ sets (now (cells .entry)) 0 (gates ∷ constants ∷ inputs ∷ outputs ∷ []) ⌝ }
+    ensures { λ _. ⌜ after cells ≡ sets (before cells) 0 (gates ∷ constants ∷ inputs ∷ outputs ∷ []) ⌝ }
 {
     put(cells, GATE_COUNT, gates);
     put(cells, CONSTANT_COUNT, constants);
@@ -51,7 +52,7 @@ fn write_gates(circuit: &[u8], kinds: usize, n: usize, cells: &mut [usize], base
     requires { ⌜ n ≤ 64 ⌝ }
     requires { ⌜ base ≤ 65536 ⌝ }
     requires { ⌜ Small (words (now circuit)) kinds (2 * n) ⌝ }
-    ensures { λ _. ⌜ now (cells .exit) ≡ written (now (cells .entry)) base n (gate-cell (words (now (circuit .entry))) kinds n) ⌝ }
+    ensures { λ _. ⌜ after cells ≡ written (before cells) base n (gate-cell (was circuit) kinds n) ⌝ }
 {
     let mut inputs: usize = 0;
     let mut outputs: usize = 0;
@@ -71,7 +72,7 @@ fn write_outputs(circuit: &[u8], kinds: usize, n: usize, cells: &mut [usize], ba
     requires { ⌜ kinds ≤ 65536 ⌝ }
     requires { ⌜ n ≤ 64 ⌝ }
     requires { ⌜ base ≤ 32768 ⌝ }
-    ensures { λ _. ⌜ now (cells .exit) ≡ sets (now (cells .entry)) base (joined (listed n (output-cells (words (now (circuit .entry))) kinds))) ⌝ }
+    ensures { λ _. ⌜ after cells ≡ sets (before cells) base (joined (listed n (output-cells (was circuit) kinds))) ⌝ }
 {
     let mut done: usize = 0;
     let mut g: usize = 0;
@@ -87,7 +88,7 @@ fn write_outputs(circuit: &[u8], kinds: usize, n: usize, cells: &mut [usize], ba
 pub fn count_outputs(circuit: &[u8], kinds: usize, n: usize) -> usize
     requires { ⌜ kinds ≤ 65536 ⌝ }
     requires { ⌜ n ≤ 64 ⌝ }
-    ensures { λ r. ⌜ r ≡ below (outs-at (words (now (circuit .entry))) kinds) n ⌝ }
+    ensures { λ r. ⌜ r ≡ below (outs-at (was circuit) kinds) n ⌝ }
 {
     let mut outputs: usize = 0;
     let mut g: usize = 0;
@@ -102,7 +103,7 @@ pub fn count_outputs(circuit: &[u8], kinds: usize, n: usize) -> usize
 pub fn inputs_of(circuit: &[u8], kinds: usize, g: usize) -> usize
     requires { ⌜ kinds ≤ 65536 ⌝ }
     requires { ⌜ g ≤ 65536 ⌝ }
-    ensures { λ r. ⌜ r ≡ ins-at (words (now (circuit .entry))) kinds g ⌝ }
+    ensures { λ r. ⌜ r ≡ ins-at (was circuit) kinds g ⌝ }
 {
     kinds::inputs(words::read(circuit, kinds + g))
 }
@@ -111,7 +112,7 @@ pub fn inputs_of(circuit: &[u8], kinds: usize, g: usize) -> usize
 fn outputs_of(circuit: &[u8], kinds: usize, g: usize) -> usize
     requires { ⌜ kinds ≤ 65536 ⌝ }
     requires { ⌜ g ≤ 65536 ⌝ }
-    ensures { λ r. ⌜ r ≡ outs-at (words (now (circuit .entry))) kinds g ⌝ }
+    ensures { λ r. ⌜ r ≡ outs-at (was circuit) kinds g ⌝ }
 {
     kinds::outputs(words::read(circuit, kinds + g))
 }

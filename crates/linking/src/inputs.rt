@@ -3,7 +3,7 @@ ghost use mathlib.Core.Path.{_≡_};
 ghost use Prim.Native.Nat.{_+_, _<_, _≤_};
 ghost use lib.ListN.{length, getD};
 ghost use lib.Seq.{sets};
-ghost use Rattle.words.specs.Words.{words};
+ghost use Rattle.words.specs.Slices.{before, after, was};
 ghost use Rattle.model.specs.Base.{joined};
 ghost use Rattle.model.specs.Kinds.{kind-at, value};
 ghost use Rattle.model.specs.Circuit.{is-watched, source-of};
@@ -34,7 +34,7 @@ pub fn link_inputs(
     requires { ⌜ sources ≤ 32768 ⌝ }
     requires { ⌜ inputs ≤ 640 ⌝ }
     requires { ⌜ constants ≤ 64 ⌝ }
-    ensures { λ _. ⌜ now (cells .exit) ≡ inputs-written (words (now (circuit .entry))) kinds gates sources inputs constants (now (cells .entry)) ⌝ }
+    ensures { λ _. ⌜ after cells ≡ inputs-written (was circuit) kinds gates sources inputs constants (before cells) ⌝ }
 {
     let stored = sources + inputs;
     copy(circuit, sources, inputs, cells, SOURCES);
@@ -74,7 +74,7 @@ fn copy_named(
     requires { ⌜ named ≤ 65536 ⌝ }
     requires { ⌜ count ≤ 65536 ⌝ }
     requires { ⌜ base ≤ 65536 ⌝ }
-    ensures { λ _. ⌜ now (cells .exit) ≡ written (now (cells .entry)) base n (λ k. named-word (words (now (circuit .entry))) named count (getD (words (now (circuit .entry))) (first + k) 0)) ⌝ }
+    ensures { λ _. ⌜ after cells ≡ written (before cells) base n (λ k. named-word (was circuit) named count (getD (was circuit) (first + k) 0)) ⌝ }
 {
     let mut k: usize = 0;
     while k < n {
@@ -89,7 +89,7 @@ fn copy_named(
 fn word_named(circuit: &[u8], named: usize, count: usize, k: usize) -> usize
     requires { ⌜ named ≤ 65536 ⌝ }
     requires { ⌜ count ≤ 65536 ⌝ }
-    ensures { λ r. ⌜ r ≡ named-word (words (now (circuit .entry))) named count k ⌝ }
+    ensures { λ r. ⌜ r ≡ named-word (was circuit) named count k ⌝ }
 {
     if k == 0 {
         return 0;
@@ -113,7 +113,7 @@ fn write_inputs(
     requires { ⌜ n ≤ 64 ⌝ }
     requires { ⌜ sources ≤ 32768 ⌝ }
     requires { ⌜ base ≤ 32768 ⌝ }
-    ensures { λ _. ⌜ now (cells .exit) ≡ sets (now (cells .entry)) base (joined (listed n (input-cells (words (now (circuit .entry))) kinds sources))) ⌝ }
+    ensures { λ _. ⌜ after cells ≡ sets (before cells) base (joined (listed n (input-cells (was circuit) kinds sources))) ⌝ }
 {
     let mut done: usize = 0;
     let mut g: usize = 0;
@@ -137,7 +137,7 @@ fn write_inputs_of(
     requires { ⌜ sources ≤ 65536 ⌝ }
     requires { ⌜ g < 65536 ⌝ }
     requires { ⌜ base ≤ 65536 ⌝ }
-    ensures { λ _. ⌜ now (cells .exit) ≡ written (now (cells .entry)) base (length (kind-at kind .ins)) (λ p. input-cell kind g (getD (words (now (circuit .entry))) (sources + p) 0) p) ⌝ }
+    ensures { λ _. ⌜ after cells ≡ written (before cells) base (length (kind-at kind .ins)) (λ p. input-cell kind g (getD (was circuit) (sources + p) 0) p) ⌝ }
 {
     let n = kinds::inputs(kind);
     let mut p: usize = 0;

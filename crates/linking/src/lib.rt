@@ -2,11 +2,12 @@
 ghost use mathlib.Core.Path.{_≡_};
 ghost use mathlib.Core.Bool.{true};
 ghost use Prim.Native.Nat.{_+_, _*_, _≤_};
-ghost use lib.ListN.{length};
 ghost use Rattle.words.specs.Words.{words};
+ghost use Rattle.words.specs.Slices.{before, after, was};
 ghost use Rattle.model.specs.Circuit.{circuit as circuit-of};
 ghost use Rattle.model.specs.Questions.{question-1, question-2, question-3};
 ghost use Rattle.links.specs.Links.{cells};
+ghost use Rattle.links.specs.Lent.{Linked};
 ghost use Rattle.linking.specs.Building.{Small, constants-written, all-written};
 use crate::cells::copy;
 use crate::cells::fill;
@@ -32,8 +33,8 @@ pub fn link(circuit: &[u8], links: &mut [usize])
     requires { ⌜ question-1 (now circuit) (words (now circuit)) ≡ true ⌝ }
     requires { ⌜ question-2 (words (now circuit)) ≡ true ⌝ }
     requires { ⌜ question-3 (words (now circuit)) (circuit-of (words (now circuit))) ≡ true ⌝ }
-    requires { ⌜ length (now links) ≡ 4816 ⌝ }
-    ensures { λ _. ⌜ now (links .exit) ≡ cells (circuit-of (words (now (circuit .entry)))) ⌝ }
+    requires { ⌜ Linked links ⌝ }
+    ensures { λ _. ⌜ after links ≡ cells (circuit-of (was circuit)) ⌝ }
 {
     let gates = word(circuit, 0);
     let constants = word(circuit, 1);
@@ -56,7 +57,7 @@ fn link_all(
     requires { ⌜ inputs ≤ 640 ⌝ }
     requires { ⌜ calls ≤ 256 ⌝ }
     requires { ⌜ Small (words (now circuit)) (4 + 2 * constants) (2 * gates) ⌝ }
-    ensures { λ _. ⌜ now (cells .exit) ≡ all-written (words (now (circuit .entry))) gates constants inputs calls (now (cells .entry)) ⌝ }
+    ensures { λ _. ⌜ after cells ≡ all-written (was circuit) gates constants inputs calls (before cells) ⌝ }
 {
     let kinds = CONSTANTS + 2 * constants;
     let sources = kinds + 2 * gates;
@@ -72,7 +73,7 @@ fn link_all(
 // The tables of the constants.
 fn link_constants(circuit: &[u8], constants: usize, cells: &mut [usize])
     requires { ⌜ constants ≤ 64 ⌝ }
-    ensures { λ _. ⌜ now (cells .exit) ≡ constants-written (words (now (circuit .entry))) constants (now (cells .entry)) ⌝ }
+    ensures { λ _. ⌜ after cells ≡ constants-written (was circuit) constants (before cells) ⌝ }
 {
     copy(circuit, CONSTANTS, constants, cells, CONSTANT_KINDS);
     copy(

@@ -1,8 +1,9 @@
 // What is written of who reads an output and whom it calls.
 ghost use mathlib.Core.Path.{_≡_};
 ghost use Prim.Native.Nat.{_<_, _≤_};
-ghost use Rattle.words.specs.Words.{words};
+ghost use Rattle.words.specs.Slices.{before, after, was};
 ghost use Rattle.linking.specs.Building.{written, below, chains, size-at, row-of, lists-written};
+ghost use Rattle.linking.specs.Lent.{sizes-in};
 use crate::cells::pack;
 use crate::cells::put;
 use crate::chains::END;
@@ -27,7 +28,7 @@ pub fn link_lists(
     requires { ⌜ calls ≤ 32768 ⌝ }
     requires { ⌜ count ≤ 640 ⌝ }
     requires { ⌜ outputs ≤ 576 ⌝ }
-    ensures { λ _. ⌜ now (cells .exit) ≡ lists-written (words (now (circuit .entry))) sources inputs calls count outputs (now (cells .entry)) ⌝ }
+    ensures { λ _. ⌜ after cells ≡ lists-written (was circuit) sources inputs calls count outputs (before cells) ⌝ }
 {
     let mut reader_heads = [END; MOST_OUTPUTS];
     let mut reader_next = [END; MOST_INPUTS];
@@ -84,7 +85,7 @@ fn write_rows(
     requires { ⌜ base ≤ 65536 ⌝ }
     requires { ⌜ below (size-at (chains (now «reader_heads») (now «reader_next»))) n < 65536 ⌝ }
     requires { ⌜ below (size-at (chains (now «call_heads») (now «call_next»))) n < 65536 ⌝ }
-    ensures { λ _. ⌜ now (cells .exit) ≡ written (now (cells .entry)) base n (row-of (size-at (chains (now («reader_heads» .entry)) (now («reader_next» .entry)))) (size-at (chains (now («call_heads» .entry)) (now («call_next» .entry))))) ⌝ }
+    ensures { λ _. ⌜ after cells ≡ written (before cells) base n (row-of (sizes-in «reader_heads» «reader_next») (sizes-in «call_heads» «call_next»)) ⌝ }
 {
     let mut readers: usize = 0;
     let mut calls: usize = 0;

@@ -2,11 +2,13 @@
 ghost use mathlib.Core.Path.{_≡_};
 ghost use Prim.Native.Nat.{_+_, _<_, _≤_, min};
 ghost use lib.ListN.{length, getD, drop};
+ghost use Rattle.words.specs.Slices.{before};
 ghost use Rattle.model.specs.Circuit.{kind-of-gate, rank-of-gate, input, output, gate-at-input, gate-at-output, watching, source, stored-in, setting};
 ghost use Rattle.model.specs.declared.Value.the-variants.{Nothing};
 ghost use Rattle.model.specs.Kinds.{value, fires};
 ghost use Rattle.kinds.specs.Pins.{in-of, out-of};
-ghost use Rattle.links.specs.Links.{gates-at, inputs-at, rows-at, entries, call-of, cell, net, first-reader, reader-count, reader-at, first-call, call-count, target, output-read, gates-of-word};
+ghost use Rattle.links.specs.Links.{gates-at, inputs-at, rows-at, entries, call-of, cell, first-reader, reader-count, reader-at, first-call, call-count, target, output-read, gates-of-word};
+ghost use Rattle.links.specs.Lent.{Linked, net-of, Short};
 use crate::layout::*;
 use model::Value;
 use values::value_of;
@@ -34,8 +36,8 @@ pub enum Read {
 
 // Cell at + i, which is 0 past the last.
 fn cell(links: &[usize], at: usize, i: usize) -> usize
-    requires { ⌜ (length (now links) ≡ 4816) × (at ≤ 4816) ⌝ }
-    ensures { λ r. ⌜ r ≡ cell (now (links .entry)) (at + i) ⌝ }
+    requires { ⌜ Linked links × (at ≤ 4816) ⌝ }
+    ensures { λ r. ⌜ r ≡ cell (before links) (at + i) ⌝ }
 {
     if i < CELLS - at {
         return links[at + i];
@@ -45,8 +47,8 @@ fn cell(links: &[usize], at: usize, i: usize) -> usize
 
 // The count in cell n, at most `most`.
 fn counted(links: &[usize], n: usize, most: usize) -> usize
-    requires { ⌜ (length (now links) ≡ 4816) × (n < 16) ⌝ }
-    ensures { λ r. ⌜ r ≡ min (cell (now (links .entry)) n) most ⌝ }
+    requires { ⌜ Linked links × (n < 16) ⌝ }
+    ensures { λ r. ⌜ r ≡ min (cell (before links) n) most ⌝ }
 {
     if links[n] < most {
         return links[n];
@@ -56,8 +58,8 @@ fn counted(links: &[usize], n: usize, most: usize) -> usize
 
 // Cell i of the table that begins at `at`, of which cell n says how many are in use, and `missing` past those.
 fn entry(links: &[usize], n: usize, most: usize, at: usize, i: usize, missing: usize) -> usize
-    requires { ⌜ (length (now links) ≡ 4816) × (n < 16) × (at + most ≤ 4816) ⌝ }
-    ensures { λ r. ⌜ r ≡ getD (entries (now (links .entry)) n most at) i missing ⌝ }
+    requires { ⌜ Linked links × (n < 16) × (at + most ≤ 4816) ⌝ }
+    ensures { λ r. ⌜ r ≡ getD (entries (before links) n most at) i missing ⌝ }
 {
     if i < most {
         if i < links[n] {
@@ -71,40 +73,40 @@ fn entry(links: &[usize], n: usize, most: usize, at: usize, i: usize, missing: u
 
 // How many gates there are.
 pub fn gates(links: &[usize]) -> usize
-    requires { ⌜ length (now links) ≡ 4816 ⌝ }
-    ensures { λ r. ⌜ (r ≡ length (net (now (links .entry)) .kinds)) × (r ≤ 64) ⌝ }
+    requires { ⌜ Linked links ⌝ }
+    ensures { λ r. ⌜ (r ≡ length (net-of links .kinds)) × (r ≤ 64) ⌝ }
 {
     counted(links, GATE_COUNT, MOST_GATES)
 }
 
 // How many inputs there are.
 pub fn inputs(links: &[usize]) -> usize
-    requires { ⌜ length (now links) ≡ 4816 ⌝ }
-    ensures { λ r. ⌜ (r ≡ length (net (now (links .entry)) .pins)) × (r ≤ 640) ⌝ }
+    requires { ⌜ Linked links ⌝ }
+    ensures { λ r. ⌜ (r ≡ length (net-of links .pins)) × (r ≤ 640) ⌝ }
 {
     counted(links, INPUT_COUNT, MOST_INPUTS)
 }
 
 // How many outputs there are.
 pub fn outputs(links: &[usize]) -> usize
-    requires { ⌜ length (now links) ≡ 4816 ⌝ }
-    ensures { λ r. ⌜ (r ≡ length (net (now (links .entry)) .outputs)) × (r ≤ 576) ⌝ }
+    requires { ⌜ Linked links ⌝ }
+    ensures { λ r. ⌜ (r ≡ length (net-of links .outputs)) × (r ≤ 576) ⌝ }
 {
     counted(links, OUTPUT_COUNT, MOST_OUTPUTS)
 }
 
 // How many constants there are, nothing among them.
 pub fn constants(links: &[usize]) -> usize
-    requires { ⌜ length (now links) ≡ 4816 ⌝ }
-    ensures { λ r. ⌜ (r ≡ length (net (now (links .entry)) .constants)) × (r ≤ 65) ⌝ }
+    requires { ⌜ Linked links ⌝ }
+    ensures { λ r. ⌜ (r ≡ length (net-of links .constants)) × (r ≤ 65) ⌝ }
 {
     counted(links, CONSTANT_COUNT, MOST_CONSTANTS) + 1
 }
 
 // The constant named k, which is nothing for 0 and where there is none.
 pub fn constant(links: &[usize], k: usize) -> Value
-    requires { ⌜ length (now links) ≡ 4816 ⌝ }
-    ensures { λ r. ⌜ r ≡ getD (net (now (links .entry)) .constants) k Nothing ⌝ }
+    requires { ⌜ Linked links ⌝ }
+    ensures { λ r. ⌜ r ≡ getD (net-of links .constants) k Nothing ⌝ }
 {
     if k == 0 {
         return Value::Nothing;
@@ -132,40 +134,40 @@ pub fn constant(links: &[usize], k: usize) -> Value
 
 // What is written of gate g.
 fn gate_entry(links: &[usize], g: usize) -> usize
-    requires { ⌜ length (now links) ≡ 4816 ⌝ }
-    ensures { λ r. ⌜ r ≡ getD (entries (now (links .entry)) 0 64 gates-at) g 0 ⌝ }
+    requires { ⌜ Linked links ⌝ }
+    ensures { λ r. ⌜ r ≡ getD (entries (before links) 0 64 gates-at) g 0 ⌝ }
 {
     entry(links, GATE_COUNT, MOST_GATES, GATES, g, 0)
 }
 
 // The kind of gate g, and 0 where there is none.
 pub fn kind_of_gate(links: &[usize], g: usize) -> u64
-    requires { ⌜ length (now links) ≡ 4816 ⌝ }
-    ensures { λ r. ⌜ r ≡ kind-of-gate (net (now (links .entry))) g ⌝ }
+    requires { ⌜ Linked links ⌝ }
+    ensures { λ r. ⌜ r ≡ kind-of-gate (net-of links) g ⌝ }
 {
     (gate_entry(links, g) % DIGIT) as u64
 }
 
 // The rank of gate g, and 0 where there is none.
 pub fn rank_of_gate(links: &[usize], g: usize) -> u64
-    requires { ⌜ length (now links) ≡ 4816 ⌝ }
-    ensures { λ r. ⌜ r ≡ rank-of-gate (net (now (links .entry))) g ⌝ }
+    requires { ⌜ Linked links ⌝ }
+    ensures { λ r. ⌜ r ≡ rank-of-gate (net-of links) g ⌝ }
 {
     (gate_entry(links, g) / SECOND % DIGIT) as u64
 }
 
 // Input p of gate g.
 pub fn input(links: &[usize], g: usize, p: usize) -> usize
-    requires { ⌜ (length (now links) ≡ 4816) × (p < 65536) ⌝ }
-    ensures { λ r. ⌜ (r ≡ input (net (now (links .entry))) g p) × (r < 131072) ⌝ }
+    requires { ⌜ Linked links × Short p ⌝ }
+    ensures { λ r. ⌜ (r ≡ input (net-of links) g p) × (r < 131072) ⌝ }
 {
     gate_entry(links, g) / THIRD % DIGIT + p
 }
 
 // Output p of gate g.
 pub fn output(links: &[usize], g: usize, p: usize) -> usize
-    requires { ⌜ (length (now links) ≡ 4816) × (p < 65536) ⌝ }
-    ensures { λ r. ⌜ (r ≡ output (net (now (links .entry))) g p) × (r < 131072) ⌝ }
+    requires { ⌜ Linked links × Short p ⌝ }
+    ensures { λ r. ⌜ (r ≡ output (net-of links) g p) × (r < 131072) ⌝ }
 {
     gate_entry(links, g) / FOURTH % DIGIT + p
 }
@@ -174,16 +176,16 @@ pub fn output(links: &[usize], g: usize, p: usize) -> usize
 
 // What is written of input i.
 fn input_entry(links: &[usize], i: usize) -> usize
-    requires { ⌜ length (now links) ≡ 4816 ⌝ }
-    ensures { λ r. ⌜ r ≡ getD (entries (now (links .entry)) 2 640 inputs-at) i 0 ⌝ }
+    requires { ⌜ Linked links ⌝ }
+    ensures { λ r. ⌜ r ≡ getD (entries (before links) 2 640 inputs-at) i 0 ⌝ }
 {
     entry(links, INPUT_COUNT, MOST_INPUTS, INPUTS, i, 0)
 }
 
 // What input i is, and a value where there is none.
 pub fn pin_at(links: &[usize], i: usize) -> kinds::Pin
-    requires { ⌜ length (now links) ≡ 4816 ⌝ }
-    ensures { λ r. ⌜ in-of r ≡ getD (net (now (links .entry)) .pins) i value ⌝ }
+    requires { ⌜ Linked links ⌝ }
+    ensures { λ r. ⌜ in-of r ≡ getD (net-of links .pins) i value ⌝ }
 {
     if inputs(links) <= i {
         return kinds::Pin::Value;
@@ -196,24 +198,24 @@ pub fn pin_at(links: &[usize], i: usize) -> kinds::Pin
 
 // The gate that has input i, and 0 where there is none.
 pub fn gate_at_input(links: &[usize], i: usize) -> usize
-    requires { ⌜ length (now links) ≡ 4816 ⌝ }
-    ensures { λ r. ⌜ r ≡ gate-at-input (net (now (links .entry))) i ⌝ }
+    requires { ⌜ Linked links ⌝ }
+    ensures { λ r. ⌜ r ≡ gate-at-input (net-of links) i ⌝ }
 {
     input_entry(links, i) % DIGIT
 }
 
 // Whether a change of what input i reads is acted on.
 pub fn watching(links: &[usize], i: usize) -> bool
-    requires { ⌜ length (now links) ≡ 4816 ⌝ }
-    ensures { λ r. ⌜ r ≡ watching (net (now (links .entry))) i ⌝ }
+    requires { ⌜ Linked links ⌝ }
+    ensures { λ r. ⌜ r ≡ watching (net-of links) i ⌝ }
 {
     input_entry(links, i) / SECOND % DIGIT == 1
 }
 
 // What input i reads.
 pub fn source(links: &[usize], i: usize) -> Read
-    requires { ⌜ length (now links) ≡ 4816 ⌝ }
-    ensures { λ r. ⌜ output-read r ≡ source (net (now (links .entry))) i ⌝ }
+    requires { ⌜ Linked links ⌝ }
+    ensures { λ r. ⌜ output-read r ≡ source (net-of links) i ⌝ }
 {
     let o = entry(links, INPUT_COUNT, MOST_INPUTS, SOURCES, i, NO_SOURCE);
     if o == NO_SOURCE {
@@ -224,8 +226,8 @@ pub fn source(links: &[usize], i: usize) -> Read
 
 // The value stored in input i.
 pub fn stored_in(links: &[usize], i: usize) -> Value
-    requires { ⌜ length (now links) ≡ 4816 ⌝ }
-    ensures { λ r. ⌜ r ≡ stored-in (net (now (links .entry))) i ⌝ }
+    requires { ⌜ Linked links ⌝ }
+    ensures { λ r. ⌜ r ≡ stored-in (net-of links) i ⌝ }
 {
     let kind = entry(links, INPUT_COUNT, MOST_INPUTS, STORED_KINDS, i, 0);
     let content = entry(links, INPUT_COUNT, MOST_INPUTS, STORED_CONTENTS, i, 0);
@@ -234,8 +236,8 @@ pub fn stored_in(links: &[usize], i: usize) -> Value
 
 // Setting p of gate g.
 pub fn setting(links: &[usize], g: usize, p: usize) -> Value
-    requires { ⌜ (length (now links) ≡ 4816) × (p < 65536) ⌝ }
-    ensures { λ r. ⌜ r ≡ setting (net (now (links .entry))) g p ⌝ }
+    requires { ⌜ Linked links × Short p ⌝ }
+    ensures { λ r. ⌜ r ≡ setting (net-of links) g p ⌝ }
 {
     stored_in(links, input(links, g, p))
 }
@@ -244,16 +246,16 @@ pub fn setting(links: &[usize], g: usize, p: usize) -> Value
 
 // The gate that has output o, and 0 where there is none.
 pub fn gate_at_output(links: &[usize], o: usize) -> usize
-    requires { ⌜ length (now links) ≡ 4816 ⌝ }
-    ensures { λ r. ⌜ r ≡ gate-at-output (net (now (links .entry))) o ⌝ }
+    requires { ⌜ Linked links ⌝ }
+    ensures { λ r. ⌜ r ≡ gate-at-output (net-of links) o ⌝ }
 {
     entry(links, OUTPUT_COUNT, MOST_OUTPUTS, OUTPUTS, o, 0)
 }
 
 // What output o is; it fires where there is none.
 pub fn out_at(links: &[usize], o: usize) -> kinds::Out
-    requires { ⌜ length (now links) ≡ 4816 ⌝ }
-    ensures { λ r. ⌜ out-of r ≡ getD (net (now (links .entry)) .outputs) o fires ⌝ }
+    requires { ⌜ Linked links ⌝ }
+    ensures { λ r. ⌜ out-of r ≡ getD (net-of links .outputs) o fires ⌝ }
 {
     if outputs(links) <= o {
         return kinds::Out::Fires;
@@ -266,56 +268,56 @@ pub fn out_at(links: &[usize], o: usize) -> kinds::Out
 
 // The row of output o.
 fn row(links: &[usize], o: usize) -> usize
-    requires { ⌜ length (now links) ≡ 4816 ⌝ }
-    ensures { λ r. ⌜ r ≡ getD (entries (now (links .entry)) 3 576 rows-at) o 0 ⌝ }
+    requires { ⌜ Linked links ⌝ }
+    ensures { λ r. ⌜ r ≡ getD (entries (before links) 3 576 rows-at) o 0 ⌝ }
 {
     entry(links, OUTPUT_COUNT, MOST_OUTPUTS, ROWS, o, 0)
 }
 
 // Where the readers of output o begin.
 pub fn first_reader(links: &[usize], o: usize) -> usize
-    requires { ⌜ length (now links) ≡ 4816 ⌝ }
-    ensures { λ r. ⌜ (r ≡ first-reader (now (links .entry)) o) × (r < 65536) ⌝ }
+    requires { ⌜ Linked links ⌝ }
+    ensures { λ r. ⌜ (r ≡ first-reader (before links) o) × Short r ⌝ }
 {
     row(links, o) % DIGIT
 }
 
 // How many inputs read output o.
 pub fn reader_count(links: &[usize], o: usize) -> usize
-    requires { ⌜ length (now links) ≡ 4816 ⌝ }
-    ensures { λ r. ⌜ (r ≡ reader-count (now (links .entry)) o) × (r < 65536) ⌝ }
+    requires { ⌜ Linked links ⌝ }
+    ensures { λ r. ⌜ (r ≡ reader-count (before links) o) × Short r ⌝ }
 {
     row(links, o) / SECOND % DIGIT
 }
 
 // Reader k of all, an input.
 pub fn reader(links: &[usize], k: usize) -> usize
-    requires { ⌜ length (now links) ≡ 4816 ⌝ }
-    ensures { λ r. ⌜ r ≡ reader-at (now (links .entry)) k ⌝ }
+    requires { ⌜ Linked links ⌝ }
+    ensures { λ r. ⌜ r ≡ reader-at (before links) k ⌝ }
 {
     cell(links, READERS, k)
 }
 
 // Where the calls of output o begin.
 pub fn first_call(links: &[usize], o: usize) -> usize
-    requires { ⌜ length (now links) ≡ 4816 ⌝ }
-    ensures { λ r. ⌜ (r ≡ first-call (now (links .entry)) o) × (r < 65536) ⌝ }
+    requires { ⌜ Linked links ⌝ }
+    ensures { λ r. ⌜ (r ≡ first-call (before links) o) × Short r ⌝ }
 {
     row(links, o) / THIRD % DIGIT
 }
 
 // How many calls output o makes.
 pub fn call_count(links: &[usize], o: usize) -> usize
-    requires { ⌜ length (now links) ≡ 4816 ⌝ }
-    ensures { λ r. ⌜ (r ≡ call-count (now (links .entry)) o) × (r < 65536) ⌝ }
+    requires { ⌜ Linked links ⌝ }
+    ensures { λ r. ⌜ (r ≡ call-count (before links) o) × Short r ⌝ }
 {
     row(links, o) / FOURTH % DIGIT
 }
 
 // The target of call k of all: 2 × input + remote.
 pub fn call(links: &[usize], k: usize) -> usize
-    requires { ⌜ length (now links) ≡ 4816 ⌝ }
-    ensures { λ r. ⌜ r ≡ target (now (links .entry)) k ⌝ }
+    requires { ⌜ Linked links ⌝ }
+    ensures { λ r. ⌜ r ≡ target (before links) k ⌝ }
 {
     cell(links, CALLS, k)
 }
@@ -338,40 +340,40 @@ pub fn is_remote(target: usize) -> bool
 
 // The time sources.
 pub fn time_sources(links: &[usize]) -> usize
-    requires { ⌜ length (now links) ≡ 4816 ⌝ }
-    ensures { λ r. ⌜ r ≡ cell (now (links .entry)) 4 ⌝ }
+    requires { ⌜ Linked links ⌝ }
+    ensures { λ r. ⌜ r ≡ cell (before links) 4 ⌝ }
 {
     links[TIME_SOURCES]
 }
 
 // The buffers and Queues.
 pub fn buffers(links: &[usize]) -> usize
-    requires { ⌜ length (now links) ≡ 4816 ⌝ }
-    ensures { λ r. ⌜ r ≡ cell (now (links .entry)) 5 ⌝ }
+    requires { ⌜ Linked links ⌝ }
+    ensures { λ r. ⌜ r ≡ cell (before links) 5 ⌝ }
 {
     links[BUFFERS]
 }
 
 // The Clocks.
 pub fn clocks(links: &[usize]) -> usize
-    requires { ⌜ length (now links) ≡ 4816 ⌝ }
-    ensures { λ r. ⌜ r ≡ cell (now (links .entry)) 6 ⌝ }
+    requires { ⌜ Linked links ⌝ }
+    ensures { λ r. ⌜ r ≡ cell (before links) 6 ⌝ }
 {
     links[CLOCKS]
 }
 
 // The Stopwatches.
 pub fn stopwatches(links: &[usize]) -> usize
-    requires { ⌜ length (now links) ≡ 4816 ⌝ }
-    ensures { λ r. ⌜ r ≡ cell (now (links .entry)) 7 ⌝ }
+    requires { ⌜ Linked links ⌝ }
+    ensures { λ r. ⌜ r ≡ cell (before links) 7 ⌝ }
 {
     links[STOPWATCHES]
 }
 
 // The receivers of events.
 pub fn receivers(links: &[usize]) -> usize
-    requires { ⌜ length (now links) ≡ 4816 ⌝ }
-    ensures { λ r. ⌜ r ≡ cell (now (links .entry)) 8 ⌝ }
+    requires { ⌜ Linked links ⌝ }
+    ensures { λ r. ⌜ r ≡ cell (before links) 8 ⌝ }
 {
     links[RECEIVERS]
 }

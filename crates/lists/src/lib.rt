@@ -3,7 +3,8 @@ ghost use mathlib.Core.Path.{_≡_};
 ghost use mathlib.Core.List.{[], _∷_, _++_};
 ghost use Prim.Native.Nat.{_+_, _*_, _<_, _≤_};
 ghost use lib.ListN.{length, getD, drop};
-ghost use Rattle.words.specs.Words.{words, Stored};
+ghost use Rattle.words.specs.Words.{Stored};
+ghost use Rattle.words.specs.Slices.{before, after, was, is};
 ghost use Rattle.lists.specs.Lists.{stacked, appended, wrapped, first-slot, queued, filed, if-room, taken, Emptied};
 use words::get;
 use words::put;
@@ -32,8 +33,8 @@ const SLOTS: usize = 2;
 // How many entries there are.
 pub fn count(list: &[u8], most: usize) -> usize
     requires { ⌜ 8 ≤ length (now list) ⌝ }
-    ensures { λ r. ⌜ r ≡ length (stacked most (words (now (list .entry)))) ⌝ }
-    ensures { λ r. ⌜ r ≡ length (queued most (words (now (list .entry)))) ⌝ }
+    ensures { λ r. ⌜ r ≡ length (stacked most (was list)) ⌝ }
+    ensures { λ r. ⌜ r ≡ length (queued most (was list)) ⌝ }
     ensures { λ r. ⌜ r ≤ most ⌝ }
 {
     let n = get(list, COUNT) as usize;
@@ -43,8 +44,8 @@ pub fn count(list: &[u8], most: usize) -> usize
 // The list becomes empty, whatever kind it is of. Only its count is stored.
 pub fn clear(list: &mut [u8])
     requires { ⌜ 8 ≤ length (now list) ⌝ }
-    ensures { λ _. ⌜ Emptied (words (now (list .exit))) ⌝ }
-    ensures { λ _. ⌜ Stored (now (list .entry)) (now (list .exit)) 0 0 ⌝ }
+    ensures { λ _. ⌜ Emptied (is list) ⌝ }
+    ensures { λ _. ⌜ Stored (before list) (after list) 0 0 ⌝ }
 {
     put(list, COUNT, 0);
 }
@@ -52,8 +53,8 @@ pub fn clear(list: &mut [u8])
 // x on top of a stack.
 pub fn stack_push(list: &mut [u8], most: usize, x: u64) -> Filed
     requires { ⌜ (length (now list) ≡ (most + 1) * 8) × (most ≤ 1024) ⌝ }
-    ensures { λ r. ⌜ r ≡ filed most (stacked most (words (now (list .entry)))) ⌝ }
-    ensures { λ _. ⌜ stacked most (words (now (list .exit))) ≡ if-room most (stacked most (words (now (list .entry)))) (x ∷ stacked most (words (now (list .entry)))) ⌝ }
+    ensures { λ r. ⌜ r ≡ filed most (stacked most (was list)) ⌝ }
+    ensures { λ _. ⌜ stacked most (is list) ≡ if-room most (stacked most (was list)) (x ∷ stacked most (was list)) ⌝ }
 {
     let height = count(list, most);
     if most <= height {
@@ -67,8 +68,8 @@ pub fn stack_push(list: &mut [u8], most: usize, x: u64) -> Filed
 // The newest of a stack is taken off.
 pub fn stack_pop(list: &mut [u8], most: usize) -> Taken
     requires { ⌜ (length (now list) ≡ (most + 1) * 8) × (most ≤ 1024) ⌝ }
-    ensures { λ r. ⌜ r ≡ taken (stacked most (words (now (list .entry)))) ⌝ }
-    ensures { λ _. ⌜ stacked most (words (now (list .exit))) ≡ drop 1 (stacked most (words (now (list .entry)))) ⌝ }
+    ensures { λ r. ⌜ r ≡ taken (stacked most (was list)) ⌝ }
+    ensures { λ _. ⌜ stacked most (is list) ≡ drop 1 (stacked most (was list)) ⌝ }
 {
     let height = count(list, most);
     if height == 0 {
@@ -82,7 +83,7 @@ pub fn stack_pop(list: &mut [u8], most: usize) -> Taken
 // Entry i of a stack from its bottom on: 0 is the oldest. 0 where there is no such entry.
 pub fn entry(list: &[u8], most: usize, i: usize) -> u64
     requires { ⌜ (length (now list) ≡ (most + 1) * 8) × (most ≤ 1024) ⌝ }
-    ensures { λ r. ⌜ r ≡ getD (appended most (words (now (list .entry)))) i 0 ⌝ }
+    ensures { λ r. ⌜ r ≡ getD (appended most (was list)) i 0 ⌝ }
 {
     if count(list, most) <= i {
         return 0;
@@ -101,7 +102,7 @@ fn wrapped(most: usize, i: usize) -> usize
 // The slot of a ring's first entry.
 fn first_slot(list: &[u8], most: usize) -> usize
     requires { ⌜ (16 ≤ length (now list)) × (0 < most) ⌝ }
-    ensures { λ r. ⌜ (r ≡ first-slot most (words (now (list .entry)))) × (r < most) ⌝ }
+    ensures { λ r. ⌜ (r ≡ first-slot most (was list)) × (r < most) ⌝ }
 {
     let i = get(list, FIRST) as usize;
     if i < most { i } else { 0 }
@@ -110,8 +111,8 @@ fn first_slot(list: &[u8], most: usize) -> usize
 // x goes behind the others of a ring.
 pub fn enqueue(list: &mut [u8], most: usize, x: u64) -> Filed
     requires { ⌜ (length (now list) ≡ (most + 2) * 8) × (most ≤ 1024) ⌝ }
-    ensures { λ r. ⌜ r ≡ filed most (queued most (words (now (list .entry)))) ⌝ }
-    ensures { λ _. ⌜ queued most (words (now (list .exit))) ≡ if-room most (queued most (words (now (list .entry)))) (queued most (words (now (list .entry))) ++ x ∷ []) ⌝ }
+    ensures { λ r. ⌜ r ≡ filed most (queued most (was list)) ⌝ }
+    ensures { λ _. ⌜ queued most (is list) ≡ if-room most (queued most (was list)) (queued most (was list) ++ x ∷ []) ⌝ }
 {
     let held = count(list, most);
     if most <= held {
@@ -126,8 +127,8 @@ pub fn enqueue(list: &mut [u8], most: usize, x: u64) -> Filed
 // The oldest of a ring is taken off.
 pub fn dequeue(list: &mut [u8], most: usize) -> Taken
     requires { ⌜ (length (now list) ≡ (most + 2) * 8) × (most ≤ 1024) ⌝ }
-    ensures { λ r. ⌜ r ≡ taken (queued most (words (now (list .entry)))) ⌝ }
-    ensures { λ _. ⌜ queued most (words (now (list .exit))) ≡ drop 1 (queued most (words (now (list .entry)))) ⌝ }
+    ensures { λ r. ⌜ r ≡ taken (queued most (was list)) ⌝ }
+    ensures { λ _. ⌜ queued most (is list) ≡ drop 1 (queued most (was list)) ⌝ }
 {
     let held = count(list, most);
     if held == 0 {

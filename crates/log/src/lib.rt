@@ -4,16 +4,17 @@ ghost use mathlib.Core.List.{map};
 ghost use Prim.Native.Nat.{_+_, _*_, _<_, _≤_};
 ghost use lib.Dec.{eqb};
 ghost use lib.ListN.{length, getD};
-ghost use Rattle.words.specs.Words.{words};
+ghost use Rattle.words.specs.Slices.{before, after, was, Has-words};
+ghost use Rattle.schedule.specs.Schedule.{most-units};
 ghost use Rattle.model.specs.Base.{if_then_else_};
-ghost use Rattle.model.specs.Value.{kind-of, content-of};
-ghost use Rattle.links.specs.Links.{net};
-ghost use Rattle.wires.specs.Held.{held};
 // The definitions `values` and `units` are named for what they hold, beside the slices of their names.
-ghost use Rattle.wires.specs.View.{values as values-view, out-tags-at, out-contents-at};
-ghost use Rattle.units.specs.View.{units as units-view};
-ghost use Rattle.log.specs.Log.{record-of, fits, written-as, Writes};
+ghost use Rattle.model.specs.Value.{kind-of, content-of};
+ghost use Rattle.links.specs.Lent.{Linked, net-of, Room};
+ghost use Rattle.wires.specs.Held.{held};
+ghost use Rattle.wires.specs.View.{out-tags-at, out-contents-at};
+ghost use Rattle.log.specs.Log.{fits, written-as, Writes};
 ghost use Rattle.log.specs.Rows.{Filled, head-row, begun-in, units-row, outs-in, outputs-row};
+ghost use Rattle.log.specs.Lent.{record-in};
 use links::outputs;
 use units::begun::begun;
 use units::entries::form_of;
@@ -50,8 +51,8 @@ const BEGUN: usize = BEGUN_COUNT + 1;
 
 // The head becomes the words of the log from word p on.
 fn write_head(log: &mut [u8], p: usize, head: Head)
-    requires { ⌜ (p + 6) * 8 ≤ length (now log) ⌝ }
-    ensures { λ _. ⌜ Filled (now (log .entry)) (now (log .exit)) p (head-row head) ⌝ }
+    requires { ⌜ Has-words log p 6 ⌝ }
+    ensures { λ _. ⌜ Filled (before log) (after log) p (head-row head) ⌝ }
 {
     put(log, p, head.tick);
     put(log, p + 1, head.steps);
@@ -63,16 +64,16 @@ fn write_head(log: &mut [u8], p: usize, head: Head)
 
 // How many units have begun.
 fn units_begun(units: &[u8]) -> usize
-    requires { ⌜ 65536 ≤ length (now units) ⌝ }
-    ensures { λ r. ⌜ (r ≡ length (begun-in (now (units .entry)))) × (r ≤ 1024) ⌝ }
+    requires { ⌜ Room units ⌝ }
+    ensures { λ r. ⌜ (r ≡ length (begun-in (before units))) × (r ≤ most-units) ⌝ }
 {
     begun(units)
 }
 
 // The gates of the n units begun become the words from word p on.
 fn write_gates(units: &[u8], log: &mut [u8], p: usize, n: usize)
-    requires { ⌜ (65536 ≤ length (now units)) × (n ≡ length (begun-in (now units))) × (n ≤ 1024) × ((p + n) * 8 ≤ length (now log)) ⌝ }
-    ensures { λ _. ⌜ Filled (now (log .entry)) (now (log .exit)) p (map (λ b. b .gate) (begun-in (now (units .entry)))) ⌝ }
+    requires { ⌜ Room units × (n ≡ length (begun-in (now units))) × (n ≤ most-units) × Has-words log p n ⌝ }
+    ensures { λ _. ⌜ Filled (before log) (after log) p (map (λ b. b .gate) (begun-in (before units))) ⌝ }
 {
     let mut i = 0;
     while i < n {
@@ -83,8 +84,8 @@ fn write_gates(units: &[u8], log: &mut [u8], p: usize, n: usize)
 
 // Their forms become the words from word p on.
 fn write_forms(units: &[u8], log: &mut [u8], p: usize, n: usize)
-    requires { ⌜ (65536 ≤ length (now units)) × (n ≡ length (begun-in (now units))) × (n ≤ 1024) × ((p + n) * 8 ≤ length (now log)) ⌝ }
-    ensures { λ _. ⌜ Filled (now (log .entry)) (now (log .exit)) p (map (λ b. b .form) (begun-in (now (units .entry)))) ⌝ }
+    requires { ⌜ Room units × (n ≡ length (begun-in (now units))) × (n ≤ most-units) × Has-words log p n ⌝ }
+    ensures { λ _. ⌜ Filled (before log) (after log) p (map (λ b. b .form) (begun-in (before units))) ⌝ }
 {
     let mut i = 0;
     while i < n {
@@ -95,8 +96,8 @@ fn write_forms(units: &[u8], log: &mut [u8], p: usize, n: usize)
 
 // The gates and then the forms of the n units begun become the words from word p on.
 fn write_units(units: &[u8], log: &mut [u8], p: usize, n: usize)
-    requires { ⌜ (65536 ≤ length (now units)) × (n ≡ length (begun-in (now units))) × (n ≤ 1024) × ((p + 2 * n) * 8 ≤ length (now log)) ⌝ }
-    ensures { λ _. ⌜ Filled (now (log .entry)) (now (log .exit)) p (units-row (begun-in (now (units .entry)))) ⌝ }
+    requires { ⌜ Room units × (n ≡ length (begun-in (now units))) × (n ≤ most-units) × Has-words log p (2 * n) ⌝ }
+    ensures { λ _. ⌜ Filled (before log) (after log) p (units-row (begun-in (before units))) ⌝ }
 {
     write_gates(units, log, p, n);
     write_forms(units, log, p + n, n);
@@ -104,32 +105,32 @@ fn write_units(units: &[u8], log: &mut [u8], p: usize, n: usize)
 
 // How many outputs the record of a tick with this stop shows: all, or none where there is a stop.
 fn outputs_shown(links: &[usize], stop: u64) -> usize
-    requires { ⌜ length (now links) ≡ 4816 ⌝ }
-    ensures { λ r. ⌜ (r ≡ (if eqb stop 0 then length (net (now (links .entry)) .outputs) else 0)) × (r ≤ 576) ⌝ }
+    requires { ⌜ Linked links ⌝ }
+    ensures { λ r. ⌜ (r ≡ (if eqb stop 0 then length (net-of links .outputs) else 0)) × (r ≤ 576) ⌝ }
 {
     if stop == 0 { outputs(links) } else { 0 }
 }
 
 // The kind of what output o shows.
 fn kind_at(values: &[u8], o: usize) -> u64
-    requires { ⌜ (65536 ≤ length (now values)) × (o < 576) ⌝ }
-    ensures { λ r. ⌜ r ≡ kind-of (held (getD (words (now (values .entry))) (out-tags-at + o) 0) (getD (words (now (values .entry))) (out-contents-at + o) 0)) ⌝ }
+    requires { ⌜ Room values × (o < 576) ⌝ }
+    ensures { λ r. ⌜ r ≡ kind-of (held (getD (was values) (out-tags-at + o) 0) (getD (was values) (out-contents-at + o) 0)) ⌝ }
 {
     kind_held(get(values, OUT_TAGS + o))
 }
 
 // The content of what output o shows.
 fn content_at(values: &[u8], o: usize) -> u64
-    requires { ⌜ (65536 ≤ length (now values)) × (o < 576) ⌝ }
-    ensures { λ r. ⌜ r ≡ content-of (held (getD (words (now (values .entry))) (out-tags-at + o) 0) (getD (words (now (values .entry))) (out-contents-at + o) 0)) ⌝ }
+    requires { ⌜ Room values × (o < 576) ⌝ }
+    ensures { λ r. ⌜ r ≡ content-of (held (getD (was values) (out-tags-at + o) 0) (getD (was values) (out-contents-at + o) 0)) ⌝ }
 {
     content_held(get(values, OUT_TAGS + o), get(values, OUT_CONTENTS + o))
 }
 
 // The kinds of the first n outputs become the words from word p on.
 fn write_kinds(values: &[u8], log: &mut [u8], p: usize, n: usize)
-    requires { ⌜ (65536 ≤ length (now values)) × (n ≤ 576) × ((p + n) * 8 ≤ length (now log)) ⌝ }
-    ensures { λ _. ⌜ Filled (now (log .entry)) (now (log .exit)) p (map kind-of (outs-in n (now (values .entry)))) ⌝ }
+    requires { ⌜ Room values × (n ≤ 576) × Has-words log p n ⌝ }
+    ensures { λ _. ⌜ Filled (before log) (after log) p (map kind-of (outs-in n (before values))) ⌝ }
 {
     let mut i = 0;
     while i < n {
@@ -140,8 +141,8 @@ fn write_kinds(values: &[u8], log: &mut [u8], p: usize, n: usize)
 
 // Their contents become the words from word p on.
 fn write_contents(values: &[u8], log: &mut [u8], p: usize, n: usize)
-    requires { ⌜ (65536 ≤ length (now values)) × (n ≤ 576) × ((p + n) * 8 ≤ length (now log)) ⌝ }
-    ensures { λ _. ⌜ Filled (now (log .entry)) (now (log .exit)) p (map content-of (outs-in n (now (values .entry)))) ⌝ }
+    requires { ⌜ Room values × (n ≤ 576) × Has-words log p n ⌝ }
+    ensures { λ _. ⌜ Filled (before log) (after log) p (map content-of (outs-in n (before values))) ⌝ }
 {
     let mut i = 0;
     while i < n {
@@ -152,8 +153,8 @@ fn write_contents(values: &[u8], log: &mut [u8], p: usize, n: usize)
 
 // The kinds and then the contents of the first n outputs become the words from word p on.
 fn write_outputs(values: &[u8], log: &mut [u8], p: usize, n: usize)
-    requires { ⌜ (65536 ≤ length (now values)) × (n ≤ 576) × ((p + 2 * n) * 8 ≤ length (now log)) ⌝ }
-    ensures { λ _. ⌜ Filled (now (log .entry)) (now (log .exit)) p (outputs-row (outs-in n (now (values .entry)))) ⌝ }
+    requires { ⌜ Room values × (n ≤ 576) × Has-words log p (2 * n) ⌝ }
+    ensures { λ _. ⌜ Filled (before log) (after log) p (outputs-row (outs-in n (before values))) ⌝ }
 {
     write_kinds(values, log, p, n);
     write_contents(values, log, p + n, n);
@@ -168,9 +169,9 @@ pub fn write_record(
     at: usize,
     head: Head,
 ) -> Written
-    requires { ⌜ (length (now links) ≡ 4816) × (65536 ≤ length (now values)) × (65536 ≤ length (now units)) × (at * 8 ≤ length (now log)) ⌝ }
-    ensures { λ r. ⌜ r ≡ written-as (fits (now (log .entry)) at (record-of head (units-view (net (now (links .entry))) (now (units .entry)) .begun) (values-view (net (now (links .entry))) (now (values .entry)) .wires .outs))) (record-of head (units-view (net (now (links .entry))) (now (units .entry)) .begun) (values-view (net (now (links .entry))) (now (values .entry)) .wires .outs)) ⌝ }
-    ensures { λ _. ⌜ Writes (now (log .entry)) (now (log .exit)) at (record-of head (units-view (net (now (links .entry))) (now (units .entry)) .begun) (values-view (net (now (links .entry))) (now (values .entry)) .wires .outs)) ⌝ }
+    requires { ⌜ Linked links × Room values × Room units × (at * 8 ≤ length (now log)) ⌝ }
+    ensures { λ r. ⌜ r ≡ written-as (fits (before log) at (record-in links values units head)) (record-in links values units head) ⌝ }
+    ensures { λ _. ⌜ Writes (before log) (after log) at (record-in links values units head) ⌝ }
 {
     let n = units_begun(units);
     let o = outputs_shown(links, head.stop);

@@ -1,18 +1,17 @@
 // What the opening files in the lists of a tick: Fires, delivered events, stimuli. Each stops at the first that finds its list full.
-ghost use Prim.Native.Nat.{_+_, _*_, _<_, _≤_};
 ghost use mathlib.Core.Path.{_≡_};
 ghost use mathlib.Core.Bool.{_&&_};
 ghost use mathlib.Core.List.{[], _∷_, map};
+ghost use Prim.Native.Nat.{_+_};
 ghost use lib.Dec.{eqb};
-ghost use lib.ListN.{length};
+ghost use Rattle.words.specs.Slices.{was, Has-words};
 ghost use Rattle.schedule.specs.Schedule.{to-late, to-delivered, to-pending};
-ghost use Rattle.words.specs.Words.{words};
 ghost use Rattle.model.specs.Base.{joined};
 ghost use Rattle.model.specs.Value.{same};
 ghost use Rattle.model.specs.Circuit.{kind-of-gate, setting};
 ghost use Rattle.model.specs.Opening.{fire, delivered};
-ghost use Rattle.links.specs.Links.{net};
-ghost use Rattle.units.specs.View.{units as view};
+ghost use Rattle.links.specs.Lent.{Linked, net-of, Room, Short};
+ghost use Rattle.units.specs.Lent.{Units-change};
 ghost use Rattle.opening.specs.Opening.{stimuli-of};
 ghost use Rattle.opening.specs.Stages.{Puts, event, heard-by, is-full};
 use links::first_gate;
@@ -45,8 +44,8 @@ pub fn is_full(r: Filed) -> bool
 
 // n Fires of gate g, to late.
 pub fn fire_late(links: &[usize], units: &mut [u8], g: usize, n: usize) -> Filed
-    requires { ⌜ (length (now links) ≡ 4816) × (65536 ≤ length (now units)) × (g < 65536) ⌝ }
-    ensures { λ r. ⌜ Puts (net (now (links .entry))) (view (net (now (links .entry))) (now (units .entry))) (view (net (now (links .entry))) (now (units .exit))) r to-late (fire n g) ⌝ }
+    requires { ⌜ Linked links × Room units × Short g ⌝ }
+    ensures { λ r. ⌜ Units-change links units (λ c old new. Puts c old new r to-late (fire n g)) ⌝ }
 {
     let x = entry(g, FIRE, 0);
     let mut k = 0;
@@ -62,8 +61,8 @@ pub fn fire_late(links: &[usize], units: &mut [u8], g: usize, n: usize) -> Filed
 
 // One Fire of gate g, to pending.
 pub fn fire_pending(links: &[usize], units: &mut [u8], g: usize) -> Filed
-    requires { ⌜ (length (now links) ≡ 4816) × (65536 ≤ length (now units)) × (g < 65536) ⌝ }
-    ensures { λ r. ⌜ Puts (net (now (links .entry))) (view (net (now (links .entry))) (now (units .entry))) (view (net (now (links .entry))) (now (units .exit))) r to-pending (fire 1 g) ⌝ }
+    requires { ⌜ Linked links × Room units × Short g ⌝ }
+    ensures { λ r. ⌜ Units-change links units (λ c old new. Puts c old new r to-pending (fire 1 g)) ⌝ }
 {
     activate(links, units, Place::Pending, entry(g, FIRE, 0))
 }
@@ -72,8 +71,8 @@ pub fn fire_pending(links: &[usize], units: &mut [u8], g: usize) -> Filed
 
 // Whether gate r receives what a gate of this kind sends on this channel.
 fn receives(links: &[usize], kind: u64, channel: Value, r: usize) -> bool
-    requires { ⌜ length (now links) ≡ 4816 ⌝ }
-    ensures { λ b. ⌜ b ≡ (eqb (kind-of-gate (net (now (links .entry))) r) (kind + 2) && same channel (setting (net (now (links .entry))) r 0)) ⌝ }
+    requires { ⌜ Linked links ⌝ }
+    ensures { λ b. ⌜ b ≡ (eqb (kind-of-gate (net-of links) r) (kind + 2) && same channel (setting (net-of links) r 0)) ⌝ }
 {
     let k = kind_of_gate(links, r);
     if k < 2 {
@@ -94,8 +93,8 @@ fn deliver_to(
     e: usize,
     r: usize,
 ) -> Filed
-    requires { ⌜ (length (now links) ≡ 4816) × (65536 ≤ length (now units)) × (e < 65536) × (r < 65536) ⌝ }
-    ensures { λ b. ⌜ Puts (net (now (links .entry))) (view (net (now (links .entry))) (now (units .entry))) (view (net (now (links .entry))) (now (units .exit))) b to-delivered (heard-by (net (now (links .entry))) kind channel (event (view (net (now (links .entry))) (now (units .entry))) e .row) (r ∷ [])) ⌝ }
+    requires { ⌜ Linked links × Room units × Short e × Short r ⌝ }
+    ensures { λ b. ⌜ Units-change links units (λ c old new. Puts c old new b to-delivered (heard-by c kind channel (event old e .row) (r ∷ []))) ⌝ }
 {
     if receives(links, kind, channel, r) {
         return deliver(units, r, e);
@@ -105,8 +104,8 @@ fn deliver_to(
 
 // Event e of the tick before, to the receivers of its channel, in their order.
 fn deliver_event(links: &[usize], units: &mut [u8], e: usize) -> Filed
-    requires { ⌜ (length (now links) ≡ 4816) × (65536 ≤ length (now units)) × (e < 65536) ⌝ }
-    ensures { λ r. ⌜ Puts (net (now (links .entry))) (view (net (now (links .entry))) (now (units .entry))) (view (net (now (links .entry))) (now (units .exit))) r to-delivered (delivered (net (now (links .entry))) (event (view (net (now (links .entry))) (now (units .entry))) e)) ⌝ }
+    requires { ⌜ Linked links × Room units × Short e ⌝ }
+    ensures { λ r. ⌜ Units-change links units (λ c old new. Puts c old new r to-delivered (delivered c (event old e))) ⌝ }
 {
     let g = sender(units, e);
     let kind = kind_of_gate(links, g);
@@ -126,8 +125,8 @@ fn deliver_event(links: &[usize], units: &mut [u8], e: usize) -> Filed
 
 // All events of the tick before, in the order sent.
 pub fn deliver_all(links: &[usize], units: &mut [u8]) -> Filed
-    requires { ⌜ (length (now links) ≡ 4816) × (65536 ≤ length (now units)) ⌝ }
-    ensures { λ r. ⌜ Puts (net (now (links .entry))) (view (net (now (links .entry))) (now (units .entry))) (view (net (now (links .entry))) (now (units .exit))) r to-delivered (joined (map (delivered (net (now (links .entry)))) (view (net (now (links .entry))) (now (units .entry)) .events))) ⌝ }
+    requires { ⌜ Linked links × Room units ⌝ }
+    ensures { λ r. ⌜ Units-change links units (λ c old new. Puts c old new r to-delivered (joined (map (delivered c) (old .events)))) ⌝ }
 {
     let n = events(units);
     let mut e = 0;
@@ -152,8 +151,8 @@ pub fn stimulate(
     constants_at: usize,
     n: usize,
 ) -> Filed
-    requires { ⌜ (length (now links) ≡ 4816) × (65536 ≤ length (now units)) × ((«gates_at» + n) * 8 ≤ length (now script)) × ((«constants_at» + n) * 8 ≤ length (now script)) ⌝ }
-    ensures { λ r. ⌜ Puts (net (now (links .entry))) (view (net (now (links .entry))) (now (units .entry))) (view (net (now (links .entry))) (now (units .exit))) r to-late (stimuli-of (net (now (links .entry))) (words (now (script .entry))) «gates_at» «constants_at» n) ⌝ }
+    requires { ⌜ Linked links × Room units × Has-words script «gates_at» n × Has-words script «constants_at» n ⌝ }
+    ensures { λ r. ⌜ Units-change links units (λ c old new. Puts c old new r to-late (stimuli-of c (was script) «gates_at» «constants_at» n)) ⌝ }
 {
     let mut k = 0;
     while k < n {

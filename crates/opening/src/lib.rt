@@ -1,17 +1,16 @@
 // The opening of a tick: all that comes before its passes.
-ghost use Prim.Native.Nat.{_+_, _*_, _^_, _<_, _≤_};
 ghost use mathlib.Core.Path.{_≡_};
-ghost use lib.ListN.{length};
-ghost use Rattle.words.specs.Words.{words};
+ghost use Rattle.words.specs.Slices.{was, Has-words};
 ghost use Rattle.model.specs.Value.{narrow};
 ghost use Rattle.model.specs.Opening.{begin-tick};
-ghost use Rattle.links.specs.Links.{net};
-ghost use Rattle.wires.specs.View.{Values, values as wiring};
-ghost use Rattle.states.specs.View.{Delays, Lent};
-ghost use Rattle.units.specs.View.{units as view};
-ghost use Rattle.areas.specs.Areas.{together, areas, with-state, with-went};
+ghost use Rattle.links.specs.Lent.{Linked, Room};
+ghost use Rattle.wires.specs.Lent.{Tick-fits};
+ghost use Rattle.states.specs.Lent.{Slots, Slots-stay};
+ghost use Rattle.areas.specs.Areas.{with-state};
+ghost use Rattle.areas.specs.Lent.{Over-all, Over-units, Over-values-units, Goes, All-lent};
 ghost use Rattle.opening.specs.Opening.{Opens, stimuli-of, reopened, opened};
 ghost use Rattle.opening.specs.Stages.{arrived, lowered, advanced-all, finished};
+ghost use Rattle.opening.specs.Lent.{given-at};
 use crate::filing::deliver_all;
 use crate::filing::is_full;
 use crate::filing::stimulate;
@@ -31,8 +30,8 @@ mod moving;
 
 // The next tick begins, of this length: what was carried is late, and what was sent is to be delivered.
 fn begin_tick(links: &[usize], values: &mut [u8], units: &mut [u8], dt: u64)
-    requires { ⌜ (length (now links) ≡ 4816) × (65536 ≤ length (now values)) × (65536 ≤ length (now units)) × (wiring (net (now links)) (now values) .wires .tick + 1 < 2 ^ 64) ⌝ }
-    ensures { λ _. ⌜ ((d : Delays) → together (wiring (net (now (links .entry))) (now (values .exit))) (view (net (now (links .entry))) (now (units .exit))) d ≡ with-state (reopened (net (now (links .entry))) (together (wiring (net (now (links .entry))) (now (values .entry))) (view (net (now (links .entry))) (now (units .entry))) d)) (begin-tick (together (wiring (net (now (links .entry))) (now (values .entry))) (view (net (now (links .entry))) (now (units .entry))) d .state) dt)) ⌝ }
+    requires { ⌜ Linked links × Room values × Room units × Tick-fits links values ⌝ }
+    ensures { λ _. ⌜ Over-values-units links values units (λ c old new. new ≡ with-state (reopened c old) (begin-tick (old .state) dt)) ⌝ }
 {
     units::raising::next_tick(links, units);
     wires::ticks::next_tick(links, values, dt);
@@ -47,8 +46,8 @@ fn arrive(
     constants_at: usize,
     n: usize,
 ) -> Filed
-    requires { ⌜ (length (now links) ≡ 4816) × (65536 ≤ length (now units)) × ((«gates_at» + n) * 8 ≤ length (now script)) × ((«constants_at» + n) * 8 ≤ length (now script)) ⌝ }
-    ensures { λ r. ⌜ ((v : Values) (d : Delays) → Opens (net (now (links .entry))) (together v (view (net (now (links .entry))) (now (units .entry))) d) (together v (view (net (now (links .entry))) (now (units .exit))) d) r (arrived (net (now (links .entry))) (together v (view (net (now (links .entry))) (now (units .entry))) d .state) (view (net (now (links .entry))) (now (units .entry)) .events) (stimuli-of (net (now (links .entry))) (words (now (script .entry))) «gates_at» «constants_at» n))) ⌝ }
+    requires { ⌜ Linked links × Room units × Has-words script «gates_at» n × Has-words script «constants_at» n ⌝ }
+    ensures { λ r. ⌜ Over-units links units (λ c old new. Opens c old new r (arrived c (old .state) (old .kept .events) (stimuli-of c (was script) «gates_at» «constants_at» n))) ⌝ }
 {
     let r = deliver_all(links, units);
     if is_full(r) {
@@ -65,9 +64,9 @@ fn advance(
     delays: &mut [u8],
     dt: u32,
 ) -> Filed
-    requires { ⌜ (length (now links) ≡ 4816) × (65536 ≤ length (now values)) × (65536 ≤ length (now units)) × Lent (net (now links)) (now delays) ⌝ }
-    ensures { λ r. ⌜ Opens (net (now (links .entry))) (areas (net (now (links .entry))) (now (values .entry)) (now (units .entry)) (now (delays .entry))) (areas (net (now (links .entry))) (now (values .exit)) (now (units .exit)) (now (delays .exit))) r (advanced-all (net (now (links .entry))) dt (areas (net (now (links .entry))) (now (values .entry)) (now (units .entry)) (now (delays .entry)) .state)) ⌝ }
-    ensures { λ _. ⌜ Lent (net (now (links .entry))) (now (delays .exit)) ⌝ }
+    requires { ⌜ All-lent links values units delays ⌝ }
+    ensures { λ r. ⌜ Over-all links values units delays (λ c old new. Opens c old new r (advanced-all c dt (old .state))) ⌝ }
+    ensures { λ _. ⌜ Slots-stay links delays ⌝ }
 {
     let r = advance_buffers(links, values, units, delays, dt);
     if is_full(r) {
@@ -82,9 +81,9 @@ fn advance(
 
 // Ended pulses fall, gates move on, time sources become stale, and what waits is settled.
 fn finish(links: &[usize], values: &mut [u8], units: &mut [u8], delays: &mut [u8], dt: u64) -> Filed
-    requires { ⌜ (length (now links) ≡ 4816) × (65536 ≤ length (now values)) × (65536 ≤ length (now units)) × Lent (net (now links)) (now delays) ⌝ }
-    ensures { λ r. ⌜ Opens (net (now (links .entry))) (areas (net (now (links .entry))) (now (values .entry)) (now (units .entry)) (now (delays .entry))) (areas (net (now (links .entry))) (now (values .exit)) (now (units .exit)) (now (delays .exit))) r (finished (net (now (links .entry))) (advanced-all (net (now (links .entry))) (narrow dt) (lowered (net (now (links .entry))) (areas (net (now (links .entry))) (now (values .entry)) (now (units .entry)) (now (delays .entry)) .state)))) ⌝ }
-    ensures { λ _. ⌜ Lent (net (now (links .entry))) (now (delays .exit)) ⌝ }
+    requires { ⌜ All-lent links values units delays ⌝ }
+    ensures { λ r. ⌜ Over-all links values units delays (λ c old new. Opens c old new r (finished c (advanced-all c (narrow dt) (lowered c (old .state))))) ⌝ }
+    ensures { λ _. ⌜ Slots-stay links delays ⌝ }
 {
     lower_all(links, values);
     let r = advance(links, values, units, delays, narrow(dt));
@@ -107,9 +106,9 @@ pub fn open(
     n: usize,
     dt: u64,
 ) -> Filed
-    requires { ⌜ (length (now links) ≡ 4816) × (65536 ≤ length (now values)) × (65536 ≤ length (now units)) × Lent (net (now links)) (now delays) × ((«gates_at» + n) * 8 ≤ length (now script)) × ((«constants_at» + n) * 8 ≤ length (now script)) × (areas (net (now links)) (now values) (now units) (now delays) .state .wires .tick + 1 < 2 ^ 64) ⌝ }
-    ensures { λ r. ⌜ (areas (net (now (links .entry))) (now (values .exit)) (now (units .exit)) (now (delays .exit)) ≡ with-went (reopened (net (now (links .entry))) (areas (net (now (links .entry))) (now (values .entry)) (now (units .entry)) (now (delays .entry)))) (opened (net (now (links .entry))) (areas (net (now (links .entry))) (now (values .entry)) (now (units .entry)) (now (delays .entry))) (record { dt = dt; stimuli = stimuli-of (net (now (links .entry))) (words (now (script .entry))) «gates_at» «constants_at» n }))) × (r ≡ opened (net (now (links .entry))) (areas (net (now (links .entry))) (now (values .entry)) (now (units .entry)) (now (delays .entry))) (record { dt = dt; stimuli = stimuli-of (net (now (links .entry))) (words (now (script .entry))) «gates_at» «constants_at» n }) .answer) ⌝ }
-    ensures { λ _. ⌜ Lent (net (now (links .entry))) (now (delays .exit)) ⌝ }
+    requires { ⌜ Linked links × Room values × Room units × Slots links delays × Has-words script «gates_at» n × Has-words script «constants_at» n × Tick-fits links values ⌝ }
+    ensures { λ r. ⌜ Over-all links values units delays (λ c old new. Goes (reopened c old) new r (opened c old (given-at c (was script) dt «gates_at» «constants_at» n))) ⌝ }
+    ensures { λ _. ⌜ Slots-stay links delays ⌝ }
 {
     begin_tick(links, values, units, dt);
     let r = arrive(links, units, script, gates_at, constants_at, n);

@@ -1,9 +1,8 @@
 // The gates that move on by a tick: buffers and Queues, Clocks, Stopwatches. What they hand out is shown, and what they raise is filed.
-ghost use Prim.Native.Nat.{_+_, _^_, _<_, _≤_};
 ghost use mathlib.Core.Path.{_≡_};
 ghost use mathlib.Core.Bool.{true};
 ghost use mathlib.Core.List.{[], _∷_};
-ghost use lib.ListN.{length};
+ghost use Prim.Native.Nat.{_+_, _^_, _<_};
 ghost use Rattle.schedule.specs.Schedule.{to-late, to-pending};
 ghost use Rattle.model.specs.declared.Value.the-variants.{Float};
 ghost use Rattle.model.specs.Base.{if_then_else_, both, each};
@@ -12,11 +11,14 @@ ghost use Rattle.model.specs.Circuit.{output, setting};
 ghost use Rattle.model.specs.Wires.{look, set-outs};
 ghost use Rattle.model.specs.Opening.{advance-buffer, advance-clock, advance-timer};
 ghost use Rattle.links.specs.Links.{net};
-ghost use Rattle.wires.specs.View.{values as wiring, with-wires};
-ghost use Rattle.states.specs.View.{delays as states, is-queue, Lent};
-ghost use Rattle.areas.specs.Areas.{areas};
+ghost use Rattle.links.specs.Lent.{Linked, net-of, Room, Short};
+ghost use Rattle.wires.specs.Lent.{wires-in, Turns};
+ghost use Rattle.states.specs.View.{is-queue};
+ghost use Rattle.states.specs.Lent.{Slots, Slots-stay};
+ghost use Rattle.areas.specs.Lent.{Over-all, All-lent};
 ghost use Rattle.opening.specs.Opening.{unopened, Opens};
-ghost use Rattle.opening.specs.Stages.{Moves-on, landing, releasing};
+ghost use Rattle.opening.specs.Stages.{landing, releasing};
+ghost use Rattle.opening.specs.Lent.{Moves-gate};
 use crate::filing::fire_late;
 use crate::filing::fire_pending;
 use crate::filing::is_full;
@@ -50,8 +52,8 @@ use wires::refreshing::ready;
 
 // Eight values, to the outputs from o on.
 fn set_row(links: &[usize], values: &mut [u8], o: usize, kinds: [u64; 8], contents: [u64; 8])
-    requires { ⌜ (length (now links) ≡ 4816) × (65536 ≤ length (now values)) × (o + 8 < 2 ^ 64) ⌝ }
-    ensures { λ _. ⌜ wiring (net (now (links .entry))) (now (values .exit)) ≡ with-wires (wiring (net (now (links .entry))) (now (values .entry))) (set-outs (net (now (links .entry))) (wiring (net (now (links .entry))) (now (values .entry)) .wires) o (both value-of kinds contents)) ⌝ }
+    requires { ⌜ Linked links × Room values × (o + 8 < 2 ^ 64) ⌝ }
+    ensures { λ _. ⌜ Turns links values (λ c w. set-outs c w o (both value-of kinds contents)) ⌝ }
 {
     let mut k = 0;
     while k < 8 {
@@ -63,9 +65,9 @@ fn set_row(links: &[usize], values: &mut [u8], o: usize, kinds: [u64; 8], conten
 
 // Value buffer g moves on, and shows what lands.
 fn land(links: &[usize], values: &mut [u8], delays: &mut [u8], g: usize, dt: u32)
-    requires { ⌜ (length (now links) ≡ 4816) × (65536 ≤ length (now values)) × Lent (net (now links)) (now delays) ⌝ }
-    ensures { λ _. ⌜ Moves-on (wiring (net (now (links .entry))) (now (values .entry))) (wiring (net (now (links .entry))) (now (values .exit))) (states (net (now (links .entry))) (now (delays .entry))) (states (net (now (links .entry))) (now (delays .exit))) (landing (net (now (links .entry))) dt g) to-late g 0 ⌝ }
-    ensures { λ _. ⌜ Lent (net (now (links .entry))) (now (delays .exit)) ⌝ }
+    requires { ⌜ Linked links × Room values × Slots links delays ⌝ }
+    ensures { λ _. ⌜ Moves-gate links values delays (λ c. landing c dt g) to-late g 0 ⌝ }
+    ensures { λ _. ⌜ Slots-stay links delays ⌝ }
 {
     let landed = buffer_advance(links, delays, g, dt);
     match landed {
@@ -76,9 +78,9 @@ fn land(links: &[usize], values: &mut [u8], delays: &mut [u8], g: usize, dt: u32
 
 // Queue g moves on, and shows the record that leaves: whether one does.
 fn release(links: &[usize], values: &mut [u8], delays: &mut [u8], g: usize, dt: u32) -> bool
-    requires { ⌜ (length (now links) ≡ 4816) × (65536 ≤ length (now values)) × Lent (net (now links)) (now delays) × (is-queue (net (now links)) g ≡ true) ⌝ }
-    ensures { λ r. ⌜ Moves-on (wiring (net (now (links .entry))) (now (values .entry))) (wiring (net (now (links .entry))) (now (values .exit))) (states (net (now (links .entry))) (now (delays .entry))) (states (net (now (links .entry))) (now (delays .exit))) (releasing (net (now (links .entry))) dt g) to-late g (bit r) ⌝ }
-    ensures { λ _. ⌜ Lent (net (now (links .entry))) (now (delays .exit)) ⌝ }
+    requires { ⌜ Linked links × Room values × Slots links delays × (is-queue (net (now links)) g ≡ true) ⌝ }
+    ensures { λ r. ⌜ Moves-gate links values delays (λ c. releasing c dt g) to-late g (bit r) ⌝ }
+    ensures { λ _. ⌜ Slots-stay links delays ⌝ }
 {
     let r = queue_advance(links, delays, g, dt);
     if r.due {
@@ -99,9 +101,9 @@ fn advance_queue(
     g: usize,
     dt: u32,
 ) -> Filed
-    requires { ⌜ (length (now links) ≡ 4816) × (65536 ≤ length (now values)) × (65536 ≤ length (now units)) × Lent (net (now links)) (now delays) × (g < 65536) × (is-queue (net (now links)) g ≡ true) ⌝ }
-    ensures { λ r. ⌜ Opens (net (now (links .entry))) (areas (net (now (links .entry))) (now (values .entry)) (now (units .entry)) (now (delays .entry))) (areas (net (now (links .entry))) (now (values .exit)) (now (units .exit)) (now (delays .exit))) r (releasing (net (now (links .entry))) dt g (areas (net (now (links .entry))) (now (values .entry)) (now (units .entry)) (now (delays .entry)) .state)) ⌝ }
-    ensures { λ _. ⌜ Lent (net (now (links .entry))) (now (delays .exit)) ⌝ }
+    requires { ⌜ Linked links × Room values × Room units × Slots links delays × Short g × (is-queue (net (now links)) g ≡ true) ⌝ }
+    ensures { λ r. ⌜ Over-all links values units delays (λ c old new. Opens c old new r (releasing c dt g (old .state))) ⌝ }
+    ensures { λ _. ⌜ Slots-stay links delays ⌝ }
 {
     if release(links, values, delays, g, dt) {
         return fire_late(links, units, g, 1);
@@ -118,9 +120,9 @@ fn advance_buffer(
     g: usize,
     dt: u32,
 ) -> Filed
-    requires { ⌜ (length (now links) ≡ 4816) × (65536 ≤ length (now values)) × (65536 ≤ length (now units)) × Lent (net (now links)) (now delays) × (g < 65536) ⌝ }
-    ensures { λ r. ⌜ Opens (net (now (links .entry))) (areas (net (now (links .entry))) (now (values .entry)) (now (units .entry)) (now (delays .entry))) (areas (net (now (links .entry))) (now (values .exit)) (now (units .exit)) (now (delays .exit))) r (advance-buffer (net (now (links .entry))) dt (unopened (areas (net (now (links .entry))) (now (values .entry)) (now (units .entry)) (now (delays .entry)) .state)) g) ⌝ }
-    ensures { λ _. ⌜ Lent (net (now (links .entry))) (now (delays .exit)) ⌝ }
+    requires { ⌜ Linked links × Room values × Room units × Slots links delays × Short g ⌝ }
+    ensures { λ r. ⌜ Over-all links values units delays (λ c old new. Opens c old new r (advance-buffer c dt (unopened (old .state)) g)) ⌝ }
+    ensures { λ _. ⌜ Slots-stay links delays ⌝ }
 {
     match kind_of_gate(links, g) {
         // a value buffer, in ticks or in seconds
@@ -147,9 +149,9 @@ pub fn advance_buffers(
     delays: &mut [u8],
     dt: u32,
 ) -> Filed
-    requires { ⌜ (length (now links) ≡ 4816) × (65536 ≤ length (now values)) × (65536 ≤ length (now units)) × Lent (net (now links)) (now delays) ⌝ }
-    ensures { λ r. ⌜ Opens (net (now (links .entry))) (areas (net (now (links .entry))) (now (values .entry)) (now (units .entry)) (now (delays .entry))) (areas (net (now (links .entry))) (now (values .exit)) (now (units .exit)) (now (delays .exit))) r (each (advance-buffer (net (now (links .entry))) dt) (unopened (areas (net (now (links .entry))) (now (values .entry)) (now (units .entry)) (now (delays .entry)) .state)) (net (now (links .entry)) .buffers)) ⌝ }
-    ensures { λ _. ⌜ Lent (net (now (links .entry))) (now (delays .exit)) ⌝ }
+    requires { ⌜ All-lent links values units delays ⌝ }
+    ensures { λ r. ⌜ Over-all links values units delays (λ c old new. Opens c old new r (each (advance-buffer c dt) (unopened (old .state)) (c .buffers))) ⌝ }
+    ensures { λ _. ⌜ Slots-stay links delays ⌝ }
 {
     let mut d = buffers(links);
     let mut g = first_gate(d);
@@ -168,8 +170,8 @@ pub fn advance_buffers(
 
 // The interval of Clock g: what input i reads, else its setting, else 1.0.
 fn interval(links: &[usize], values: &[u8], g: usize, i: usize) -> u64
-    requires { ⌜ (length (now links) ≡ 4816) × (65536 ≤ length (now values)) ⌝ }
-    ensures { λ r. ⌜ r ≡ as-float (as-float one-point-zero (setting (net (now (links .entry))) g 2)) (look (net (now (links .entry))) (wiring (net (now (links .entry))) (now (values .entry)) .wires) i) ⌝ }
+    requires { ⌜ Linked links × Room values ⌝ }
+    ensures { λ r. ⌜ r ≡ as-float (as-float one-point-zero (setting (net-of links) g 2)) (look (net-of links) (wires-in links values) i) ⌝ }
 {
     let other = as_float(setting(links, g, 2), ONE);
     as_float(look(links, values, i), other)
@@ -177,9 +179,9 @@ fn interval(links: &[usize], values: &[u8], g: usize, i: usize) -> u64
 
 // Clock g moves on: whether it fires. Both inputs are read, also where it is not enabled.
 fn move_clock(links: &[usize], values: &mut [u8], delays: &mut [u8], g: usize) -> bool
-    requires { ⌜ (length (now links) ≡ 4816) × (65536 ≤ length (now values)) × Lent (net (now links)) (now delays) ⌝ }
-    ensures { λ r. ⌜ Moves-on (wiring (net (now (links .entry))) (now (values .entry))) (wiring (net (now (links .entry))) (now (values .exit))) (states (net (now (links .entry))) (now (delays .entry))) (states (net (now (links .entry))) (now (delays .exit))) (λ s. advance-clock (net (now (links .entry))) (unopened s) g) to-pending g (bit r) ⌝ }
-    ensures { λ _. ⌜ Lent (net (now (links .entry))) (now (delays .exit)) ⌝ }
+    requires { ⌜ Linked links × Room values × Slots links delays ⌝ }
+    ensures { λ r. ⌜ Moves-gate links values delays (λ c s. advance-clock c (unopened s) g) to-pending g (bit r) ⌝ }
+    ensures { λ _. ⌜ Slots-stay links delays ⌝ }
 {
     let i = input(links, g, 0);
     ready(links, values, i);
@@ -198,9 +200,9 @@ fn advance_clock(
     delays: &mut [u8],
     g: usize,
 ) -> Filed
-    requires { ⌜ (length (now links) ≡ 4816) × (65536 ≤ length (now values)) × (65536 ≤ length (now units)) × Lent (net (now links)) (now delays) × (g < 65536) ⌝ }
-    ensures { λ r. ⌜ Opens (net (now (links .entry))) (areas (net (now (links .entry))) (now (values .entry)) (now (units .entry)) (now (delays .entry))) (areas (net (now (links .entry))) (now (values .exit)) (now (units .exit)) (now (delays .exit))) r (advance-clock (net (now (links .entry))) (unopened (areas (net (now (links .entry))) (now (values .entry)) (now (units .entry)) (now (delays .entry)) .state)) g) ⌝ }
-    ensures { λ _. ⌜ Lent (net (now (links .entry))) (now (delays .exit)) ⌝ }
+    requires { ⌜ Linked links × Room values × Room units × Slots links delays × Short g ⌝ }
+    ensures { λ r. ⌜ Over-all links values units delays (λ c old new. Opens c old new r (advance-clock c (unopened (old .state)) g)) ⌝ }
+    ensures { λ _. ⌜ Slots-stay links delays ⌝ }
 {
     if move_clock(links, values, delays, g) {
         return fire_pending(links, units, g);
@@ -215,9 +217,9 @@ pub fn advance_clocks(
     units: &mut [u8],
     delays: &mut [u8],
 ) -> Filed
-    requires { ⌜ (length (now links) ≡ 4816) × (65536 ≤ length (now values)) × (65536 ≤ length (now units)) × Lent (net (now links)) (now delays) ⌝ }
-    ensures { λ r. ⌜ Opens (net (now (links .entry))) (areas (net (now (links .entry))) (now (values .entry)) (now (units .entry)) (now (delays .entry))) (areas (net (now (links .entry))) (now (values .exit)) (now (units .exit)) (now (delays .exit))) r (each (advance-clock (net (now (links .entry)))) (unopened (areas (net (now (links .entry))) (now (values .entry)) (now (units .entry)) (now (delays .entry)) .state)) (net (now (links .entry)) .clocks)) ⌝ }
-    ensures { λ _. ⌜ Lent (net (now (links .entry))) (now (delays .exit)) ⌝ }
+    requires { ⌜ All-lent links values units delays ⌝ }
+    ensures { λ r. ⌜ Over-all links values units delays (λ c old new. Opens c old new r (each (advance-clock c) (unopened (old .state)) (c .clocks))) ⌝ }
+    ensures { λ _. ⌜ Slots-stay links delays ⌝ }
 {
     let mut d = clocks(links);
     let mut g = first_gate(d);
@@ -236,8 +238,8 @@ pub fn advance_clocks(
 
 // Stopwatch g shows its time, if it shows it anew.
 fn show_time(links: &[usize], values: &mut [u8], g: usize, shows: bool, time: u64)
-    requires { ⌜ (length (now links) ≡ 4816) × (65536 ≤ length (now values)) ⌝ }
-    ensures { λ _. ⌜ wiring (net (now (links .entry))) (now (values .exit)) ≡ with-wires (wiring (net (now (links .entry))) (now (values .entry))) (set-outs (net (now (links .entry))) (wiring (net (now (links .entry))) (now (values .entry)) .wires) (output (net (now (links .entry))) g 0) (if shows then Float time ∷ [] else [])) ⌝ }
+    requires { ⌜ Linked links × Room values ⌝ }
+    ensures { λ _. ⌜ Turns links values (λ c w. set-outs c w (output c g 0) (if shows then Float time ∷ [] else [])) ⌝ }
 {
     if shows {
         set_out(links, values, output(links, g, 0), Value::Float(time));
@@ -246,9 +248,9 @@ fn show_time(links: &[usize], values: &mut [u8], g: usize, shows: bool, time: u6
 
 // Stopwatch g moves on, and shows its time: whether it expires. Its limit is read, also where it stands still.
 fn move_timer(links: &[usize], values: &mut [u8], delays: &mut [u8], g: usize) -> bool
-    requires { ⌜ (length (now links) ≡ 4816) × (65536 ≤ length (now values)) × Lent (net (now links)) (now delays) ⌝ }
-    ensures { λ r. ⌜ Moves-on (wiring (net (now (links .entry))) (now (values .entry))) (wiring (net (now (links .entry))) (now (values .exit))) (states (net (now (links .entry))) (now (delays .entry))) (states (net (now (links .entry))) (now (delays .exit))) (λ s. advance-timer (net (now (links .entry))) (unopened s) g) to-late g (bit r) ⌝ }
-    ensures { λ _. ⌜ Lent (net (now (links .entry))) (now (delays .exit)) ⌝ }
+    requires { ⌜ Linked links × Room values × Slots links delays ⌝ }
+    ensures { λ r. ⌜ Moves-gate links values delays (λ c s. advance-timer c (unopened s) g) to-late g (bit r) ⌝ }
+    ensures { λ _. ⌜ Slots-stay links delays ⌝ }
 {
     let i = input(links, g, 3);
     ready(links, values, i);
@@ -267,9 +269,9 @@ fn advance_timer(
     delays: &mut [u8],
     g: usize,
 ) -> Filed
-    requires { ⌜ (length (now links) ≡ 4816) × (65536 ≤ length (now values)) × (65536 ≤ length (now units)) × Lent (net (now links)) (now delays) × (g < 65536) ⌝ }
-    ensures { λ r. ⌜ Opens (net (now (links .entry))) (areas (net (now (links .entry))) (now (values .entry)) (now (units .entry)) (now (delays .entry))) (areas (net (now (links .entry))) (now (values .exit)) (now (units .exit)) (now (delays .exit))) r (advance-timer (net (now (links .entry))) (unopened (areas (net (now (links .entry))) (now (values .entry)) (now (units .entry)) (now (delays .entry)) .state)) g) ⌝ }
-    ensures { λ _. ⌜ Lent (net (now (links .entry))) (now (delays .exit)) ⌝ }
+    requires { ⌜ Linked links × Room values × Room units × Slots links delays × Short g ⌝ }
+    ensures { λ r. ⌜ Over-all links values units delays (λ c old new. Opens c old new r (advance-timer c (unopened (old .state)) g)) ⌝ }
+    ensures { λ _. ⌜ Slots-stay links delays ⌝ }
 {
     if move_timer(links, values, delays, g) {
         return fire_late(links, units, g, 1);
@@ -284,9 +286,9 @@ pub fn advance_timers(
     units: &mut [u8],
     delays: &mut [u8],
 ) -> Filed
-    requires { ⌜ (length (now links) ≡ 4816) × (65536 ≤ length (now values)) × (65536 ≤ length (now units)) × Lent (net (now links)) (now delays) ⌝ }
-    ensures { λ r. ⌜ Opens (net (now (links .entry))) (areas (net (now (links .entry))) (now (values .entry)) (now (units .entry)) (now (delays .entry))) (areas (net (now (links .entry))) (now (values .exit)) (now (units .exit)) (now (delays .exit))) r (each (advance-timer (net (now (links .entry)))) (unopened (areas (net (now (links .entry))) (now (values .entry)) (now (units .entry)) (now (delays .entry)) .state)) (net (now (links .entry)) .stopwatches)) ⌝ }
-    ensures { λ _. ⌜ Lent (net (now (links .entry))) (now (delays .exit)) ⌝ }
+    requires { ⌜ All-lent links values units delays ⌝ }
+    ensures { λ r. ⌜ Over-all links values units delays (λ c old new. Opens c old new r (each (advance-timer c) (unopened (old .state)) (c .stopwatches))) ⌝ }
+    ensures { λ _. ⌜ Slots-stay links delays ⌝ }
 {
     let mut d = stopwatches(links);
     let mut g = first_gate(d);

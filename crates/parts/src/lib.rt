@@ -5,18 +5,18 @@ ghost use mathlib.Core.List.{[]};
 ghost use Prim.Native.Nat.{_*_, _≤_};
 ghost use lib.Dec.{eqb};
 ghost use lib.ListN.{length, replicate};
-ghost use Rattle.words.specs.Words.{words, tail};
+ghost use Rattle.words.specs.Slices.{was, is, Same-tail};
 ghost use Rattle.model.specs.Base.{both};
 ghost use Rattle.model.specs.Value.{value-of};
 ghost use Rattle.model.specs.Circuit.{kind-of-gate};
-ghost use Rattle.model.specs.Questions.{queues};
 ghost use Rattle.model.specs.State.{idle};
 ghost use Rattle.model.specs.Delays.{queue-record, advance-records};
 ghost use Rattle.delays.specs.States.{counted};
-ghost use Rattle.links.specs.Links.{net};
 ghost use Rattle.queue.specs.Queue.{released};
-// The definition `delays` is named `view` here, beside the slice of that name.
-ghost use Rattle.states.specs.View.{delays as view, delay-in, with-delay, is-queue, queue-at, queue-countdown, Lent, Moves};
+ghost use Rattle.links.specs.Links.{net};
+ghost use Rattle.links.specs.Lent.{Linked, net-of};
+ghost use Rattle.states.specs.View.{delay-in, with-delay, is-queue, queue-at, queue-countdown, Moves};
+ghost use Rattle.states.specs.Lent.{Parts, Slots, Slots-stay, Delays-change};
 ghost use Rattle.parts.specs.Start.{Cleared, given, next-part, Numbered};
 use delays::countdown::Countdown;
 use delays::countdown::in_seconds;
@@ -59,8 +59,8 @@ pub fn queue_record(
     contents: [u64; 8],
     wait: Value,
 )
-    requires { ⌜ (length (now links) ≡ 4816) × Lent (net (now links)) (now delays) × (is-queue (net (now links)) g ≡ true) ⌝ }
-    ensures { λ _. ⌜ view (net (now (links .entry))) (now (delays .exit)) ≡ with-delay (view (net (now (links .entry))) (now (delays .entry))) g (queue-record (delay-in (view (net (now (links .entry))) (now (delays .entry))) g) (both value-of kinds contents) (queue-countdown (eqb (kind-of-gate (net (now (links .entry))) g) 17) wait)) ⌝ }
+    requires { ⌜ Linked links × Slots links delays × (is-queue (net (now links)) g ≡ true) ⌝ }
+    ensures { λ _. ⌜ Delays-change links delays (λ c old new. new ≡ with-delay old g (queue-record (delay-in old g) (both value-of kinds contents) (queue-countdown (eqb (kind-of-gate c g) 17) wait))) ⌝ }
 {
     let left = countdown(kind_of_gate(links, g) == QUEUE_IN_SECONDS, wait);
     let r = Record {
@@ -76,8 +76,8 @@ pub fn queue_record(
 
 // Queue g moves on by a tick of the length dt in f32 bits: the front record, if it is due.
 pub fn queue_advance(links: &[usize], delays: &mut [u8], g: usize, dt: u32) -> Released
-    requires { ⌜ (length (now links) ≡ 4816) × Lent (net (now links)) (now delays) × (is-queue (net (now links)) g ≡ true) ⌝ }
-    ensures { λ r. ⌜ Moves (view (net (now (links .entry))) (now (delays .entry))) (view (net (now (links .entry))) (now (delays .exit))) g (advance-records dt (delay-in (view (net (now (links .entry))) (now (delays .entry))) g)) (released r [] .row) (released r [] .fires) ⌝ }
+    requires { ⌜ Linked links × Slots links delays × (is-queue (net (now links)) g ≡ true) ⌝ }
+    ensures { λ r. ⌜ Delays-change links delays (λ _ old new. Moves old new g (advance-records dt (delay-in old g)) (released r [] .row) (released r [] .fires)) ⌝ }
 {
     let seconds = kind_of_gate(links, g) == QUEUE_IN_SECONDS;
     let p = get(delays, g) as usize;
@@ -90,8 +90,8 @@ pub fn queue_advance(links: &[usize], delays: &mut [u8], g: usize, dt: u32) -> R
 
 // The table of parts and the slots are cleared.
 fn clear(delays: &mut [u8])
-    requires { ⌜ 22528 ≤ length (now delays) ⌝ }
-    ensures { λ _. ⌜ Cleared 2816 (words (now (delays .entry))) (words (now (delays .exit))) × (tail (now (delays .exit)) ≡ tail (now (delays .entry))) ⌝ }
+    requires { ⌜ queue-at 0 * 8 ≤ length (now delays) ⌝ }
+    ensures { λ _. ⌜ Cleared (queue-at 0) (was delays) (is delays) × Same-tail delays ⌝ }
 {
     let mut k: usize = 0;
     while k < PARTS {
@@ -102,8 +102,8 @@ fn clear(delays: &mut [u8])
 
 // Gate g, if it is a Queue, has part n, with no records: the part that the next Queue has.
 fn give_part(links: &[usize], delays: &mut [u8], g: usize, n: usize) -> usize
-    requires { ⌜ (length (now links) ≡ 4816) × (n ≤ 64) ⌝ }
-    ensures { λ r. ⌜ (words (now (delays .exit)) ≡ given (net (now (links .entry))) g n (words (now (delays .entry)))) × (tail (now (delays .exit)) ≡ tail (now (delays .entry))) × (r ≡ next-part (net (now (links .entry))) g n) ⌝ }
+    requires { ⌜ Linked links × (n ≤ 64) ⌝ }
+    ensures { λ r. ⌜ (is delays ≡ given (net-of links) g n (was delays)) × Same-tail delays × (r ≡ next-part (net-of links) g n) ⌝ }
 {
     let kind = kind_of_gate(links, g);
     if kind < QUEUE_IN_TICKS {
@@ -119,8 +119,8 @@ fn give_part(links: &[usize], delays: &mut [u8], g: usize, n: usize) -> usize
 
 // Each Queue has the part of its number.
 fn give_parts(links: &[usize], delays: &mut [u8])
-    requires { ⌜ (length (now links) ≡ 4816) × (queue-at (queues (net (now links))) * 8 ≤ length (now delays)) ⌝ }
-    ensures { λ _. ⌜ Numbered (net (now (links .entry))) (length (net (now (links .entry)) .kinds)) (words (now (delays .entry))) (words (now (delays .exit))) × (tail (now (delays .exit)) ≡ tail (now (delays .entry))) ⌝ }
+    requires { ⌜ Linked links × Parts links delays ⌝ }
+    ensures { λ _. ⌜ Numbered (net-of links) (length (net-of links .kinds)) (was delays) (is delays) × Same-tail delays ⌝ }
 {
     let count = gates(links);
     let mut n: usize = 0;
@@ -133,8 +133,8 @@ fn give_parts(links: &[usize], delays: &mut [u8])
 
 // The small states at the start of a run, whatever the area held.
 pub fn start(links: &[usize], delays: &mut [u8])
-    requires { ⌜ (length (now links) ≡ 4816) × (queue-at (queues (net (now links))) * 8 ≤ length (now delays)) ⌝ }
-    ensures { λ _. ⌜ (view (net (now (links .entry))) (now (delays .exit)) .delays ≡ replicate (length (net (now (links .entry)) .kinds)) idle) × (view (net (now (links .entry))) (now (delays .exit)) .rest ≡ view (net (now (links .entry))) (now (delays .entry)) .rest) × Lent (net (now (links .entry))) (now (delays .exit)) ⌝ }
+    requires { ⌜ Linked links × Parts links delays ⌝ }
+    ensures { λ _. ⌜ Delays-change links delays (λ c old new. (new .delays ≡ replicate (length (c .kinds)) idle) × (new .rest ≡ old .rest) × Slots-stay links delays) ⌝ }
 {
     clear(delays);
     give_parts(links, delays);

@@ -1,3 +1,4 @@
 pub mod Waiting
 pub mod Passes
 pub mod Taking
+pub mod Lent

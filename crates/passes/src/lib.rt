@@ -1,22 +1,23 @@
 // The late pass and the main pass of a tick.
-ghost use Prim.Native.Nat.{ℕ, _<_, _≤_, _-_};
 ghost use mathlib.Core.Path.{_≡_};
 ghost use mathlib.Core.List.{List};
+ghost use Prim.Native.Nat.{_<_, _-_};
 ghost use lib.ListN.{length};
-ghost use Rattle.schedule.specs.Schedule.{late-pass, main-pass};
+ghost use Rattle.schedule.specs.Schedule.{most-units};
 ghost use Rattle.model.specs.Circuit.{Circuit};
 ghost use Rattle.model.specs.State.{Send};
-ghost use Rattle.model.specs.Unit.{World};
-ghost use Rattle.links.specs.Links.{net};
-ghost use Rattle.states.specs.View.{Lent};
 // The definition `units` is named `view` here, beside the slice of that name.
+ghost use Rattle.links.specs.Links.{net};
+ghost use Rattle.links.specs.Lent.{Linked, Room};
+ghost use Rattle.states.specs.Lent.{Slots, Slots-stay};
 ghost use Rattle.units.specs.View.{begun-of, units as view};
 ghost use Rattle.units.specs.Calls.{first-of};
-ghost use Rattle.areas.specs.Areas.{areas};
-ghost use Rattle.unit.specs.Unit.{Few-calls, act-in, ran};
-ghost use Rattle.passes.specs.Waiting.{bare, for-late, for-main};
-ghost use Rattle.passes.specs.Passes.{begun-as, units-left, Passes};
-ghost use Rattle.passes.specs.Taking.{next-of, Takes, over, one-begun, Works};
+ghost use Rattle.units.specs.Lent.{Reads, Changes};
+ghost use Rattle.areas.specs.Lent.{Over-all};
+ghost use Rattle.unit.specs.Unit.{Few-calls, act-in};
+ghost use Rattle.passes.specs.Passes.{begun-as};
+ghost use Rattle.passes.specs.Taking.{next-of, Takes, over};
+ghost use Rattle.passes.specs.Lent.{Passes-late, Passes-main, Leaves-main, Begins-unit};
 use chain::Ran;
 use links::rank_of_gate;
 use lists::Taken;
@@ -44,8 +45,8 @@ pub enum Next {
 
 // How many units may still begin.
 fn units_left(units: &[u8]) -> usize
-    requires { ⌜ 65536 ≤ length (now units) ⌝ }
-    ensures { λ r. ⌜ ((c : Circuit) → r ≡ 1024 - length (view c (now (units .entry)) .begun)) ⌝ }
+    requires { ⌜ Room units ⌝ }
+    ensures { λ r. ⌜ Reads units (λ _ u. r ≡ most-units - length (u .begun)) ⌝ }
 {
     let n = begun(units);
     if n < MOST_UNITS { MOST_UNITS - n } else { 0 }
@@ -71,9 +72,9 @@ fn begin(
     left: u64,
     to: Place,
 ) -> Ran
-    requires { ⌜ (length (now links) ≡ 4816) × (65536 ≤ length (now values)) × (65536 ≤ length (now units)) × Lent (net (now links)) (now delays) × Few-calls (net (now links)) × (length (view (net (now links)) (now units) .begun) < 1024) ⌝ }
-    ensures { λ r. ⌜ Works (areas (net (now (links .entry))) (now (values .exit)) (now (units .exit)) (now (delays .exit))) r (one-begun (areas (net (now (links .entry))) (now (values .entry)) (now (units .entry)) (now (delays .entry)) .kept) (act-in (net (now (links .entry))) (view (net (now (links .entry))) (now (units .entry)) .events) a)) (ran (net (now (links .entry))) to left (act-in (net (now (links .entry))) (view (net (now (links .entry))) (now (units .entry)) .events) a) (areas (net (now (links .entry))) (now (values .entry)) (now (units .entry)) (now (delays .entry)) .state) (view (net (now (links .entry))) (now (units .entry)) .lists)) ⌝ }
-    ensures { λ _. ⌜ Lent (net (now (links .entry))) (now (delays .exit)) ⌝ }
+    requires { ⌜ Linked links × Room values × Room units × Slots links delays × Few-calls (net (now links)) × (length (view (net (now links)) (now units) .begun) < most-units) ⌝ }
+    ensures { λ r. ⌜ Over-all links values units delays (λ c old new. Begins-unit c old new a left to r) ⌝ }
+    ensures { λ _. ⌜ Slots-stay links delays ⌝ }
 {
     begin_unit(units, listed(a));
     unit(links, values, units, delays, a, left, to)
@@ -81,8 +82,8 @@ fn begin(
 
 // The next one of the late pass is taken off: of the late list, and where that is empty of the delivered events.
 fn next_late(units: &mut [u8]) -> Next
-    requires { ⌜ 65536 ≤ length (now units) ⌝ }
-    ensures { λ r. ⌜ ((c : Circuit) → Takes c (view c (now (units .entry))) (view c (now (units .exit))) r) ⌝ }
+    requires { ⌜ Room units ⌝ }
+    ensures { λ r. ⌜ Changes units (λ c old new. Takes c old new r) ⌝ }
 {
     match take_late(units) {
         Taken::Entry(x) => Next::Begins(Act::Waiting(x)),
@@ -95,8 +96,8 @@ fn next_late(units: &mut [u8]) -> Next
 
 // The end of a late pass in which no unit may begin any more: a stop if one waits.
 fn late_over(units: &[u8], left: u64) -> Ran
-    requires { ⌜ 65536 ≤ length (now units) ⌝ }
-    ensures { λ r. ⌜ ((c : Circuit) → (r .left ≡ left) × (r .stop ≡ over (next-of (view c (now (units .entry)) .lists .late) (view c (now (units .entry)) .lists .delivered)))) ⌝ }
+    requires { ⌜ Room units ⌝ }
+    ensures { λ r. ⌜ Reads units (λ _ u. (r .left ≡ left) × (r .stop ≡ over (next-of (u .lists .late) (u .lists .delivered)))) ⌝ }
 {
     if late(units) != 0 {
         return Ran {
@@ -121,10 +122,10 @@ pub fn late_pass(
     delays: &mut [u8],
     left: u64,
 ) -> Ran
-    requires { ⌜ (length (now links) ≡ 4816) × (65536 ≤ length (now values)) × (65536 ≤ length (now units)) × Lent (net (now links)) (now delays) × Few-calls (net (now links)) ⌝ }
-    ensures { λ r. ⌜ ((limit : ℕ) (w : World) → w .state ≡ areas (net (now (links .entry))) (now (values .entry)) (now (units .entry)) (now (delays .entry)) .state → w .left ≡ left → Passes (net (now (links .entry))) limit (for-late (net (now (links .entry))) limit) (areas (net (now (links .entry))) (now (values .entry)) (now (units .entry)) (now (delays .entry))) (areas (net (now (links .entry))) (now (values .exit)) (now (units .exit)) (now (delays .exit))) r w (late-pass (bare (net (now (links .entry))) limit) (units-left (areas (net (now (links .entry))) (now (values .entry)) (now (units .entry)) (now (delays .entry)))) tt (for-late (net (now (links .entry))) limit (areas (net (now (links .entry))) (now (values .entry)) (now (units .entry)) (now (delays .entry)) .lists)) w 0)) ⌝ }
-    ensures { λ _. ⌜ (areas (net (now (links .entry))) (now (values .exit)) (now (units .exit)) (now (delays .exit)) .lists .pending ≡ areas (net (now (links .entry))) (now (values .entry)) (now (units .entry)) (now (delays .entry)) .lists .pending) × (areas (net (now (links .entry))) (now (values .exit)) (now (units .exit)) (now (delays .exit)) .lists .carried ≡ areas (net (now (links .entry))) (now (values .entry)) (now (units .entry)) (now (delays .entry)) .lists .carried) ⌝ }
-    ensures { λ _. ⌜ Lent (net (now (links .entry))) (now (delays .exit)) ⌝ }
+    requires { ⌜ Linked links × Room values × Room units × Slots links delays × Few-calls (net (now links)) ⌝ }
+    ensures { λ r. ⌜ Over-all links values units delays (λ c old new. Passes-late c old new left r) ⌝ }
+    ensures { λ _. ⌜ Over-all links values units delays (λ _ old new. Leaves-main old new) ⌝ }
+    ensures { λ _. ⌜ Slots-stay links delays ⌝ }
 {
     let mut rest = left;
     let mut n = units_left(units);
@@ -149,8 +150,8 @@ pub fn late_pass(
 
 // The end of a main pass in which no unit may begin any more: a stop if one waits.
 fn main_over(units: &[u8], left: u64) -> Ran
-    requires { ⌜ 65536 ≤ length (now units) ⌝ }
-    ensures { λ r. ⌜ ((c : Circuit) → (r .left ≡ left) × (r .stop ≡ over (first-of (view c (now (units .entry)) .lists .pending)))) ⌝ }
+    requires { ⌜ Room units ⌝ }
+    ensures { λ r. ⌜ Reads units (λ _ u. (r .left ≡ left) × (r .stop ≡ over (first-of (u .lists .pending)))) ⌝ }
 {
     if pending(units) != 0 {
         return Ran {
@@ -169,9 +170,9 @@ pub fn main_pass(
     delays: &mut [u8],
     left: u64,
 ) -> Ran
-    requires { ⌜ (length (now links) ≡ 4816) × (65536 ≤ length (now values)) × (65536 ≤ length (now units)) × Lent (net (now links)) (now delays) × Few-calls (net (now links)) ⌝ }
-    ensures { λ r. ⌜ ((limit : ℕ) (w : World) → w .state ≡ areas (net (now (links .entry))) (now (values .entry)) (now (units .entry)) (now (delays .entry)) .state → w .left ≡ left → Passes (net (now (links .entry))) limit (for-main (net (now (links .entry))) limit) (areas (net (now (links .entry))) (now (values .entry)) (now (units .entry)) (now (delays .entry))) (areas (net (now (links .entry))) (now (values .exit)) (now (units .exit)) (now (delays .exit))) r w (main-pass (bare (net (now (links .entry))) limit) (units-left (areas (net (now (links .entry))) (now (values .entry)) (now (units .entry)) (now (delays .entry)))) tt (for-main (net (now (links .entry))) limit (areas (net (now (links .entry))) (now (values .entry)) (now (units .entry)) (now (delays .entry)) .lists)) w 0)) ⌝ }
-    ensures { λ _. ⌜ Lent (net (now (links .entry))) (now (delays .exit)) ⌝ }
+    requires { ⌜ Linked links × Room values × Room units × Slots links delays × Few-calls (net (now links)) ⌝ }
+    ensures { λ r. ⌜ Over-all links values units delays (λ c old new. Passes-main c old new left r) ⌝ }
+    ensures { λ _. ⌜ Slots-stay links delays ⌝ }
 {
     let mut rest = left;
     let mut n = units_left(units);

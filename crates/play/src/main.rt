@@ -1,5 +1,6 @@
 // Plays script.bin over circuit.bin, both in the folder that the program runs in, and prints the records and how the run ended, or the refusal.
 ghost use Prim.Native.Nat.{_^_, _≤_, _<_};
+ghost use Rattle.words.specs.Slices.{after};
 ghost use Rattle.io.specs.Counts.{Counts};
 
 mod records;
@@ -75,7 +76,7 @@ struct Contents {
 
 // Reads a file to the front of a buffer. A file that ends later than the buffer, or cannot be read to its end, is not whole.
 fn read_file(name: &[u8], buffer: &mut [u8]) -> Contents
-    ensures { λ r. ⌜ Counts (r .bytes) (now (buffer .exit)) ⌝ }
+    ensures { λ r. ⌜ Counts (r .bytes) (after buffer) ⌝ }
 {
     let fd = os::open_read(name);
     if fd < 0 {

@@ -1,7 +1,7 @@
 // Where the records of a log begin and end.
 ghost use mathlib.Core.Path.{_≡_};
 ghost use Prim.Native.Nat.{_^_, _≤_, _<_, min};
-ghost use Rattle.words.specs.Words.{words};
+ghost use Rattle.words.specs.Slices.{was};
 ghost use Rattle.play.specs.Records.{outputs-of, record-words};
 use links::layout::MOST_CONSTANTS;
 use links::layout::MOST_GATES;
@@ -19,7 +19,7 @@ fn least(n: u64, most: usize) -> usize
 
 // How many outputs the circuit has.
 pub fn outputs(circuit: &[u8]) -> usize
-    ensures { λ r. ⌜ r ≡ outputs-of (words (now (circuit .entry))) ⌝ }
+    ensures { λ r. ⌜ r ≡ outputs-of (was circuit) ⌝ }
     ensures { λ r. ⌜ r ≤ 576 ⌝ }
 {
     let gates = least(read(circuit, 0), MOST_GATES);
@@ -37,7 +37,7 @@ pub fn outputs(circuit: &[u8]) -> usize
 // How many words the record has that begins at word `at`.
 pub fn record_words(log: &[u8], at: usize, outputs: usize) -> usize
     requires { ⌜ (at < 2 ^ 62) × (outputs ≤ 576) ⌝ }
-    ensures { λ r. ⌜ r ≡ record-words (words (now (log .entry))) outputs at ⌝ }
+    ensures { λ r. ⌜ r ≡ record-words (was log) outputs at ⌝ }
     ensures { λ r. ⌜ (6 ≤ r) × (r ≤ 5254) ⌝ }
 {
     let late = least(read(log, at + 2), MOST_UNITS);

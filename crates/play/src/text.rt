@@ -4,13 +4,14 @@ ghost use mathlib.Core.List.{[], _∷_, _++_};
 ghost use Prim.Native.Nat.{_+_, _≤_, _<_};
 ghost use lib.ListN.{length, take};
 ghost use lib.Seq.{paste};
+ghost use Rattle.words.specs.Slices.{before, after};
 ghost use Rattle.io.specs.Counts.{Counts};
 ghost use Rattle.play.specs.Text.{decimal, spelled};
 
 // Adds a byte behind the first `at`, and answers how many there are then.
 fn add_byte(text: &mut [u8], at: usize, byte: u8) -> usize
     requires { ⌜ at < length (now text) ⌝ }
-    ensures { λ r. ⌜ take r (now (text .exit)) ≡ take at (now (text .entry)) ++ (byte ∷ []) ⌝ }
+    ensures { λ r. ⌜ take r (after text) ≡ take at (before text) ++ (byte ∷ []) ⌝ }
     ensures { λ r. ⌜ r ≡ at + 1 ⌝ }
 {
     text[at] = byte;
@@ -20,7 +21,7 @@ fn add_byte(text: &mut [u8], at: usize, byte: u8) -> usize
 // Puts the first n of some digits behind the first `at` bytes.
 fn put_digits(text: &mut [u8], at: usize, digits: &[u8; 20], n: usize)
     requires { ⌜ (at + n ≤ length (now text)) × (n ≤ 20) × (n ≤ length (now digits)) ⌝ }
-    ensures { λ _. ⌜ now (text .exit) ≡ paste (now (text .entry)) at (now (digits .entry)) n ⌝ }
+    ensures { λ _. ⌜ after text ≡ paste (before text) at (before digits) n ⌝ }
 {
     let mut i = 0;
     while i < n {
@@ -32,7 +33,7 @@ fn put_digits(text: &mut [u8], at: usize, digits: &[u8; 20], n: usize)
 // Adds a number in decimal.
 fn add_decimal(text: &mut [u8], at: usize, number: u64) -> usize
     requires { ⌜ at + 20 ≤ length (now text) ⌝ }
-    ensures { λ r. ⌜ take r (now (text .exit)) ≡ take at (now (text .entry)) ++ decimal number ⌝ }
+    ensures { λ r. ⌜ take r (after text) ≡ take at (before text) ++ decimal number ⌝ }
     ensures { λ r. ⌜ (at ≤ r) × (r ≤ at + 20) ⌝ }
 {
     let mut digits = [0u8; 20];
@@ -44,8 +45,8 @@ fn add_decimal(text: &mut [u8], at: usize, number: u64) -> usize
 // Adds a word in signed decimal, and the byte behind it.
 pub fn add_word(text: &mut [u8], at: usize, word: u64, last: u8) -> usize
     requires { ⌜ at + 22 ≤ length (now text) ⌝ }
-    ensures { λ r. ⌜ take r (now (text .exit)) ≡ take at (now (text .entry)) ++ (spelled word ++ (last ∷ [])) ⌝ }
-    ensures { λ r. ⌜ Counts r (now (text .exit)) ⌝ }
+    ensures { λ r. ⌜ take r (after text) ≡ take at (before text) ++ (spelled word ++ (last ∷ [])) ⌝ }
+    ensures { λ r. ⌜ Counts r (after text) ⌝ }
 {
     if word < 0x8000_0000_0000_0000 {
         let end = add_decimal(text, at, word);

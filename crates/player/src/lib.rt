@@ -2,19 +2,20 @@
 ghost use mathlib.Core.Path.{_≡_};
 ghost use mathlib.Core.Option.{none, some};
 ghost use lib.ListN.{set};
+ghost use lib.ListN.{length};
+ghost use Rattle.words.specs.Slices.{before, after};
 ghost use Rattle.model.specs.Questions.{refusal};
 ghost use Rattle.model.specs.Answer.{number, log-after, area-after};
 ghost use Rattle.model.specs.Order.{Whole-run-in-order};
 ghost use Rattle.run.specs.Told.{lent, answered};
 ghost use Rattle.player.specs.Numbers.{number-of, ticks-of, bytes-of, words-told};
-ghost use lib.ListN.{length};
 use circuit::check;
 use run::Answer;
 
 // The number of the first question whose answer is no, for a call that is lent no areas; 0 where all are yes.
 #[no_mangle]
 pub extern "C" fn hazhirun_check(circuit: &[u8], script: &[u8]) -> u64
-    ensures { λ r. ⌜ r ≡ refusal none (now (circuit .entry)) (now (script .entry)) ⌝ }
+    ensures { λ r. ⌜ r ≡ refusal none (before circuit) (before script) ⌝ }
 {
     check(circuit, script)
 }
@@ -51,7 +52,7 @@ fn bytes_of(a: Answer) -> u64
 
 // Word i becomes v, if there is such a word.
 fn put_at(told: &mut [u64], i: usize, v: u64)
-    ensures { λ _. ⌜ now (told .exit) ≡ set (now (told .entry)) i v ⌝ }
+    ensures { λ _. ⌜ after told ≡ set (before told) i v ⌝ }
 {
     if i < told.len() {
         told[i] = v;
@@ -70,13 +71,13 @@ pub extern "C" fn hazhirun_run(
     delays: &mut [u8],
     told: &mut [u64],
 ) -> u64
-    ensures { λ r. ⌜ r ≡ number (answered (now (circuit .entry)) (now (script .entry)) (now (log .entry)) (now (values .entry)) (now (units .entry)) (now (delays .entry))) ⌝ }
-    ensures { λ _. ⌜ now (told .exit) ≡ words-told (answered (now (circuit .entry)) (now (script .entry)) (now (log .entry)) (now (values .entry)) (now (units .entry)) (now (delays .entry))) (now (told .entry)) ⌝ }
-    ensures { λ _. ⌜ now (log .exit) ≡ log-after (answered (now (circuit .entry)) (now (script .entry)) (now (log .entry)) (now (values .entry)) (now (units .entry)) (now (delays .entry))) (now (log .entry)) ⌝ }
-    ensures { λ _. ⌜ now (values .exit) ≡ area-after (answered (now (circuit .entry)) (now (script .entry)) (now (log .entry)) (now (values .entry)) (now (units .entry)) (now (delays .entry))) (now (values .entry)) ⌝ }
-    ensures { λ _. ⌜ now (units .exit) ≡ area-after (answered (now (circuit .entry)) (now (script .entry)) (now (log .entry)) (now (values .entry)) (now (units .entry)) (now (delays .entry))) (now (units .entry)) ⌝ }
-    ensures { λ _. ⌜ now (delays .exit) ≡ area-after (answered (now (circuit .entry)) (now (script .entry)) (now (log .entry)) (now (values .entry)) (now (units .entry)) (now (delays .entry))) (now (delays .entry)) ⌝ }
-    ensures { λ _. ⌜ ((refusal (some (lent (now (values .entry)) (now (units .entry)) (now (delays .entry)))) (now (circuit .entry)) (now (script .entry)) ≡ 0) → Whole-run-in-order (lent (now (values .entry)) (now (units .entry)) (now (delays .entry))) (length (now (log .entry))) (now (circuit .entry)) (now (script .entry))) ⌝ }
+    ensures { λ r. ⌜ r ≡ number (answered (before circuit) (before script) (before log) (before values) (before units) (before delays)) ⌝ }
+    ensures { λ _. ⌜ after told ≡ words-told (answered (before circuit) (before script) (before log) (before values) (before units) (before delays)) (before told) ⌝ }
+    ensures { λ _. ⌜ after log ≡ log-after (answered (before circuit) (before script) (before log) (before values) (before units) (before delays)) (before log) ⌝ }
+    ensures { λ _. ⌜ after values ≡ area-after (answered (before circuit) (before script) (before log) (before values) (before units) (before delays)) (before values) ⌝ }
+    ensures { λ _. ⌜ after units ≡ area-after (answered (before circuit) (before script) (before log) (before values) (before units) (before delays)) (before units) ⌝ }
+    ensures { λ _. ⌜ after delays ≡ area-after (answered (before circuit) (before script) (before log) (before values) (before units) (before delays)) (before delays) ⌝ }
+    ensures { λ _. ⌜ ((refusal (some (lent (before values) (before units) (before delays))) (before circuit) (before script) ≡ 0) → Whole-run-in-order (lent (before values) (before units) (before delays)) (length (before log)) (before circuit) (before script)) ⌝ }
 {
     let a = run::run(circuit, script, log, values, units, delays);
     put_at(told, 0, ticks_of(a));

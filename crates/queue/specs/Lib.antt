@@ -1,2 +1,3 @@
 pub mod Queue
 pub mod Examples
+pub mod Lent

@@ -2,13 +2,13 @@
 ghost use mathlib.Core.Path.{_≡_};
 ghost use mathlib.Core.Bool.{false};
 ghost use mathlib.Core.List.{map};
-ghost use Prim.Native.Nat.{_+_, _*_, _%_, _<_, _≤_, min};
-ghost use lib.ListN.{length, getD, take, drop};
-ghost use Rattle.words.specs.Words.{words};
+ghost use Prim.Native.Nat.{_%_, _<_, min};
+ghost use lib.ListN.{getD, take, drop};
+ghost use Rattle.words.specs.Slices.{was, is, Has-words};
 ghost use Rattle.model.specs.State.{idle, records≔};
 ghost use Rattle.model.specs.Delays.{queue-record, hand-out, advance-records};
-ghost use Rattle.delays.specs.States.{counted, counts-seconds};
 ghost use Rattle.queue.specs.Queue.{queued, released, blank, front-if-due, ticked, slot, records, Placed};
+ghost use Rattle.queue.specs.Lent.{Part, Holds-part, in-seconds};
 use delays::countdown::Countdown;
 use delays::countdown::of_word;
 use words::get;
@@ -56,16 +56,16 @@ pub const PART_BYTES: usize = PART * 8;
 
 // The slot of the front record.
 fn first_of(queue: &[u8]) -> usize
-    requires { ⌜ 34832 ≤ length (now queue) ⌝ }
-    ensures { λ r. ⌜ r ≡ getD (words (now (queue .entry))) 0 0 % 256 ⌝ }
+    requires { ⌜ Holds-part queue ⌝ }
+    ensures { λ r. ⌜ r ≡ getD (was queue) 0 0 % 256 ⌝ }
 {
     get(queue, FIRST) as usize % SLOTS
 }
 
 // How many records there are.
 fn count_of(queue: &[u8]) -> usize
-    requires { ⌜ 34832 ≤ length (now queue) ⌝ }
-    ensures { λ r. ⌜ r ≡ min (getD (words (now (queue .entry))) 1 0) 256 ⌝ }
+    requires { ⌜ Holds-part queue ⌝ }
+    ensures { λ r. ⌜ r ≡ min (getD (was queue) 1 0) 256 ⌝ }
 {
     let n = get(queue, COUNT) as usize;
     if n < SLOTS { n } else { SLOTS }
@@ -73,8 +73,8 @@ fn count_of(queue: &[u8]) -> usize
 
 // Eight words from word p on.
 fn get_eight(queue: &[u8], p: usize) -> [u64; 8]
-    requires { ⌜ (p + 8) * 8 ≤ length (now queue) ⌝ }
-    ensures { λ r. ⌜ r ≡ take 8 (drop p (words (now (queue .entry)))) ⌝ }
+    requires { ⌜ Has-words queue p 8 ⌝ }
+    ensures { λ r. ⌜ r ≡ take 8 (drop p (was queue)) ⌝ }
 {
     [
         get(queue, p),
@@ -90,8 +90,8 @@ fn get_eight(queue: &[u8], p: usize) -> [u64; 8]
 
 // The record in slot s.
 fn load(queue: &[u8], seconds: bool, s: usize) -> Record
-    requires { ⌜ (34832 ≤ length (now queue)) × (s < 256) ⌝ }
-    ensures { λ r. ⌜ queued r ≡ slot seconds (words (now (queue .entry))) s ⌝ }
+    requires { ⌜ Holds-part queue × (s < 256) ⌝ }
+    ensures { λ r. ⌜ queued r ≡ slot seconds (was queue) s ⌝ }
 {
     let kinds = get_eight(queue, KINDS + s * ROW);
     let contents = get_eight(queue, CONTENTS + s * ROW);
@@ -105,8 +105,8 @@ fn load(queue: &[u8], seconds: bool, s: usize) -> Record
 
 // A record goes to slot s.
 fn store(queue: &mut [u8], s: usize, r: Record)
-    requires { ⌜ (34832 ≤ length (now queue)) × (s < 256) ⌝ }
-    ensures { λ _. ⌜ Placed (counts-seconds (counted (r .left))) (words (now (queue .entry))) (words (now (queue .exit))) s (queued r) ⌝ }
+    requires { ⌜ Holds-part queue × (s < 256) ⌝ }
+    ensures { λ _. ⌜ Placed (in-seconds (r .left)) (was queue) (is queue) s (queued r) ⌝ }
 {
     let kinds = r.kinds;
     let contents = r.contents;
@@ -118,8 +118,8 @@ fn store(queue: &mut [u8], s: usize, r: Record)
 
 // The record in slot s counts down.
 fn count_slot(queue: &mut [u8], seconds: bool, dt: u32, s: usize)
-    requires { ⌜ (34832 ≤ length (now queue)) × (s < 256) ⌝ }
-    ensures { λ _. ⌜ Placed seconds (words (now (queue .entry))) (words (now (queue .exit))) s (ticked dt (slot seconds (words (now (queue .entry))) s)) ⌝ }
+    requires { ⌜ Holds-part queue × (s < 256) ⌝ }
+    ensures { λ _. ⌜ Placed seconds (was queue) (is queue) s (ticked dt (slot seconds (was queue) s)) ⌝ }
 {
     let left = of_word(seconds, get(queue, COUNTDOWNS + s));
     let next = left.tick_down(dt);
@@ -128,8 +128,8 @@ fn count_slot(queue: &mut [u8], seconds: bool, dt: u32, s: usize)
 
 // All records count down.
 fn count_down(queue: &mut [u8], seconds: bool, dt: u32)
-    requires { ⌜ 34832 ≤ length (now queue) ⌝ }
-    ensures { λ _. ⌜ records seconds (words (now (queue .exit))) ≡ map (ticked dt) (records seconds (words (now (queue .entry)))) ⌝ }
+    requires { ⌜ Holds-part queue ⌝ }
+    ensures { λ _. ⌜ records seconds (is queue) ≡ map (ticked dt) (records seconds (was queue)) ⌝ }
 {
     let first = first_of(queue);
     let count = count_of(queue);
@@ -157,9 +157,9 @@ fn nothing_due() -> Released
 
 // The front record leaves, if it is due.
 fn take_front(queue: &mut [u8], seconds: bool) -> Released
-    requires { ⌜ 34832 ≤ length (now queue) ⌝ }
-    ensures { λ r. ⌜ released r (records seconds (words (now (queue .exit)))) ≡ hand-out idle (records seconds (words (now (queue .entry)))) ⌝ }
-    ensures { λ r. ⌜ queued (r .front) ≡ front-if-due (records seconds (words (now (queue .entry)))) ⌝ }
+    requires { ⌜ Holds-part queue ⌝ }
+    ensures { λ r. ⌜ released r (records seconds (is queue)) ≡ hand-out idle (records seconds (was queue)) ⌝ }
+    ensures { λ r. ⌜ queued (r .front) ≡ front-if-due (records seconds (was queue)) ⌝ }
 {
     let count = count_of(queue);
     if count == 0 {
@@ -178,8 +178,8 @@ fn take_front(queue: &mut [u8], seconds: bool) -> Released
 
 // A new record, behind the others. With 256 records it is dropped.
 pub fn push(queue: &mut [u8], r: Record)
-    requires { ⌜ length (now queue) ≡ 34832 ⌝ }
-    ensures { λ _. ⌜ records (counts-seconds (counted (r .left))) (words (now (queue .exit))) ≡ queue-record (records≔ idle (records (counts-seconds (counted (r .left))) (words (now (queue .entry))))) (queued r .row) (queued r .left) .records ⌝ }
+    requires { ⌜ Part queue ⌝ }
+    ensures { λ _. ⌜ records (in-seconds (r .left)) (is queue) ≡ queue-record (records≔ idle (records (in-seconds (r .left)) (was queue))) (queued r .row) (queued r .left) .records ⌝ }
 {
     let count = count_of(queue);
     if count < SLOTS {
@@ -191,9 +191,9 @@ pub fn push(queue: &mut [u8], r: Record)
 
 // A tick of the length dt: all records count down, and the front one alone is handed out, if it is due.
 pub fn advance(queue: &mut [u8], seconds: bool, dt: u32) -> Released
-    requires { ⌜ length (now queue) ≡ 34832 ⌝ }
-    ensures { λ r. ⌜ released r (records seconds (words (now (queue .exit)))) ≡ advance-records dt (records≔ idle (records seconds (words (now (queue .entry))))) ⌝ }
-    ensures { λ r. ⌜ queued (r .front) ≡ front-if-due (map (ticked dt) (records seconds (words (now (queue .entry))))) ⌝ }
+    requires { ⌜ Part queue ⌝ }
+    ensures { λ r. ⌜ released r (records seconds (is queue)) ≡ advance-records dt (records≔ idle (records seconds (was queue))) ⌝ }
+    ensures { λ r. ⌜ queued (r .front) ≡ front-if-due (map (ticked dt) (records seconds (was queue))) ⌝ }
 {
     count_down(queue, seconds, dt);
     take_front(queue, seconds)

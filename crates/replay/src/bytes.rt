@@ -1,11 +1,12 @@
 // Bytes made alike, and compared.
 ghost use mathlib.Core.Path.{_≡_};
 ghost use lib.ListN.{length, replicate};
+ghost use Rattle.words.specs.Slices.{before, after};
 ghost use Rattle.replay.specs.Bytes.{alike, same, holds};
 
 // Makes every byte of the area this one.
 pub fn fill(area: &mut [u8], byte: u8)
-    ensures { λ _. ⌜ now (area .exit) ≡ replicate (length (now (area .entry))) byte ⌝ }
+    ensures { λ _. ⌜ after area ≡ replicate (length (before area)) byte ⌝ }
 {
     let n = area.len();
     let mut i = 0;
@@ -17,7 +18,7 @@ pub fn fill(area: &mut [u8], byte: u8)
 
 // Whether every byte of the area is this one.
 pub fn is_alike(area: &[u8], byte: u8) -> bool
-    ensures { λ r. ⌜ r ≡ alike byte (now (area .entry)) ⌝ }
+    ensures { λ r. ⌜ r ≡ alike byte (before area) ⌝ }
 {
     let n = area.len();
     let mut i = 0;
@@ -32,7 +33,7 @@ pub fn is_alike(area: &[u8], byte: u8) -> bool
 
 // Whether both are of one length, with the same bytes.
 pub fn is_same(a: &[u8], b: &[u8]) -> bool
-    ensures { λ r. ⌜ r ≡ same (now (a .entry)) (now (b .entry)) ⌝ }
+    ensures { λ r. ⌜ r ≡ same (before a) (before b) ⌝ }
 {
     let n = a.len();
     if b.len() != n {
@@ -50,7 +51,7 @@ pub fn is_same(a: &[u8], b: &[u8]) -> bool
 
 // Whether the log holds these records, and behind them nothing but this byte.
 pub fn is_holding(log: &[u8], records: &[u8], byte: u8) -> bool
-    ensures { λ r. ⌜ r ≡ holds byte (now (log .entry)) (now (records .entry)) ⌝ }
+    ensures { λ r. ⌜ r ≡ holds byte (before log) (before records) ⌝ }
 {
     let n = records.len();
     if log.len() < n {

@@ -1,6 +1,6 @@
 // A run of the packed ones: its numbers, and whether what came of it is what was due.
 ghost use mathlib.Core.Path.{_≡_};
-ghost use Rattle.words.specs.Words.{words};
+ghost use Rattle.words.specs.Slices.{before, was};
 ghost use Rattle.replay.specs.Due.{due-of, ends, cleared, as-due};
 use crate::bytes::is_alike;
 use crate::bytes::is_holding;
@@ -22,7 +22,7 @@ pub struct Due {
 
 // The numbers from their nine words.
 pub fn numbers(head: &[u8]) -> Due
-    ensures { λ r. ⌜ r ≡ due-of (words (now (head .entry))) ⌝ }
+    ensures { λ r. ⌜ r ≡ due-of (was head) ⌝ }
 {
     Due {
         log: read(head, 0) as usize,
@@ -57,7 +57,7 @@ pub fn is_end(due: Due, answer: Answer) -> bool
 
 // Whether the three areas are zero.
 pub fn is_cleared(values: &[u8], units: &[u8], delays: &[u8]) -> bool
-    ensures { λ r. ⌜ r ≡ cleared (now (values .entry)) (now (units .entry)) (now (delays .entry)) ⌝ }
+    ensures { λ r. ⌜ r ≡ cleared (before values) (before units) (before delays) ⌝ }
 {
     if !is_alike(values, 0) {
         return false;
@@ -79,7 +79,7 @@ pub fn is_as_due(
     units: &[u8],
     delays: &[u8],
 ) -> bool
-    ensures { λ r. ⌜ r ≡ as-due due answer (now (records .entry)) filled (now (log .entry)) (now (values .entry)) (now (units .entry)) (now (delays .entry)) ⌝ }
+    ensures { λ r. ⌜ r ≡ as-due due answer (before records) filled (before log) (before values) (before units) (before delays) ⌝ }
 {
     if !is_end(due, answer) {
         return false;

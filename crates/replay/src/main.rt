@@ -1,6 +1,7 @@
 // Plays every run of runs.bin and compares what comes of it with what is due, byte by byte.
 ghost use mathlib.Core.Path.{_≡_};
 ghost use lib.ListN.{length};
+ghost use Rattle.words.specs.Slices.{before};
 ghost use Rattle.replay.specs.Met.{met};
 
 mod bytes;
@@ -83,7 +84,7 @@ fn play_lent(
     units: &mut [u8],
     delays: &mut [u8],
 ) -> bool
-    ensures { λ r. ⌜ r ≡ met due (now (circuit .entry)) (now (script .entry)) (now (records .entry)) (now (log .entry)) (now (values .entry)) (now (units .entry)) (now (delays .entry)) ⌝ }
+    ensures { λ r. ⌜ r ≡ met due (before circuit) (before script) (before records) (before log) (before values) (before units) (before delays) ⌝ }
 {
     fill(log, FILLED);
     fill(values, FILLED);

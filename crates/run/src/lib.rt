@@ -5,16 +5,19 @@ ghost use mathlib.Core.Option.{some};
 ghost use Prim.Native.Nat.{_*_, _^_, _≤_, _<_};
 ghost use lib.ListN.{length, replicate};
 ghost use Rattle.words.specs.Words.{words};
+ghost use Rattle.words.specs.Slices.{before, after, was};
 ghost use Rattle.schedule.specs.Schedule.{run};
 ghost use Rattle.model.specs.Opening.{start};
-ghost use Rattle.model.specs.Questions.{queues, refusal};
+ghost use Rattle.model.specs.Questions.{refusal};
 ghost use Rattle.model.specs.Run.{seen, most-steps, world-at-start};
 ghost use Rattle.model.specs.Answer.{log-after, area-after};
 ghost use Rattle.model.specs.Order.{Whole-run-in-order};
 ghost use Rattle.links.specs.Links.{net};
-ghost use Rattle.states.specs.View.{Lent, queue-at};
-ghost use Rattle.unit.specs.Unit.{Few-calls};
+ghost use Rattle.links.specs.Lent.{Linked, net-of, Room};
+ghost use Rattle.states.specs.Lent.{Parts, Slots, Slots-stay};
 ghost use Rattle.areas.specs.Areas.{areas};
+ghost use Rattle.areas.specs.Lent.{Over-all};
+ghost use Rattle.unit.specs.Unit.{Few-calls};
 ghost use Rattle.passes.specs.Waiting.{bare};
 ghost use Rattle.run.specs.Running.{givens, Good-script, Logged};
 ghost use Rattle.run.specs.Told.{lent, answered, told};
@@ -43,8 +46,8 @@ pub struct Played {
 
 // The areas at the start of a run, whatever they held.
 fn start(links: &[usize], values: &mut [u8], units: &mut [u8], delays: &mut [u8])
-    requires { ⌜ (length (now links) ≡ 4816) × (65536 ≤ length (now values)) × (65536 ≤ length (now units)) × (queue-at (queues (net (now links))) * 8 ≤ length (now delays)) ⌝ }
-    ensures { λ _. ⌜ (areas (net (now (links .entry))) (now (values .exit)) (now (units .exit)) (now (delays .exit)) .state ≡ start (net (now (links .entry)))) × (areas (net (now (links .entry))) (now (values .exit)) (now (units .exit)) (now (delays .exit)) .lists .carried ≡ []) × Lent (net (now (links .entry))) (now (delays .exit)) ⌝ }
+    requires { ⌜ Linked links × Room values × Room units × Parts links delays ⌝ }
+    ensures { λ _. ⌜ Over-all links values units delays (λ c _ new. (new .state ≡ start c) × (new .lists .carried ≡ []) × Slots-stay links delays) ⌝ }
 {
     wires::start::start(links, values);
     units::raising::start(links, units);
@@ -61,11 +64,11 @@ fn play(
     log: &mut [u8],
     limit: u64,
 ) -> Played
-    requires { ⌜ (length (now links) ≡ 4816) × (65536 ≤ length (now values)) × (65536 ≤ length (now units)) × Lent (net (now links)) (now delays) × Few-calls (net (now links)) ⌝ }
+    requires { ⌜ Linked links × Room values × Room units × Slots links delays × Few-calls (net (now links)) ⌝ }
     requires { ⌜ (limit < 2 ^ 63) × Good-script (net (now links)) (words (now script)) ⌝ }
     requires { ⌜ (areas (net (now links)) (now values) (now units) (now delays) .state ≡ start (net (now links))) × (areas (net (now links)) (now values) (now units) (now delays) .lists .carried ≡ []) ⌝ }
-    ensures { λ r. ⌜ Logged (seen (net (now (links .entry))) limit (run (bare (net (now (links .entry))) limit) (givens (net (now (links .entry))) (words (now (script .entry)))) (world-at-start (net (now (links .entry))) limit (length (now (log .entry)))))) (now (log .entry)) (now (log .exit)) (r .size) (r .stop) (r .ticks) ⌝ }
-    ensures { λ r. ⌜ r .size * 8 ≤ length (now (log .entry)) ⌝ }
+    ensures { λ r. ⌜ Logged (seen (net-of links) limit (run (bare (net-of links) limit) (givens (net-of links) (was script)) (world-at-start (net-of links) limit (length (before log))))) (before log) (after log) (r .size) (r .stop) (r .ticks) ⌝ }
+    ensures { λ r. ⌜ r .size * 8 ≤ length (before log) ⌝ }
 {
     let ticks = get(script, 0) as usize;
     let stimuli = get(script, 1) as usize;
@@ -118,11 +121,11 @@ fn perform(
     units: &mut [u8],
     delays: &mut [u8],
 ) -> Played
-    requires { ⌜ (length (now links) ≡ 4816) × (65536 ≤ length (now values)) × (65536 ≤ length (now units)) × (queue-at (queues (net (now links))) * 8 ≤ length (now delays)) ⌝ }
+    requires { ⌜ Linked links × Room values × Room units × Parts links delays ⌝ }
     requires { ⌜ Few-calls (net (now links)) × Good-script (net (now links)) (words (now script)) ⌝ }
-    ensures { λ r. ⌜ Logged (seen (net (now (links .entry))) most-steps (run (bare (net (now (links .entry))) most-steps) (givens (net (now (links .entry))) (words (now (script .entry)))) (world-at-start (net (now (links .entry))) most-steps (length (now (log .entry)))))) (now (log .entry)) (now (log .exit)) (r .size) (r .stop) (r .ticks) ⌝ }
-    ensures { λ r. ⌜ r .size * 8 ≤ length (now (log .entry)) ⌝ }
-    ensures { λ _. ⌜ (now (values .exit) ≡ replicate (length (now (values .entry))) 0) × (now (units .exit) ≡ replicate (length (now (units .entry))) 0) × (now (delays .exit) ≡ replicate (length (now (delays .entry))) 0) ⌝ }
+    ensures { λ r. ⌜ Logged (seen (net-of links) most-steps (run (bare (net-of links) most-steps) (givens (net-of links) (was script)) (world-at-start (net-of links) most-steps (length (before log))))) (before log) (after log) (r .size) (r .stop) (r .ticks) ⌝ }
+    ensures { λ r. ⌜ r .size * 8 ≤ length (before log) ⌝ }
+    ensures { λ _. ⌜ (after values ≡ replicate (length (before values)) 0) × (after units ≡ replicate (length (before units)) 0) × (after delays ≡ replicate (length (before delays)) 0) ⌝ }
 {
     start(links, values, units, delays);
     let played = play(links, values, units, delays, script, log, MOST_STEPS);
@@ -141,12 +144,12 @@ pub fn run(
     units: &mut [u8],
     delays: &mut [u8],
 ) -> Answer
-    ensures { λ r. ⌜ r ≡ told (answered (now (circuit .entry)) (now (script .entry)) (now (log .entry)) (now (values .entry)) (now (units .entry)) (now (delays .entry))) ⌝ }
-    ensures { λ _. ⌜ now (log .exit) ≡ log-after (answered (now (circuit .entry)) (now (script .entry)) (now (log .entry)) (now (values .entry)) (now (units .entry)) (now (delays .entry))) (now (log .entry)) ⌝ }
-    ensures { λ _. ⌜ now (values .exit) ≡ area-after (answered (now (circuit .entry)) (now (script .entry)) (now (log .entry)) (now (values .entry)) (now (units .entry)) (now (delays .entry))) (now (values .entry)) ⌝ }
-    ensures { λ _. ⌜ now (units .exit) ≡ area-after (answered (now (circuit .entry)) (now (script .entry)) (now (log .entry)) (now (values .entry)) (now (units .entry)) (now (delays .entry))) (now (units .entry)) ⌝ }
-    ensures { λ _. ⌜ now (delays .exit) ≡ area-after (answered (now (circuit .entry)) (now (script .entry)) (now (log .entry)) (now (values .entry)) (now (units .entry)) (now (delays .entry))) (now (delays .entry)) ⌝ }
-    ensures { λ _. ⌜ ((refusal (some (lent (now (values .entry)) (now (units .entry)) (now (delays .entry)))) (now (circuit .entry)) (now (script .entry)) ≡ 0) → Whole-run-in-order (lent (now (values .entry)) (now (units .entry)) (now (delays .entry))) (length (now (log .entry))) (now (circuit .entry)) (now (script .entry))) ⌝ }
+    ensures { λ r. ⌜ r ≡ told (answered (before circuit) (before script) (before log) (before values) (before units) (before delays)) ⌝ }
+    ensures { λ _. ⌜ after log ≡ log-after (answered (before circuit) (before script) (before log) (before values) (before units) (before delays)) (before log) ⌝ }
+    ensures { λ _. ⌜ after values ≡ area-after (answered (before circuit) (before script) (before log) (before values) (before units) (before delays)) (before values) ⌝ }
+    ensures { λ _. ⌜ after units ≡ area-after (answered (before circuit) (before script) (before log) (before values) (before units) (before delays)) (before units) ⌝ }
+    ensures { λ _. ⌜ after delays ≡ area-after (answered (before circuit) (before script) (before log) (before values) (before units) (before delays)) (before delays) ⌝ }
+    ensures { λ _. ⌜ ((refusal (some (lent (before values) (before units) (before delays))) (before circuit) (before script) ≡ 0) → Whole-run-in-order (lent (before values) (before units) (before delays)) (length (before log)) (before circuit) (before script)) ⌝ }
 {
     let mut links = [0usize; CELLS];
     let number = refusal_and_links(

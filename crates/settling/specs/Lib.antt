@@ -1,2 +1,3 @@
 pub mod Settling
 pub mod Rounds
+pub mod Lent

@@ -1,22 +1,23 @@
 // Settling: each watched input that a change reached is read again and acted on.
 ghost use mathlib.Core.Path.{_≡_};
 ghost use mathlib.Core.Bool.{true};
-ghost use Prim.Native.Nat.{ℕ, _+_, _-_, _<_, _≤_};
-ghost use lib.ListN.{length};
+ghost use Prim.Native.Nat.{ℕ, _+_, _-_, _<_};
+ghost use Rattle.words.specs.Slices.{was};
 ghost use Rattle.model.specs.Base.{if_then_else_};
 ghost use Rattle.model.specs.Value.{truthy};
-ghost use Rattle.model.specs.Circuit.{Circuit, input, output};
+ghost use Rattle.model.specs.Circuit.{Circuit, input, output, most-inputs};
 ghost use Rattle.model.specs.State.{State, wires≔};
 ghost use Rattle.model.specs.Settle.{Settled, calm, raise, pulse, edge, check, settle};
-ghost use Rattle.links.specs.Links.{net};
-ghost use Rattle.wires.specs.View.{values as values-view};
-ghost use Rattle.states.specs.View.{Delays, delays as delays-view, Lent};
-ghost use Rattle.units.specs.View.{act-of, Units, units as units-view};
-ghost use Rattle.units.specs.Raising.{with-lists, activate, answer, lists-after};
-ghost use Rattle.areas.specs.Areas.{together, areas, with-state, with-went};
+ghost use Rattle.links.specs.Lent.{Linked, net-of, Room, Short};
+ghost use Rattle.states.specs.Lent.{Slots, Slots-stay};
+ghost use Rattle.units.specs.View.{act-of};
+ghost use Rattle.units.specs.Raising.{activate};
+ghost use Rattle.units.specs.Lent.{Units-change};
+ghost use Rattle.areas.specs.Lent.{Over-all, Over-values-delays, Goes, All-lent};
 ghost use Rattle.settling.specs.declared.Raised.the-variants.{Nothing};
 ghost use Rattle.settling.specs.Settling.{settled, filed-into};
-ghost use Rattle.settling.specs.Rounds.{Acts, acted, hit-by, goes-on, round-of, answer-of, round-answer, after-round};
+ghost use Rattle.settling.specs.Rounds.{acted, hit-by, goes-on, round-of};
+ghost use Rattle.settling.specs.Lent.{Acts-in-values, Acts-in-both, Settles, Files-in-round, Goes-round};
 use floats::lt64;
 use links::gate_at_input;
 use links::input;
@@ -85,8 +86,8 @@ fn edge_of(was: Value, v: Value) -> Edge
 
 // An Edge: its output for the direction goes up.
 fn edge_pulse(links: &[usize], values: &mut [u8], g: usize, was: Value, v: Value)
-    requires { ⌜ (length (now links) ≡ 4816) × (65536 ≤ length (now values)) ⌝ }
-    ensures { λ _. ⌜ ((d : Delays) → Acts (net (now (links .entry))) (values-view (net (now (links .entry))) (now (values .entry))) d (values-view (net (now (links .entry))) (now (values .exit))) d (λ s. edge (net (now (links .entry))) s was v (λ t o. calm (wires≔ t (pulse (net (now (links .entry))) (t .wires) (output (net (now (links .entry))) g o))))) Nothing) ⌝ }
+    requires { ⌜ Linked links × Room values ⌝ }
+    ensures { λ _. ⌜ Acts-in-values links values (λ c s. edge c s was v (λ t o. calm (wires≔ t (pulse c (t .wires) (output c g o))))) Nothing ⌝ }
 {
     let e = edge_of(was, v);
     match e {
@@ -102,7 +103,7 @@ fn edge_pulse(links: &[usize], values: &mut [u8], g: usize, was: Value, v: Value
 
 // An EdgeExec: it is raised, by its output for the direction.
 fn edge_raised(g: usize, was: Value, v: Value) -> Raised
-    ensures { λ r. ⌜ (g < 65536 → (c : Circuit) (s : State) → settled c s r ≡ edge c s was v (λ t o. raise t g (32 + o))) ⌝ }
+    ensures { λ r. ⌜ (Short g → (c : Circuit) (s : State) → settled c s r ≡ edge c s was v (λ t o. raise t g (32 + o))) ⌝ }
 {
     let e = edge_of(was, v);
     match e {
@@ -114,8 +115,8 @@ fn edge_raised(g: usize, was: Value, v: Value) -> Raised
 
 // Input i of gate g, an exec pin: the gate is raised where the value is true.
 fn pin_raised(links: &[usize], g: usize, i: usize, v: Value) -> Raised
-    requires { ⌜ length (now links) ≡ 4816 ⌝ }
-    ensures { λ r. ⌜ (g < 65536 → (truthy v ≡ true → i < 640) → (s : State) → settled (net (now (links .entry))) s r ≡ (if truthy v then raise s g (16 + (i - input (net (now (links .entry))) g 0)) else calm s)) ⌝ }
+    requires { ⌜ Linked links ⌝ }
+    ensures { λ r. ⌜ (Short g → (truthy v ≡ true → i < most-inputs) → (s : State) → settled (net-of links) s r ≡ (if truthy v then raise s g (16 + (i - input (net-of links) g 0)) else calm s)) ⌝ }
 {
     if truthy(v) {
         let p = less(i, input(links, g, 0));
@@ -133,9 +134,9 @@ fn detect(
     was: Value,
     v: Value,
 ) -> Raised
-    requires { ⌜ (length (now links) ≡ 4816) × (65536 ≤ length (now values)) × Lent (net (now links)) (now delays) ⌝ }
-    ensures { λ r. ⌜ ((truthy v ≡ true → i < 640) → Acts (net (now (links .entry))) (values-view (net (now (links .entry))) (now (values .entry))) (delays-view (net (now (links .entry))) (now (delays .entry))) (values-view (net (now (links .entry))) (now (values .exit))) (delays-view (net (now (links .entry))) (now (delays .exit))) (acted (net (now (links .entry))) i was v) r) ⌝ }
-    ensures { λ _. ⌜ Lent (net (now (links .entry))) (now (delays .exit)) ⌝ }
+    requires { ⌜ Linked links × Room values × Slots links delays ⌝ }
+    ensures { λ r. ⌜ ((truthy v ≡ true → i < most-inputs) → Acts-in-both links values delays (λ c. acted c i was v) r) ⌝ }
+    ensures { λ _. ⌜ Slots-stay links delays ⌝ }
 {
     let g = gate_at_input(links, i);
     match kind_of_gate(links, g) {
@@ -165,9 +166,9 @@ fn detect(
 
 // Watched input i is read again, and acted on if it changed.
 pub fn check(links: &[usize], values: &mut [u8], delays: &mut [u8], i: usize) -> Raised
-    requires { ⌜ (length (now links) ≡ 4816) × (65536 ≤ length (now values)) × Lent (net (now links)) (now delays) ⌝ }
-    ensures { λ r. ⌜ ((u : Units) → (together (values-view (net (now (links .entry))) (now (values .exit))) u (delays-view (net (now (links .entry))) (now (delays .exit))) ≡ with-state (together (values-view (net (now (links .entry))) (now (values .entry))) u (delays-view (net (now (links .entry))) (now (delays .entry)))) (check (net (now (links .entry))) (together (values-view (net (now (links .entry))) (now (values .entry))) u (delays-view (net (now (links .entry))) (now (delays .entry))) .state) i .state)) × (settled (net (now (links .entry))) (check (net (now (links .entry))) (together (values-view (net (now (links .entry))) (now (values .entry))) u (delays-view (net (now (links .entry))) (now (delays .entry))) .state) i .state) r ≡ check (net (now (links .entry))) (together (values-view (net (now (links .entry))) (now (values .entry))) u (delays-view (net (now (links .entry))) (now (delays .entry))) .state) i)) ⌝ }
-    ensures { λ _. ⌜ Lent (net (now (links .entry))) (now (delays .exit)) ⌝ }
+    requires { ⌜ Linked links × Room values × Slots links delays ⌝ }
+    ensures { λ r. ⌜ Over-values-delays links values delays (λ c old new. Settles c old new r (check c (old .state) i)) ⌝ }
+    ensures { λ _. ⌜ Slots-stay links delays ⌝ }
 {
     let was = last(links, values, i);
     ready(links, values, i);
@@ -186,8 +187,8 @@ pub fn check(links: &[usize], values: &mut [u8], delays: &mut [u8], i: usize) ->
 
 // Entry x is filed where `to` says.
 fn file(links: &[usize], units: &mut [u8], to: Place, x: u64) -> Round
-    requires { ⌜ (length (now links) ≡ 4816) × (65536 ≤ length (now units)) ⌝ }
-    ensures { λ r. ⌜ (r ≡ answer-of (answer (activate (net (now (links .entry))) to (act-of (net (now (links .entry))) x) (units-view (net (now (links .entry))) (now (units .entry)) .lists)))) × (units-view (net (now (links .entry))) (now (units .exit)) ≡ with-lists (units-view (net (now (links .entry))) (now (units .entry))) (lists-after (units-view (net (now (links .entry))) (now (units .entry)) .lists) (activate (net (now (links .entry))) to (act-of (net (now (links .entry))) x) (units-view (net (now (links .entry))) (now (units .entry)) .lists)))) ⌝ }
+    requires { ⌜ Linked links × Room units ⌝ }
+    ensures { λ r. ⌜ Units-change links units (λ c old new. Files-in-round old new r (activate c to (act-of c x) (old .lists))) ⌝ }
 {
     let filed = activate(links, units, to, x);
     match filed {
@@ -204,9 +205,9 @@ fn check_next(
     delays: &mut [u8],
     to: Place,
 ) -> Round
-    requires { ⌜ (length (now links) ≡ 4816) × (65536 ≤ length (now values)) × (65536 ≤ length (now units)) × Lent (net (now links)) (now delays) ⌝ }
-    ensures { λ r. ⌜ (r ≡ round-answer (round-of (net (now (links .entry))) to (areas (net (now (links .entry))) (now (values .entry)) (now (units .entry)) (now (delays .entry)) .state) (areas (net (now (links .entry))) (now (values .entry)) (now (units .entry)) (now (delays .entry)) .lists))) × (areas (net (now (links .entry))) (now (values .exit)) (now (units .exit)) (now (delays .exit)) ≡ after-round (areas (net (now (links .entry))) (now (values .entry)) (now (units .entry)) (now (delays .entry))) (round-of (net (now (links .entry))) to (areas (net (now (links .entry))) (now (values .entry)) (now (units .entry)) (now (delays .entry)) .state) (areas (net (now (links .entry))) (now (values .entry)) (now (units .entry)) (now (delays .entry)) .lists))) ⌝ }
-    ensures { λ _. ⌜ Lent (net (now (links .entry))) (now (delays .exit)) ⌝ }
+    requires { ⌜ All-lent links values units delays ⌝ }
+    ensures { λ r. ⌜ Over-all links values units delays (λ c old new. Goes-round old new r (round-of c to (old .state) (old .lists))) ⌝ }
+    ensures { λ _. ⌜ Slots-stay links delays ⌝ }
 {
     let next = take_check(links, values);
     match next {
@@ -230,9 +231,9 @@ fn settle_on(
     to: Place,
     n: usize,
 ) -> Filed
-    requires { ⌜ (length (now links) ≡ 4816) × (65536 ≤ length (now values)) × (65536 ≤ length (now units)) × Lent (net (now links)) (now delays) ⌝ }
-    ensures { λ r. ⌜ (areas (net (now (links .entry))) (now (values .exit)) (now (units .exit)) (now (delays .exit)) ≡ with-went (areas (net (now (links .entry))) (now (values .entry)) (now (units .entry)) (now (delays .entry))) (goes-on (net (now (links .entry))) to n (areas (net (now (links .entry))) (now (values .entry)) (now (units .entry)) (now (delays .entry)) .state) (areas (net (now (links .entry))) (now (values .entry)) (now (units .entry)) (now (delays .entry)) .lists))) × (r ≡ goes-on (net (now (links .entry))) to n (areas (net (now (links .entry))) (now (values .entry)) (now (units .entry)) (now (delays .entry)) .state) (areas (net (now (links .entry))) (now (values .entry)) (now (units .entry)) (now (delays .entry)) .lists) .answer) ⌝ }
-    ensures { λ _. ⌜ Lent (net (now (links .entry))) (now (delays .exit)) ⌝ }
+    requires { ⌜ All-lent links values units delays ⌝ }
+    ensures { λ r. ⌜ Over-all links values units delays (λ c old new. Goes old new r (goes-on c to n (old .state) (old .lists))) ⌝ }
+    ensures { λ _. ⌜ Slots-stay links delays ⌝ }
 {
     let mut k = n;
     while k > 0 {
@@ -254,9 +255,9 @@ pub fn settle(
     delays: &mut [u8],
     to: Place,
 ) -> Filed
-    requires { ⌜ (length (now links) ≡ 4816) × (65536 ≤ length (now values)) × (65536 ≤ length (now units)) × Lent (net (now links)) (now delays) ⌝ }
-    ensures { λ r. ⌜ (areas (net (now (links .entry))) (now (values .exit)) (now (units .exit)) (now (delays .exit)) ≡ with-went (areas (net (now (links .entry))) (now (values .entry)) (now (units .entry)) (now (delays .entry))) (filed-into (net (now (links .entry))) to (settle (net (now (links .entry))) (areas (net (now (links .entry))) (now (values .entry)) (now (units .entry)) (now (delays .entry)) .state)) (areas (net (now (links .entry))) (now (values .entry)) (now (units .entry)) (now (delays .entry)) .lists))) × (r ≡ filed-into (net (now (links .entry))) to (settle (net (now (links .entry))) (areas (net (now (links .entry))) (now (values .entry)) (now (units .entry)) (now (delays .entry)) .state)) (areas (net (now (links .entry))) (now (values .entry)) (now (units .entry)) (now (delays .entry)) .lists) .answer) ⌝ }
-    ensures { λ _. ⌜ Lent (net (now (links .entry))) (now (delays .exit)) ⌝ }
+    requires { ⌜ All-lent links values units delays ⌝ }
+    ensures { λ r. ⌜ Over-all links values units delays (λ c old new. Goes old new r (filed-into c to (settle c (old .state)) (old .lists))) ⌝ }
+    ensures { λ _. ⌜ Slots-stay links delays ⌝ }
 {
     refresh_all(links, values);
     let rounds = (inputs(links) + 1) * (outputs(links) + 1);

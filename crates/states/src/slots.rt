@@ -1,23 +1,22 @@
 // The slot of a gate: value buffers, buffers in exec mode, Clocks and Stopwatches. Each gate has room for all of them, whatever its kind.
 ghost use mathlib.Core.Path.{_≡_};
-ghost use mathlib.Core.Bool.{true, cond};
+ghost use mathlib.Core.Bool.{true};
 ghost use mathlib.Core.List.{[]};
 ghost use mathlib.Core.Option.{some};
 ghost use Prim.Native.Nat.{_≤_};
-ghost use lib.Dec.{leb, ltb};
-ghost use lib.ListN.{length};
-ghost use Rattle.words.specs.Words.{words};
-ghost use Rattle.lists.specs.declared.Filed.the-variants.{Full, Done};
+ghost use lib.Dec.{leb};
+ghost use Rattle.words.specs.Slices.{was, is};
 ghost use Rattle.model.specs.Value.{truthy, bit};
 ghost use Rattle.model.specs.Circuit.{part, kind-of-gate};
 ghost use Rattle.model.specs.State.{flight≔, fires≔};
 ghost use Rattle.model.specs.Delays.{launch, buffer-input, advance-flight, advance-fires, advance-elapsed, advance-time, pressed};
 ghost use Rattle.model.specs.Exec.{countdown, most-fires};
-ghost use Rattle.delays.specs.States.{counted, counts-seconds, flight-of, later-of, row-of, fires-of, add-fire, stopwatch-moved};
+ghost use Rattle.delays.specs.States.{counted, counts-seconds, flight-of, later-of, row-of, fires-of, stopwatch-moved};
 ghost use Rattle.links.specs.Links.{net};
-// The definition `delays` is named `view` here, beside the slice of that name.
-ghost use Rattle.states.specs.View.{flight-in, later-in, fires-in, delays as view, delay-in, with-delay, Lent, Moves};
+ghost use Rattle.links.specs.Lent.{Linked, net-of};
+ghost use Rattle.states.specs.View.{flight-in, later-in, fires-in, delay-in, with-delay, Moves};
 ghost use Rattle.states.specs.Slots.{Becomes, Becomes-any, Becomes-by, Turns, Turns-any, Added};
+ghost use Rattle.states.specs.Lent.{Slot, Slots, Delays-change, Adds-fire};
 use delays::buffer::Buffer;
 use delays::buffer::Flight;
 use delays::buffer::Optional;
@@ -89,8 +88,8 @@ const SECONDS: u64 = BUFFER_SECONDS;
 
 // v is in flight, with its countdown.
 fn launch(slot: &mut [u8], v: Value, k: Countdown)
-    requires { ⌜ length (now slot) ≡ 344 ⌝ }
-    ensures { λ _. ⌜ Becomes (counts-seconds (counted k)) (words (now (slot .entry))) (words (now (slot .exit))) (λ d. flight≔ d (launch v (counted k)) (d .later)) ⌝ }
+    requires { ⌜ Slot slot ⌝ }
+    ensures { λ _. ⌜ Becomes (counts-seconds (counted k)) (was slot) (is slot) (λ d. flight≔ d (launch v (counted k)) (d .later)) ⌝ }
 {
     put(slot, FLIGHT, 1);
     put(slot, FLIGHT_KIND, kind_of(v));
@@ -100,8 +99,8 @@ fn launch(slot: &mut [u8], v: Value, k: Countdown)
 
 // v is the last later input.
 fn remember(slot: &mut [u8], v: Value)
-    requires { ⌜ length (now slot) ≡ 344 ⌝ }
-    ensures { λ _. ⌜ Becomes-any (words (now (slot .entry))) (words (now (slot .exit))) (λ d. flight≔ d (d .flight) (some v)) ⌝ }
+    requires { ⌜ Slot slot ⌝ }
+    ensures { λ _. ⌜ Becomes-any (was slot) (is slot) (λ d. flight≔ d (d .flight) (some v)) ⌝ }
 {
     put(slot, LATER, 1);
     put(slot, LATER_KIND, kind_of(v));
@@ -110,8 +109,8 @@ fn remember(slot: &mut [u8], v: Value)
 
 // What is in flight goes into the slot.
 fn store_flight(slot: &mut [u8], flight: Flight)
-    requires { ⌜ length (now slot) ≡ 344 ⌝ }
-    ensures { λ _. ⌜ Becomes-by (flight-of flight) (words (now (slot .entry))) (words (now (slot .exit))) (λ d. flight≔ d (flight-of flight) (d .later)) ⌝ }
+    requires { ⌜ Slot slot ⌝ }
+    ensures { λ _. ⌜ Becomes-by (flight-of flight) (was slot) (is slot) (λ d. flight≔ d (flight-of flight) (d .later)) ⌝ }
 {
     match flight {
         Flight::Empty => put(slot, FLIGHT, 0),
@@ -121,8 +120,8 @@ fn store_flight(slot: &mut [u8], flight: Flight)
 
 // The last later input goes into the slot, or that there is none.
 fn store_later(slot: &mut [u8], later: Optional)
-    requires { ⌜ length (now slot) ≡ 344 ⌝ }
-    ensures { λ _. ⌜ Becomes-any (words (now (slot .entry))) (words (now (slot .exit))) (λ d. flight≔ d (d .flight) (later-of later)) ⌝ }
+    requires { ⌜ Slot slot ⌝ }
+    ensures { λ _. ⌜ Becomes-any (was slot) (is slot) (λ d. flight≔ d (d .flight) (later-of later)) ⌝ }
 {
     match later {
         Optional::None => put(slot, LATER, 0),
@@ -132,8 +131,8 @@ fn store_later(slot: &mut [u8], later: Optional)
 
 // A value buffer goes into the slot.
 fn store_buffer(slot: &mut [u8], b: Buffer)
-    requires { ⌜ length (now slot) ≡ 344 ⌝ }
-    ensures { λ _. ⌜ Becomes-by (flight-of (b .flight)) (words (now (slot .entry))) (words (now (slot .exit))) (λ d. flight≔ d (flight-of (b .flight)) (later-of (b .later))) ⌝ }
+    requires { ⌜ Slot slot ⌝ }
+    ensures { λ _. ⌜ Becomes-by (flight-of (b .flight)) (was slot) (is slot) (λ d. flight≔ d (flight-of (b .flight)) (later-of (b .later))) ⌝ }
 {
     let flight = b.flight;
     let later = b.later;
@@ -143,8 +142,8 @@ fn store_buffer(slot: &mut [u8], b: Buffer)
 
 // What is in flight in the slot.
 fn load_flight(slot: &[u8], seconds: bool) -> Flight
-    requires { ⌜ length (now slot) ≡ 344 ⌝ }
-    ensures { λ r. ⌜ flight-of r ≡ flight-in seconds (words (now (slot .entry))) ⌝ }
+    requires { ⌜ Slot slot ⌝ }
+    ensures { λ r. ⌜ flight-of r ≡ flight-in seconds (was slot) ⌝ }
 {
     if get(slot, FLIGHT) == 0 {
         return Flight::Empty;
@@ -155,8 +154,8 @@ fn load_flight(slot: &[u8], seconds: bool) -> Flight
 
 // The last later input in the slot, or none.
 fn load_later(slot: &[u8]) -> Optional
-    requires { ⌜ length (now slot) ≡ 344 ⌝ }
-    ensures { λ r. ⌜ later-of r ≡ later-in (words (now (slot .entry))) ⌝ }
+    requires { ⌜ Slot slot ⌝ }
+    ensures { λ r. ⌜ later-of r ≡ later-in (was slot) ⌝ }
 {
     if get(slot, LATER) == 0 {
         return Optional::None;
@@ -166,8 +165,8 @@ fn load_later(slot: &[u8]) -> Optional
 
 // The value buffer in the slot.
 fn load_buffer(slot: &[u8], seconds: bool) -> Buffer
-    requires { ⌜ length (now slot) ≡ 344 ⌝ }
-    ensures { λ r. ⌜ (flight-of (r .flight) ≡ flight-in seconds (words (now (slot .entry)))) × (later-of (r .later) ≡ later-in (words (now (slot .entry)))) ⌝ }
+    requires { ⌜ Slot slot ⌝ }
+    ensures { λ r. ⌜ (flight-of (r .flight) ≡ flight-in seconds (was slot)) × (later-of (r .later) ≡ later-in (was slot)) ⌝ }
 {
     let flight = load_flight(slot, seconds);
     let later = load_later(slot);
@@ -180,8 +179,8 @@ fn load_buffer(slot: &[u8], seconds: bool) -> Buffer
 
 // A new input with its countdown.
 fn input(slot: &mut [u8], seconds: bool, v: Value, k: Countdown)
-    requires { ⌜ (length (now slot) ≡ 344) × (counts-seconds (counted k) ≡ seconds) ⌝ }
-    ensures { λ _. ⌜ Becomes seconds (words (now (slot .entry))) (words (now (slot .exit))) (λ d. buffer-input d v (counted k)) ⌝ }
+    requires { ⌜ Slot slot × (counts-seconds (counted k) ≡ seconds) ⌝ }
+    ensures { λ _. ⌜ Becomes seconds (was slot) (is slot) (λ d. buffer-input d v (counted k)) ⌝ }
 {
     let b = load_buffer(slot, seconds);
     let next = b.input(v, k);
@@ -190,8 +189,8 @@ fn input(slot: &mut [u8], seconds: bool, v: Value, k: Countdown)
 
 // One tick: the value in flight lands when its countdown is due.
 fn fly(links: &[usize], slot: &mut [u8], g: usize, seconds: bool, dt: u32) -> Optional
-    requires { ⌜ (length (now links) ≡ 4816) × (length (now slot) ≡ 344) × (seconds ≡ leb 12 (kind-of-gate (net (now links)) g)) ⌝ }
-    ensures { λ r. ⌜ Turns seconds (words (now (slot .entry))) (words (now (slot .exit))) (advance-flight (λ v. countdown (net (now (links .entry))) g (truthy v)) dt) (row-of r) 0 ⌝ }
+    requires { ⌜ Linked links × Slot slot × (seconds ≡ leb 12 (kind-of-gate (net (now links)) g)) ⌝ }
+    ensures { λ r. ⌜ Turns seconds (was slot) (is slot) (advance-flight (λ v. countdown (net-of links) g (truthy v)) dt) (row-of r) 0 ⌝ }
 {
     if get(slot, FLIGHT) == 0 {
         return Optional::None;
@@ -205,8 +204,8 @@ fn fly(links: &[usize], slot: &mut [u8], g: usize, seconds: bool, dt: u32) -> Op
 
 // The places of the fires in the slot.
 fn load_places(slot: &[u8]) -> [u64; MOST_FIRES]
-    requires { ⌜ length (now slot) ≡ 344 ⌝ }
-    ensures { λ r. ⌜ r ≡ part (words (now (slot .entry))) 11 32 ⌝ }
+    requires { ⌜ Slot slot ⌝ }
+    ensures { λ r. ⌜ r ≡ part (was slot) 11 32 ⌝ }
 {
     let mut places = [0; MOST_FIRES];
     let mut i: usize = 0;
@@ -219,8 +218,8 @@ fn load_places(slot: &[u8]) -> [u64; MOST_FIRES]
 
 // The buffer in exec mode in the slot.
 fn load_fires(slot: &[u8], seconds: bool) -> Fires
-    requires { ⌜ length (now slot) ≡ 344 ⌝ }
-    ensures { λ r. ⌜ (r .seconds ≡ seconds) × (fires-of r ≡ fires-in seconds (words (now (slot .entry)))) ⌝ }
+    requires { ⌜ Slot slot ⌝ }
+    ensures { λ r. ⌜ (r .seconds ≡ seconds) × (fires-of r ≡ fires-in seconds (was slot)) ⌝ }
 {
     let first = get(slot, FIRST) as usize;
     let count = get(slot, COUNT) as usize;
@@ -236,8 +235,8 @@ fn load_fires(slot: &[u8], seconds: bool) -> Fires
 
 // A buffer in exec mode goes into the slot.
 fn store_fires(slot: &mut [u8], fires: Fires)
-    requires { ⌜ length (now slot) ≡ 344 ⌝ }
-    ensures { λ _. ⌜ Becomes (fires .seconds) (words (now (slot .entry))) (words (now (slot .exit))) (λ d. fires≔ d (fires-of fires)) ⌝ }
+    requires { ⌜ Slot slot ⌝ }
+    ensures { λ _. ⌜ Becomes (fires .seconds) (was slot) (is slot) (λ d. fires≔ d (fires-of fires)) ⌝ }
 {
     put(slot, FIRST, fires.first as u64);
     put(slot, COUNT, fires.count as u64);
@@ -247,8 +246,8 @@ fn store_fires(slot: &mut [u8], fires: Fires)
 
 // One fire more, if there is room.
 fn start_fire(links: &[usize], slot: &mut [u8], g: usize, seconds: bool) -> Filed
-    requires { ⌜ (length (now links) ≡ 4816) × (length (now slot) ≡ 344) × (seconds ≡ leb 12 (kind-of-gate (net (now links)) g)) ⌝ }
-    ensures { λ r. ⌜ Added seconds (words (now (slot .entry))) (words (now (slot .exit))) (countdown (net (now (links .entry))) g true) r ⌝ }
+    requires { ⌜ Linked links × Slot slot × (seconds ≡ leb 12 (kind-of-gate (net (now links)) g)) ⌝ }
+    ensures { λ r. ⌜ Added seconds (was slot) (is slot) (countdown (net-of links) g true) r ⌝ }
 {
     if MOST_FIRES <= get(slot, COUNT) as usize {
         return Filed::Full;
@@ -261,9 +260,9 @@ fn start_fire(links: &[usize], slot: &mut [u8], g: usize, seconds: bool) -> File
 
 // A tick of the length dt: all fires count down, and those due leave from the front and fire.
 fn run_fires(slot: &mut [u8], seconds: bool, dt: u32) -> usize
-    requires { ⌜ length (now slot) ≡ 344 ⌝ }
-    ensures { λ r. ⌜ Turns seconds (words (now (slot .entry))) (words (now (slot .exit))) (advance-fires dt) [] r ⌝ }
-    ensures { λ r. ⌜ r ≤ 32 ⌝ }
+    requires { ⌜ Slot slot ⌝ }
+    ensures { λ r. ⌜ Turns seconds (was slot) (is slot) (advance-fires dt) [] r ⌝ }
+    ensures { λ r. ⌜ r ≤ most-fires ⌝ }
 {
     if get(slot, COUNT) == 0 {
         return 0;
@@ -283,8 +282,8 @@ fn bit_of(mark: bool) -> u64
 
 // A Clock moves on by a tick: whether it fires. Disabled it keeps its time.
 fn run_clock(slot: &mut [u8], dt: u64, interval: u64, enabled: bool) -> bool
-    requires { ⌜ length (now slot) ≡ 344 ⌝ }
-    ensures { λ r. ⌜ Turns-any (words (now (slot .entry))) (words (now (slot .exit))) (advance-elapsed dt interval enabled) [] (bit r) ⌝ }
+    requires { ⌜ Slot slot ⌝ }
+    ensures { λ r. ⌜ Turns-any (was slot) (is slot) (advance-elapsed dt interval enabled) [] (bit r) ⌝ }
 {
     if !enabled {
         return false;
@@ -301,8 +300,8 @@ fn run_clock(slot: &mut [u8], dt: u64, interval: u64, enabled: bool) -> bool
 
 // A Stopwatch moves on by a tick, if it runs.
 fn run_stopwatch(slot: &mut [u8], dt: u64, limit: u64) -> Stopwatch
-    requires { ⌜ length (now slot) ≡ 344 ⌝ }
-    ensures { λ r. ⌜ Turns-any (words (now (slot .entry))) (words (now (slot .exit))) (advance-time dt limit) (stopwatch-moved r .row) (stopwatch-moved r .fires) ⌝ }
+    requires { ⌜ Slot slot ⌝ }
+    ensures { λ r. ⌜ Turns-any (was slot) (is slot) (advance-time dt limit) (stopwatch-moved r .row) (stopwatch-moved r .fires) ⌝ }
 {
     let time = get(slot, ELAPSED);
     let running = get(slot, RUNNING) != 0;
@@ -323,8 +322,8 @@ fn run_stopwatch(slot: &mut [u8], dt: u64, limit: u64) -> Stopwatch
 
 // A pin of a Stopwatch: 0 Restart, 2 Resume, any other Pause.
 fn press(slot: &mut [u8], p: usize)
-    requires { ⌜ length (now slot) ≡ 344 ⌝ }
-    ensures { λ _. ⌜ Becomes-any (words (now (slot .entry))) (words (now (slot .exit))) (pressed p) ⌝ }
+    requires { ⌜ Slot slot ⌝ }
+    ensures { λ _. ⌜ Becomes-any (was slot) (is slot) (pressed p) ⌝ }
 {
     if p == 0 {
         put(slot, ELAPSED, 0);
@@ -338,8 +337,8 @@ fn press(slot: &mut [u8], p: usize)
 
 // Gate g, a value buffer, gets a new input.
 pub fn buffer_input(links: &[usize], delays: &mut [u8], g: usize, v: Value)
-    requires { ⌜ (length (now links) ≡ 4816) × Lent (net (now links)) (now delays) ⌝ }
-    ensures { λ _. ⌜ view (net (now (links .entry))) (now (delays .exit)) ≡ with-delay (view (net (now (links .entry))) (now (delays .entry))) g (buffer-input (delay-in (view (net (now (links .entry))) (now (delays .entry))) g) v (countdown (net (now (links .entry))) g (truthy v))) ⌝ }
+    requires { ⌜ Linked links × Slots links delays ⌝ }
+    ensures { λ _. ⌜ Delays-change links delays (λ c old new. new ≡ with-delay old g (buffer-input (delay-in old g) v (countdown c g (truthy v)))) ⌝ }
 {
     if gates(links) <= g {
         return;
@@ -358,8 +357,8 @@ pub fn buffer_input(links: &[usize], delays: &mut [u8], g: usize, v: Value)
 
 // Gate g, a value buffer, moves on by a tick of the length dt in f32 bits: what lands.
 pub fn buffer_advance(links: &[usize], delays: &mut [u8], g: usize, dt: u32) -> Optional
-    requires { ⌜ (length (now links) ≡ 4816) × Lent (net (now links)) (now delays) ⌝ }
-    ensures { λ r. ⌜ Moves (view (net (now (links .entry))) (now (delays .entry))) (view (net (now (links .entry))) (now (delays .exit))) g (advance-flight (λ v. countdown (net (now (links .entry))) g (truthy v)) dt (delay-in (view (net (now (links .entry))) (now (delays .entry))) g)) (row-of r) 0 ⌝ }
+    requires { ⌜ Linked links × Slots links delays ⌝ }
+    ensures { λ r. ⌜ Delays-change links delays (λ c old new. Moves old new g (advance-flight (λ v. countdown c g (truthy v)) dt (delay-in old g)) (row-of r) 0) ⌝ }
 {
     if gates(links) <= g {
         return Optional::None;
@@ -372,8 +371,8 @@ pub fn buffer_advance(links: &[usize], delays: &mut [u8], g: usize, dt: u32) -> 
 
 // One fire more of gate g, a buffer in exec mode, if there is room.
 pub fn add_fire(links: &[usize], delays: &mut [u8], g: usize) -> Filed
-    requires { ⌜ (length (now links) ≡ 4816) × Lent (net (now links)) (now delays) ⌝ }
-    ensures { λ r. ⌜ (r ≡ cond (ltb (length (delay-in (view (net (now (links .entry))) (now (delays .entry))) g .fires)) most-fires) Done Full) × (view (net (now (links .entry))) (now (delays .exit)) ≡ with-delay (view (net (now (links .entry))) (now (delays .entry))) g (add-fire (delay-in (view (net (now (links .entry))) (now (delays .entry))) g) (countdown (net (now (links .entry))) g true))) ⌝ }
+    requires { ⌜ Linked links × Slots links delays ⌝ }
+    ensures { λ r. ⌜ Delays-change links delays (λ c old new. Adds-fire old new g r (countdown c g true)) ⌝ }
 {
     if gates(links) <= g {
         return Filed::Done;
@@ -386,9 +385,9 @@ pub fn add_fire(links: &[usize], delays: &mut [u8], g: usize) -> Filed
 
 // Gate g, a buffer in exec mode, moves on by a tick: how many fire.
 pub fn fires_advance(links: &[usize], delays: &mut [u8], g: usize, dt: u32) -> usize
-    requires { ⌜ (length (now links) ≡ 4816) × Lent (net (now links)) (now delays) ⌝ }
-    ensures { λ r. ⌜ Moves (view (net (now (links .entry))) (now (delays .entry))) (view (net (now (links .entry))) (now (delays .exit))) g (advance-fires dt (delay-in (view (net (now (links .entry))) (now (delays .entry))) g)) [] r ⌝ }
-    ensures { λ r. ⌜ r ≤ 32 ⌝ }
+    requires { ⌜ Linked links × Slots links delays ⌝ }
+    ensures { λ r. ⌜ Delays-change links delays (λ _ old new. Moves old new g (advance-fires dt (delay-in old g)) [] r) ⌝ }
+    ensures { λ r. ⌜ r ≤ most-fires ⌝ }
 {
     if gates(links) <= g {
         return 0;
@@ -408,8 +407,8 @@ pub fn clock_advance(
     interval: u64,
     enabled: bool,
 ) -> bool
-    requires { ⌜ (length (now links) ≡ 4816) × Lent (net (now links)) (now delays) ⌝ }
-    ensures { λ r. ⌜ Moves (view (net (now (links .entry))) (now (delays .entry))) (view (net (now (links .entry))) (now (delays .exit))) g (advance-elapsed dt interval enabled (delay-in (view (net (now (links .entry))) (now (delays .entry))) g)) [] (bit r) ⌝ }
+    requires { ⌜ Linked links × Slots links delays ⌝ }
+    ensures { λ r. ⌜ Delays-change links delays (λ _ old new. Moves old new g (advance-elapsed dt interval enabled (delay-in old g)) [] (bit r)) ⌝ }
 {
     if gates(links) <= g {
         let clock = Clock {
@@ -432,8 +431,8 @@ pub fn stopwatch_advance(
     dt: u64,
     limit: u64,
 ) -> Stopwatch
-    requires { ⌜ (length (now links) ≡ 4816) × Lent (net (now links)) (now delays) ⌝ }
-    ensures { λ r. ⌜ Moves (view (net (now (links .entry))) (now (delays .entry))) (view (net (now (links .entry))) (now (delays .exit))) g (advance-time dt limit (delay-in (view (net (now (links .entry))) (now (delays .entry))) g)) (stopwatch-moved r .row) (stopwatch-moved r .fires) ⌝ }
+    requires { ⌜ Linked links × Slots links delays ⌝ }
+    ensures { λ r. ⌜ Delays-change links delays (λ _ old new. Moves old new g (advance-time dt limit (delay-in old g)) (stopwatch-moved r .row) (stopwatch-moved r .fires)) ⌝ }
 {
     if gates(links) <= g {
         return Stopwatch {
@@ -450,8 +449,8 @@ pub fn stopwatch_advance(
 
 // A pin of gate g, a Stopwatch: 0 Restart, 2 Resume, any other Pause.
 pub fn stopwatch_press(links: &[usize], delays: &mut [u8], g: usize, p: usize)
-    requires { ⌜ (length (now links) ≡ 4816) × Lent (net (now links)) (now delays) ⌝ }
-    ensures { λ _. ⌜ view (net (now (links .entry))) (now (delays .exit)) ≡ with-delay (view (net (now (links .entry))) (now (delays .entry))) g (pressed p (delay-in (view (net (now (links .entry))) (now (delays .entry))) g)) ⌝ }
+    requires { ⌜ Linked links × Slots links delays ⌝ }
+    ensures { λ _. ⌜ Delays-change links delays (λ _ old new. new ≡ with-delay old g (pressed p (delay-in old g))) ⌝ }
 {
     if gates(links) <= g {
         return;

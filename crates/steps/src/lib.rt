@@ -1,16 +1,15 @@
 // One step of a chain: a gate, entered through one of its inputs, by kind.
-ghost use Prim.Native.Nat.{_-_, _^_, _≤_};
 ghost use mathlib.Core.Path.{_≡_};
 ghost use mathlib.Core.Bool.{true};
+ghost use Prim.Native.Nat.{_-_, _^_, _≤_};
 ghost use lib.Dec.{eqb};
-ghost use lib.ListN.{length};
 ghost use Rattle.model.specs.Circuit.{kind-of-gate, input};
 ghost use Rattle.model.specs.Exec.{var, exec-Buffer, exec-Stopwatch, exec-Queue, exec-VarGet, exec-VarSet, exec-Branch, exec-Union, exec-Toggle, exec-Cycle, exec-SendEvent, exec-gate};
 ghost use Rattle.links.specs.Links.{net};
-ghost use Rattle.wires.specs.View.{Values, values as values-view};
-ghost use Rattle.units.specs.View.{Units, units as units-view};
-ghost use Rattle.states.specs.View.{Delays, delays as delays-view, is-queue, queue-countdown, Lent};
-ghost use Rattle.areas.specs.Areas.{together, areas};
+ghost use Rattle.links.specs.Lent.{Linked, net-of, Room};
+ghost use Rattle.states.specs.View.{is-queue, queue-countdown};
+ghost use Rattle.states.specs.Lent.{Slots, Slots-stay};
+ghost use Rattle.areas.specs.Lent.{Over-all, Over-values, Over-delays, Over-values-delays, Over-values-units, All-lent};
 ghost use Rattle.steps.specs.Steps.{Makes, near};
 use cycle::cycle_next;
 use links::gate_at_input;
@@ -55,8 +54,8 @@ pub enum Step {
 
 // The output of the Var that setting 1 of gate g names.
 fn var(links: &[usize], g: usize) -> usize
-    requires { ⌜ length (now links) ≡ 4816 ⌝ }
-    ensures { λ r. ⌜ r ≡ var (net (now (links .entry))) g ⌝ }
+    requires { ⌜ Linked links ⌝ }
+    ensures { λ r. ⌜ r ≡ var (net-of links) g ⌝ }
 {
     let n = as_int(setting(links, g, 1), 0);
     if n < 0 {
@@ -67,8 +66,8 @@ fn var(links: &[usize], g: usize) -> usize
 
 // 18 VarGet: the Var's value, as it stands in storage, to Value.
 fn exec_var_get(links: &[usize], values: &mut [u8], g: usize) -> Step
-    requires { ⌜ (length (now links) ≡ 4816) × (65536 ≤ length (now values)) ⌝ }
-    ensures { λ r. ⌜ ((u : Units) → (d : Delays) → Makes (together (values-view (net (now (links .entry))) (now (values .entry))) u d) (together (values-view (net (now (links .entry))) (now (values .exit))) u d) r (exec-VarGet (net (now (links .entry))) (together (values-view (net (now (links .entry))) (now (values .entry))) u d .state) g)) ⌝ }
+    requires { ⌜ Linked links × Room values ⌝ }
+    ensures { λ r. ⌜ Over-values links values (λ c old new. Makes old new r (exec-VarGet c (old .state) g)) ⌝ }
 {
     let v = shown(links, values, var(links, g));
     set_out(links, values, output(links, g, 1), v);
@@ -77,8 +76,8 @@ fn exec_var_get(links: &[usize], values: &mut [u8], g: usize) -> Step
 
 // 19 VarSet: Value, as it reads, to the Var, with no conversion; direct readers see it at once.
 fn exec_var_set(links: &[usize], values: &mut [u8], g: usize) -> Step
-    requires { ⌜ (length (now links) ≡ 4816) × (65536 ≤ length (now values)) ⌝ }
-    ensures { λ r. ⌜ ((u : Units) → (d : Delays) → Makes (together (values-view (net (now (links .entry))) (now (values .entry))) u d) (together (values-view (net (now (links .entry))) (now (values .exit))) u d) r (exec-VarSet (net (now (links .entry))) (together (values-view (net (now (links .entry))) (now (values .entry))) u d .state) g)) ⌝ }
+    requires { ⌜ Linked links × Room values ⌝ }
+    ensures { λ r. ⌜ Over-values links values (λ c old new. Makes old new r (exec-VarSet c (old .state) g)) ⌝ }
 {
     let i = input(links, g, 2);
     let o = var(links, g);
@@ -93,8 +92,8 @@ fn exec_var_set(links: &[usize], values: &mut [u8], g: usize) -> Step
 
 // 20 Branch: a condition that is true to ExecOutA, else to ExecOutB.
 fn exec_branch(links: &[usize], values: &mut [u8], g: usize) -> Step
-    requires { ⌜ (length (now links) ≡ 4816) × (65536 ≤ length (now values)) ⌝ }
-    ensures { λ r. ⌜ ((u : Units) → (d : Delays) → Makes (together (values-view (net (now (links .entry))) (now (values .entry))) u d) (together (values-view (net (now (links .entry))) (now (values .exit))) u d) r (exec-Branch (net (now (links .entry))) (together (values-view (net (now (links .entry))) (now (values .entry))) u d .state) g)) ⌝ }
+    requires { ⌜ Linked links × Room values ⌝ }
+    ensures { λ r. ⌜ Over-values links values (λ c old new. Makes old new r (exec-Branch c (old .state) g)) ⌝ }
 {
     let i = input(links, g, 1);
     ready(links, values, i);
@@ -107,8 +106,8 @@ fn exec_branch(links: &[usize], values: &mut [u8], g: usize) -> Step
 
 // 21 Union: it passes once a tick.
 fn exec_union(links: &[usize], values: &mut [u8], g: usize) -> Step
-    requires { ⌜ (length (now links) ≡ 4816) × (65536 ≤ length (now values)) ⌝ }
-    ensures { λ r. ⌜ ((u : Units) → (d : Delays) → Makes (together (values-view (net (now (links .entry))) (now (values .entry))) u d) (together (values-view (net (now (links .entry))) (now (values .exit))) u d) r (exec-Union (net (now (links .entry))) (together (values-view (net (now (links .entry))) (now (values .entry))) u d .state) g)) ⌝ }
+    requires { ⌜ Linked links × Room values ⌝ }
+    ensures { λ r. ⌜ Over-values links values (λ c old new. Makes old new r (exec-Union c (old .state) g)) ⌝ }
 {
     if passed(links, values, g) {
         return Step::Ends;
@@ -119,8 +118,8 @@ fn exec_union(links: &[usize], values: &mut [u8], g: usize) -> Step
 
 // 22 Toggle: what is true becomes false, anything else true.
 fn exec_toggle(links: &[usize], values: &mut [u8], g: usize) -> Step
-    requires { ⌜ (length (now links) ≡ 4816) × (65536 ≤ length (now values)) ⌝ }
-    ensures { λ r. ⌜ ((u : Units) → (d : Delays) → Makes (together (values-view (net (now (links .entry))) (now (values .entry))) u d) (together (values-view (net (now (links .entry))) (now (values .exit))) u d) r (exec-Toggle (net (now (links .entry))) (together (values-view (net (now (links .entry))) (now (values .entry))) u d .state) g)) ⌝ }
+    requires { ⌜ Linked links × Room values ⌝ }
+    ensures { λ r. ⌜ Over-values links values (λ c old new. Makes old new r (exec-Toggle c (old .state) g)) ⌝ }
 {
     let o = output(links, g, 1);
     let v = shown(links, values, o);
@@ -130,8 +129,8 @@ fn exec_toggle(links: &[usize], values: &mut [u8], g: usize) -> Step
 
 // 23 Cycle, entered through pin p: pin 0 up, pin 1 down, each to its own output.
 fn exec_cycle(links: &[usize], values: &mut [u8], g: usize, p: usize) -> Step
-    requires { ⌜ (length (now links) ≡ 4816) × (65536 ≤ length (now values)) × (p ≤ 2 ^ 63) ⌝ }
-    ensures { λ r. ⌜ ((u : Units) → (d : Delays) → Makes (together (values-view (net (now (links .entry))) (now (values .entry))) u d) (together (values-view (net (now (links .entry))) (now (values .exit))) u d) r (exec-Cycle (net (now (links .entry))) (together (values-view (net (now (links .entry))) (now (values .entry))) u d .state) g p)) ⌝ }
+    requires { ⌜ Linked links × Room values × (p ≤ 2 ^ 63) ⌝ }
+    ensures { λ r. ⌜ Over-values links values (λ c old new. Makes old new r (exec-Cycle c (old .state) g p)) ⌝ }
 {
     let i = input(links, g, 2);
     let o = output(links, g, 2);
@@ -147,8 +146,8 @@ fn exec_cycle(links: &[usize], values: &mut [u8], g: usize, p: usize) -> Step
 
 // 11, 13, a buffer in exec mode: one fire more is under way.
 fn exec_buffer(links: &[usize], delays: &mut [u8], g: usize) -> Step
-    requires { ⌜ (length (now links) ≡ 4816) × Lent (net (now links)) (now delays) ⌝ }
-    ensures { λ r. ⌜ ((v : Values) → (u : Units) → Makes (together v u (delays-view (net (now (links .entry))) (now (delays .entry)))) (together v u (delays-view (net (now (links .entry))) (now (delays .exit)))) r (exec-Buffer (net (now (links .entry))) (together v u (delays-view (net (now (links .entry))) (now (delays .entry))) .state) g)) ⌝ }
+    requires { ⌜ Linked links × Slots links delays ⌝ }
+    ensures { λ r. ⌜ Over-delays links delays (λ c old new. Makes old new r (exec-Buffer c (old .state) g)) ⌝ }
 {
     match add_fire(links, delays, g) {
         Filed::Done => Step::Ends,
@@ -158,8 +157,8 @@ fn exec_buffer(links: &[usize], delays: &mut [u8], g: usize) -> Step
 
 // 15, a Stopwatch, entered through pin p: Restart shows 0.0 at once.
 fn exec_stopwatch(links: &[usize], values: &mut [u8], delays: &mut [u8], g: usize, p: usize) -> Step
-    requires { ⌜ (length (now links) ≡ 4816) × (65536 ≤ length (now values)) × Lent (net (now links)) (now delays) ⌝ }
-    ensures { λ r. ⌜ ((u : Units) → Makes (together (values-view (net (now (links .entry))) (now (values .entry))) u (delays-view (net (now (links .entry))) (now (delays .entry)))) (together (values-view (net (now (links .entry))) (now (values .exit))) u (delays-view (net (now (links .entry))) (now (delays .exit)))) r (exec-Stopwatch (net (now (links .entry))) (together (values-view (net (now (links .entry))) (now (values .entry))) u (delays-view (net (now (links .entry))) (now (delays .entry))) .state) g p)) ⌝ }
+    requires { ⌜ Linked links × Room values × Slots links delays ⌝ }
+    ensures { λ r. ⌜ Over-values-delays links values delays (λ c old new. Makes old new r (exec-Stopwatch c (old .state) g p)) ⌝ }
 {
     stopwatch_press(links, delays, g, p);
     if p != 0 {
@@ -171,8 +170,8 @@ fn exec_stopwatch(links: &[usize], values: &mut [u8], delays: &mut [u8], g: usiz
 
 // 16, 17, a Queue: all nine inputs are read, also for a record that is dropped.
 fn exec_queue(links: &[usize], values: &mut [u8], delays: &mut [u8], g: usize) -> Step
-    requires { ⌜ (length (now links) ≡ 4816) × (65536 ≤ length (now values)) × Lent (net (now links)) (now delays) × (is-queue (net (now links)) g ≡ true) ⌝ }
-    ensures { λ r. ⌜ ((u : Units) → Makes (together (values-view (net (now (links .entry))) (now (values .entry))) u (delays-view (net (now (links .entry))) (now (delays .entry)))) (together (values-view (net (now (links .entry))) (now (values .exit))) u (delays-view (net (now (links .entry))) (now (delays .exit)))) r (exec-Queue (net (now (links .entry))) (together (values-view (net (now (links .entry))) (now (values .entry))) u (delays-view (net (now (links .entry))) (now (delays .entry))) .state) g (queue-countdown (eqb (kind-of-gate (net (now (links .entry))) g) 17)))) ⌝ }
+    requires { ⌜ Linked links × Room values × Slots links delays × (is-queue (net (now links)) g ≡ true) ⌝ }
+    ensures { λ r. ⌜ Over-values-delays links values delays (λ c old new. Makes old new r (exec-Queue c (old .state) g (queue-countdown (eqb (kind-of-gate c g) 17)))) ⌝ }
 {
     let i = input(links, g, 1);
     readied(links, values, i, 9);
@@ -188,8 +187,8 @@ fn exec_queue(links: &[usize], values: &mut [u8], delays: &mut [u8], g: usize) -
 
 // 24, 25, a sender of events: the eight values are read, also for a second event of the gate in this tick, which is ignored.
 fn exec_send(links: &[usize], values: &mut [u8], units: &mut [u8], g: usize) -> Step
-    requires { ⌜ (length (now links) ≡ 4816) × (65536 ≤ length (now values)) × (65536 ≤ length (now units)) ⌝ }
-    ensures { λ r. ⌜ ((d : Delays) → Makes (together (values-view (net (now (links .entry))) (now (values .entry))) (units-view (net (now (links .entry))) (now (units .entry))) d) (together (values-view (net (now (links .entry))) (now (values .exit))) (units-view (net (now (links .entry))) (now (units .exit))) d) r (exec-SendEvent (net (now (links .entry))) (together (values-view (net (now (links .entry))) (now (values .entry))) (units-view (net (now (links .entry))) (now (units .entry))) d .state) g)) ⌝ }
+    requires { ⌜ Linked links × Room values × Room units ⌝ }
+    ensures { λ r. ⌜ Over-values-units links values units (λ c old new. Makes old new r (exec-SendEvent c (old .state) g)) ⌝ }
 {
     let i = input(links, g, 2);
     readied(links, values, i, 8);
@@ -207,8 +206,8 @@ fn exec_send(links: &[usize], values: &mut [u8], units: &mut [u8], g: usize) -> 
 
 // The pin of gate g that input i is.
 fn pin(links: &[usize], g: usize, i: usize) -> usize
-    requires { ⌜ length (now links) ≡ 4816 ⌝ }
-    ensures { λ r. ⌜ r ≡ i - input (net (now (links .entry))) g 0 ⌝ }
+    requires { ⌜ Linked links ⌝ }
+    ensures { λ r. ⌜ r ≡ i - input (net-of links) g 0 ⌝ }
 {
     less(i, input(links, g, 0))
 }
@@ -228,9 +227,9 @@ pub fn exec(
     delays: &mut [u8],
     i: usize,
 ) -> Step
-    requires { ⌜ (length (now links) ≡ 4816) × (65536 ≤ length (now values)) × (65536 ≤ length (now units)) × Lent (net (now links)) (now delays) ⌝ }
-    ensures { λ r. ⌜ Makes (areas (net (now (links .entry))) (now (values .entry)) (now (units .entry)) (now (delays .entry))) (areas (net (now (links .entry))) (now (values .exit)) (now (units .exit)) (now (delays .exit))) r (exec-gate (net (now (links .entry))) (areas (net (now (links .entry))) (now (values .entry)) (now (units .entry)) (now (delays .entry)) .state) (near i)) ⌝ }
-    ensures { λ _. ⌜ Lent (net (now (links .entry))) (now (delays .exit)) ⌝ }
+    requires { ⌜ All-lent links values units delays ⌝ }
+    ensures { λ r. ⌜ Over-all links values units delays (λ c old new. Makes old new r (exec-gate c (old .state) (near i))) ⌝ }
+    ensures { λ _. ⌜ Slots-stay links delays ⌝ }
 {
     let j = near(i);
     let g = gate_at_input(links, j);

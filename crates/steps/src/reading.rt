@@ -1,14 +1,12 @@
 // Reading several inputs of a gate.
-ghost use Prim.Native.Nat.{_+_, _^_, _<_, _≤_};
 ghost use mathlib.Core.Path.{_≡_};
 ghost use mathlib.Core.List.{[], _∷_, map};
-ghost use lib.ListN.{length};
+ghost use Prim.Native.Nat.{_+_, _^_, _<_};
 ghost use Rattle.model.specs.Base.{both, each, from};
 ghost use Rattle.model.specs.Value.{value-of, kind-of, content-of};
 ghost use Rattle.model.specs.Wires.{look, ready};
-ghost use Rattle.links.specs.Links.{net};
-// The definition `values` is named `view` here, beside the slice of that name.
-ghost use Rattle.wires.specs.View.{values as view, with-wires};
+ghost use Rattle.links.specs.Lent.{Linked, net-of, Room};
+ghost use Rattle.wires.specs.Lent.{wires-in, Turns};
 use model::Value;
 use values::content_of;
 use values::kind_of;
@@ -23,8 +21,8 @@ pub struct Row {
 
 // n inputs from i on are made ready to be read, in their order.
 pub fn readied(links: &[usize], values: &mut [u8], i: usize, n: usize)
-    requires { ⌜ (length (now links) ≡ 4816) × (65536 ≤ length (now values)) × (i + n < 2 ^ 64) ⌝ }
-    ensures { λ _. ⌜ view (net (now (links .entry))) (now (values .exit)) ≡ with-wires (view (net (now (links .entry))) (now (values .entry))) (each (ready (net (now (links .entry)))) (view (net (now (links .entry))) (now (values .entry)) .wires) (from i n)) ⌝ }
+    requires { ⌜ Linked links × Room values × (i + n < 2 ^ 64) ⌝ }
+    ensures { λ _. ⌜ Turns links values (λ c w. each (ready c) w (from i n)) ⌝ }
 {
     let mut k = 0;
     while k < n {
@@ -85,8 +83,8 @@ fn contents_of(
 
 // What the eight inputs from i on read.
 pub fn look_row(links: &[usize], values: &[u8], i: usize) -> Row
-    requires { ⌜ (length (now links) ≡ 4816) × (65536 ≤ length (now values)) × (i + 8 < 2 ^ 64) ⌝ }
-    ensures { λ r. ⌜ both value-of (r .kinds) (r .contents) ≡ map (look (net (now (links .entry))) (view (net (now (links .entry))) (now (values .entry)) .wires)) (from i 8) ⌝ }
+    requires { ⌜ Linked links × Room values × (i + 8 < 2 ^ 64) ⌝ }
+    ensures { λ r. ⌜ both value-of (r .kinds) (r .contents) ≡ map (look (net-of links) (wires-in links values)) (from i 8) ⌝ }
 {
     let a = look(links, values, i);
     let b = look(links, values, i + 1);

@@ -1,2 +1,3 @@
 pub mod Ticks
 pub mod Stages
+pub mod Lent

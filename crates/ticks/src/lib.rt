@@ -1,22 +1,20 @@
 // A tick: its opening, its passes, its record.
-ghost use Prim.Native.Nat.{_+_, _-_, _*_, _^_, _<_, _≤_};
 ghost use mathlib.Core.Path.{_≡_};
-ghost use mathlib.Core.List.{map};
+ghost use Prim.Native.Nat.{_*_, _^_, _<_, _≤_};
 ghost use lib.ListN.{length};
-ghost use Rattle.words.specs.Words.{words};
-ghost use Rattle.schedule.specs.Schedule.{tick};
-ghost use Rattle.model.specs.Unit.{World};
-ghost use Rattle.links.specs.Links.{net};
+ghost use Rattle.words.specs.Slices.{before, after, was, Has-words};
 // The definitions `values` and `units` are named for what they hold, beside the slices of their names.
-ghost use Rattle.wires.specs.View.{values as values-view, with-wires};
-ghost use Rattle.units.specs.View.{units as units-view};
-ghost use Rattle.states.specs.View.{Lent};
-ghost use Rattle.areas.specs.Areas.{areas};
-ghost use Rattle.opening.specs.Opening.{stimuli-of};
-ghost use Rattle.passes.specs.Waiting.{stop-of, bare, waiting};
+ghost use Rattle.links.specs.Links.{net};
+ghost use Rattle.links.specs.Lent.{Linked, net-of, Room};
+ghost use Rattle.wires.specs.Lent.{values-in, values-out, Turns, Tick-fits};
+ghost use Rattle.states.specs.Lent.{Slots, Slots-stay};
+ghost use Rattle.units.specs.Lent.{units-in};
+ghost use Rattle.areas.specs.Lent.{Over-all};
 ghost use Rattle.unit.specs.Unit.{Few-calls};
+ghost use Rattle.opening.specs.Lent.{given-at};
+ghost use Rattle.passes.specs.Waiting.{stop-of};
 ghost use Rattle.ticks.specs.Stages.{Ran-late, Ran-main, steps-made, outputs-read, head-of, Closes};
-ghost use Rattle.ticks.specs.Ticks.{Ticks};
+ghost use Rattle.ticks.specs.Lent.{Ticks-as};
 use chain::Ran;
 use lists::Filed;
 use log::Head;
@@ -49,9 +47,9 @@ fn run_late(
     opened: Filed,
     limit: u64,
 ) -> Ran
-    requires { ⌜ (length (now links) ≡ 4816) × (65536 ≤ length (now values)) × (65536 ≤ length (now units)) × Lent (net (now links)) (now delays) × Few-calls (net (now links)) ⌝ }
-    ensures { λ r. ⌜ Ran-late (net (now (links .entry))) (areas (net (now (links .entry))) (now (values .entry)) (now (units .entry)) (now (delays .entry))) (areas (net (now (links .entry))) (now (values .exit)) (now (units .exit)) (now (delays .exit))) limit (stop-of opened) r ⌝ }
-    ensures { λ _. ⌜ Lent (net (now (links .entry))) (now (delays .exit)) ⌝ }
+    requires { ⌜ Linked links × Room values × Room units × Slots links delays × Few-calls (net (now links)) ⌝ }
+    ensures { λ r. ⌜ Over-all links values units delays (λ c old new. Ran-late c old new limit (stop-of opened) r) ⌝ }
+    ensures { λ _. ⌜ Slots-stay links delays ⌝ }
 {
     match opened {
         Filed::Full => Ran {
@@ -70,9 +68,9 @@ fn run_main(
     delays: &mut [u8],
     late: Ran,
 ) -> Ran
-    requires { ⌜ (length (now links) ≡ 4816) × (65536 ≤ length (now values)) × (65536 ≤ length (now units)) × Lent (net (now links)) (now delays) × Few-calls (net (now links)) ⌝ }
-    ensures { λ r. ⌜ Ran-main (net (now (links .entry))) (areas (net (now (links .entry))) (now (values .entry)) (now (units .entry)) (now (delays .entry))) (areas (net (now (links .entry))) (now (values .exit)) (now (units .exit)) (now (delays .exit))) (late .left) (late .stop) r ⌝ }
-    ensures { λ _. ⌜ Lent (net (now (links .entry))) (now (delays .exit)) ⌝ }
+    requires { ⌜ Linked links × Room values × Room units × Slots links delays × Few-calls (net (now links)) ⌝ }
+    ensures { λ r. ⌜ Over-all links values units delays (λ c old new. Ran-main c old new (late .left) (late .stop) r) ⌝ }
+    ensures { λ _. ⌜ Slots-stay links delays ⌝ }
 {
     if late.stop != 0 {
         return late;
@@ -91,8 +89,8 @@ fn steps(limit: u64, left: u64, stop: u64) -> u64
 
 // Where the tick has no stop its record shows the outputs, so what is stale is refreshed.
 fn read_outputs(links: &[usize], values: &mut [u8], stop: u64)
-    requires { ⌜ (length (now links) ≡ 4816) × (65536 ≤ length (now values)) ⌝ }
-    ensures { λ _. ⌜ values-view (net (now (links .entry))) (now (values .exit)) ≡ with-wires (values-view (net (now (links .entry))) (now (values .entry))) (outputs-read (net (now (links .entry))) (values-view (net (now (links .entry))) (now (values .entry)) .wires) stop) ⌝ }
+    requires { ⌜ Linked links × Room values ⌝ }
+    ensures { λ _. ⌜ Turns links values (λ c w. outputs-read c w stop) ⌝ }
 {
     if stop != 0 {
         return;
@@ -110,8 +108,8 @@ fn head(
     left: u64,
     stop: u64,
 ) -> Head
-    requires { ⌜ (length (now links) ≡ 4816) × (65536 ≤ length (now values)) × (65536 ≤ length (now units)) × (limit < 2 ^ 63) ⌝ }
-    ensures { λ r. ⌜ r ≡ head-of limit late left stop (values-view (net (now (links .entry))) (now (values .entry))) (units-view (net (now (links .entry))) (now (units .entry))) ⌝ }
+    requires { ⌜ Linked links × Room values × Room units × (limit < 2 ^ 63) ⌝ }
+    ensures { λ r. ⌜ r ≡ head-of limit late left stop (values-in links values) (units-in links units) ⌝ }
 {
     let n = begun(units);
     Head {
@@ -135,8 +133,8 @@ fn close(
     late: usize,
     r: Ran,
 ) -> Ticked
-    requires { ⌜ (length (now links) ≡ 4816) × (65536 ≤ length (now values)) × (65536 ≤ length (now units)) × (at * 8 ≤ length (now log)) × (limit < 2 ^ 63) ⌝ }
-    ensures { λ t. ⌜ Closes (net (now (links .entry))) limit late r (values-view (net (now (links .entry))) (now (values .entry))) (values-view (net (now (links .entry))) (now (values .exit))) (units-view (net (now (links .entry))) (now (units .entry))) (now (log .entry)) (now (log .exit)) at t ⌝ }
+    requires { ⌜ Linked links × Room values × Room units × (at * 8 ≤ length (now log)) × (limit < 2 ^ 63) ⌝ }
+    ensures { λ t. ⌜ Closes (net-of links) limit late r (values-in links values) (values-out links values) (units-in links units) (before log) (after log) at t ⌝ }
 {
     let left = r.left;
     let stop = r.stop;
@@ -166,9 +164,10 @@ pub fn tick(
     at: usize,
     limit: u64,
 ) -> Ticked
-    requires { ⌜ (length (now links) ≡ 4816) × (65536 ≤ length (now values)) × (65536 ≤ length (now units)) × Lent (net (now links)) (now delays) × Few-calls (net (now links)) × ((«gates_at» + n) * 8 ≤ length (now script)) × ((«constants_at» + n) * 8 ≤ length (now script)) × (areas (net (now links)) (now values) (now units) (now delays) .state .wires .tick + 1 < 2 ^ 64) × (at * 8 ≤ length (now log)) × (limit < 2 ^ 63) ⌝ }
-    ensures { λ r. ⌜ ((w : World) → w .state ≡ areas (net (now (links .entry))) (now (values .entry)) (now (units .entry)) (now (delays .entry)) .state → w .room ≡ length (now (log .entry)) - 8 * at → Ticks (net (now (links .entry))) limit (areas (net (now (links .entry))) (now (values .entry)) (now (units .entry)) (now (delays .entry))) (areas (net (now (links .entry))) (now (values .exit)) (now (units .exit)) (now (delays .exit))) (now (log .entry)) (now (log .exit)) at (r .size) (r .stop) w (tick (bare (net (now (links .entry))) limit) w (record { dt = dt; stimuli = stimuli-of (net (now (links .entry))) (words (now (script .entry))) «gates_at» «constants_at» n }) (map (waiting (net (now (links .entry))) limit) (areas (net (now (links .entry))) (now (values .entry)) (now (units .entry)) (now (delays .entry)) .lists .carried)) tt)) ⌝ }
-    ensures { λ _. ⌜ Lent (net (now (links .entry))) (now (delays .exit)) ⌝ }
+    requires { ⌜ Linked links × Room values × Room units × Slots links delays × Few-calls (net (now links)) ⌝ }
+    requires { ⌜ Has-words script «gates_at» n × Has-words script «constants_at» n × Tick-fits links values × (at * 8 ≤ length (now log)) × (limit < 2 ^ 63) ⌝ }
+    ensures { λ r. ⌜ Over-all links values units delays (λ c old new. Ticks-as c limit old new (before log) (after log) at r (given-at c (was script) dt «gates_at» «constants_at» n)) ⌝ }
+    ensures { λ _. ⌜ Slots-stay links delays ⌝ }
 {
     let opened = open(
         links,

@@ -1,8 +1,8 @@
 // A unit: what it brings, its chain and forks, and what follows them.
-ghost use Prim.Native.Nat.{_+_, _^_, _<_, _≤_};
 ghost use mathlib.Core.Path.{_≡_};
 ghost use mathlib.Core.List.{List, [], map};
 ghost use mathlib.Core.Bool.{_&&_};
+ghost use Prim.Native.Nat.{_<_};
 ghost use lib.Dec.{leb, ltb};
 ghost use lib.ListN.{length, getD};
 ghost use Rattle.model.specs.declared.Value.{Value as Values};
@@ -10,11 +10,13 @@ ghost use Rattle.model.specs.Circuit.{output};
 ghost use Rattle.model.specs.Wires.{set-outs};
 ghost use Rattle.model.specs.Unit.{begin, fired};
 ghost use Rattle.links.specs.Links.{net};
-ghost use Rattle.wires.specs.View.{with-wires, values as values-view};
+ghost use Rattle.links.specs.Lent.{Linked, net-of, Room, Short};
+ghost use Rattle.wires.specs.Lent.{Turns};
+ghost use Rattle.states.specs.Lent.{Slots, Slots-stay};
 ghost use Rattle.units.specs.View.{gate-of, form-of, brings, row-of, units as units-view};
 ghost use Rattle.units.specs.Calls.{with-calls};
-ghost use Rattle.states.specs.View.{Lent};
-ghost use Rattle.areas.specs.Areas.{areas};
+ghost use Rattle.units.specs.Lent.{Units-change, units-in};
+ghost use Rattle.areas.specs.Lent.{Over-all, All-lent};
 ghost use Rattle.unit.specs.Unit.{Few-calls, act-in, stop-of, finished, ran, Finishes, Ran-as};
 use chain::Ran;
 use chain::pushing::push_calls;
@@ -52,8 +54,8 @@ const ROW: usize = 8;
 
 // What entry x of those that wait brings is put on the outputs of its gate from 1 on.
 fn enter_waiting(links: &[usize], values: &mut [u8], x: u64)
-    requires { ⌜ (length (now links) ≡ 4816) × (65536 ≤ length (now values)) ⌝ }
-    ensures { λ _. ⌜ values-view (net (now (links .entry))) (now (values .exit)) ≡ with-wires (values-view (net (now (links .entry))) (now (values .entry))) (set-outs (net (now (links .entry))) (values-view (net (now (links .entry))) (now (values .entry)) .wires) (output (net (now (links .entry))) (gate-of x) 1) (row-of (net (now (links .entry))) (form-of x) (brings x))) ⌝ }
+    requires { ⌜ Linked links × Room values ⌝ }
+    ensures { λ _. ⌜ Turns links values (λ c w. set-outs c w (output c (gate-of x) 1) (row-of c (form-of x) (brings x))) ⌝ }
 {
     if form_of(x) != STIMULUS {
         return;
@@ -68,8 +70,8 @@ fn enter_waiting(links: &[usize], values: &mut [u8], x: u64)
 
 // The values of event e are put on the outputs from o on.
 fn set_event(links: &[usize], values: &mut [u8], units: &[u8], o: usize, e: usize)
-    requires { ⌜ (length (now links) ≡ 4816) × (65536 ≤ length (now values)) × (65536 ≤ length (now units)) × (o < 131072) × (e < length (units-view (net (now links)) (now units) .events)) ⌝ }
-    ensures { λ _. ⌜ values-view (net (now (links .entry))) (now (values .exit)) ≡ with-wires (values-view (net (now (links .entry))) (now (values .entry))) (set-outs (net (now (links .entry))) (values-view (net (now (links .entry))) (now (values .entry)) .wires) o (getD (map (λ m. m .row) (units-view (net (now (links .entry))) (now (units .entry)) .events)) e [])) ⌝ }
+    requires { ⌜ Linked links × Room values × Room units × (o < 131072) × (e < length (units-view (net (now links)) (now units) .events)) ⌝ }
+    ensures { λ _. ⌜ Turns links values (λ c w. set-outs c w o (getD (map (λ m. m .row) (units-in links units .events)) e [])) ⌝ }
 {
     let mut j = 0;
     while j < ROW {
@@ -81,8 +83,8 @@ fn set_event(links: &[usize], values: &mut [u8], units: &[u8], o: usize, e: usiz
 
 // What delivered event x brings is put on the outputs of its gate from 1 on.
 fn enter_event(links: &[usize], values: &mut [u8], units: &[u8], x: u64)
-    requires { ⌜ (length (now links) ≡ 4816) × (65536 ≤ length (now values)) × (65536 ≤ length (now units)) ⌝ }
-    ensures { λ _. ⌜ values-view (net (now (links .entry))) (now (values .exit)) ≡ with-wires (values-view (net (now (links .entry))) (now (values .entry))) (set-outs (net (now (links .entry))) (values-view (net (now (links .entry))) (now (values .entry)) .wires) (output (net (now (links .entry))) (gate-of x) 1) (getD (map (λ m. m .row) (units-view (net (now (links .entry))) (now (units .entry)) .events)) (brings x) [])) ⌝ }
+    requires { ⌜ Linked links × Room values × Room units ⌝ }
+    ensures { λ _. ⌜ Turns links values (λ c w. set-outs c w (output c (gate-of x) 1) (getD (map (λ m. m .row) (units-in links units .events)) (brings x) [])) ⌝ }
 {
     let e = brings(x);
     if events(units) <= e {
@@ -93,8 +95,8 @@ fn enter_event(links: &[usize], values: &mut [u8], units: &[u8], x: u64)
 
 // What the unit brings is put on the outputs of its gate from 1 on.
 fn enter(links: &[usize], values: &mut [u8], units: &[u8], a: Act)
-    requires { ⌜ (length (now links) ≡ 4816) × (65536 ≤ length (now values)) × (65536 ≤ length (now units)) ⌝ }
-    ensures { λ _. ⌜ values-view (net (now (links .entry))) (now (values .exit)) ≡ with-wires (values-view (net (now (links .entry))) (now (values .entry))) (set-outs (net (now (links .entry))) (values-view (net (now (links .entry))) (now (values .entry)) .wires) (output (net (now (links .entry))) (act-in (net (now (links .entry))) (units-view (net (now (links .entry))) (now (units .entry)) .events) a .gate) 1) (act-in (net (now (links .entry))) (units-view (net (now (links .entry))) (now (units .entry)) .events) a .row)) ⌝ }
+    requires { ⌜ Linked links × Room values × Room units ⌝ }
+    ensures { λ _. ⌜ Turns links values (λ c w. set-outs c w (output c (act-in c (units-in links units .events) a .gate) 1) (act-in c (units-in links units .events) a .row)) ⌝ }
 {
     match a {
         Act::Waiting(x) => enter_waiting(links, values, x),
@@ -106,8 +108,8 @@ fn enter(links: &[usize], values: &mut [u8], units: &[u8], a: Act)
 
 // The output that gate g fires in this form.
 fn fired(links: &[usize], g: usize, form: usize) -> usize
-    requires { ⌜ (length (now links) ≡ 4816) × (form < 65536) ⌝ }
-    ensures { λ r. ⌜ r ≡ fired (net (now (links .entry))) g form ⌝ }
+    requires { ⌜ Linked links × Short form ⌝ }
+    ensures { λ r. ⌜ r ≡ fired (net-of links) g form ⌝ }
 {
     if 32 <= form {
         return output(links, g, form - 32);
@@ -130,8 +132,8 @@ fn is_pin(form: usize) -> bool
 
 // The unit of gate g in this form begins: the calls that it makes first, and no others.
 fn begin(links: &[usize], units: &mut [u8], g: usize, form: usize)
-    requires { ⌜ (length (now links) ≡ 4816) × (65536 ≤ length (now units)) × (form < 65536) × Few-calls (net (now links)) ⌝ }
-    ensures { λ _. ⌜ ((row : List Values) → units-view (net (now (links .entry))) (now (units .exit)) ≡ with-calls (units-view (net (now (links .entry))) (now (units .entry))) (begin (net (now (links .entry))) (record { gate = g; form = form; row = row }))) ⌝ }
+    requires { ⌜ Linked links × Room units × Short form × Few-calls (net (now links)) ⌝ }
+    ensures { λ _. ⌜ Units-change links units (λ c old new. ((row : List Values) → new ≡ with-calls old (begin c (record { gate = g; form = form; row = row })))) ⌝ }
 {
     clear_calls(units);
     if is_pin(form) {
@@ -143,8 +145,8 @@ fn begin(links: &[usize], units: &mut [u8], g: usize, form: usize)
 
 // The calls that a unit makes first.
 fn begin_act(links: &[usize], units: &mut [u8], a: Act)
-    requires { ⌜ (length (now links) ≡ 4816) × (65536 ≤ length (now units)) × Few-calls (net (now links)) ⌝ }
-    ensures { λ _. ⌜ units-view (net (now (links .entry))) (now (units .exit)) ≡ with-calls (units-view (net (now (links .entry))) (now (units .entry))) (begin (net (now (links .entry))) (act-in (net (now (links .entry))) (units-view (net (now (links .entry))) (now (units .entry)) .events) a)) ⌝ }
+    requires { ⌜ Linked links × Room units × Few-calls (net (now links)) ⌝ }
+    ensures { λ _. ⌜ Units-change links units (λ c old new. new ≡ with-calls old (begin c (act-in c (old .events) a))) ⌝ }
 {
     match a {
         Act::Waiting(x) => begin(links, units, gate_of(x), form_of(x)),
@@ -174,9 +176,9 @@ fn finish(
     stop: u64,
     to: Place,
 ) -> u64
-    requires { ⌜ (length (now links) ≡ 4816) × (65536 ≤ length (now values)) × (65536 ≤ length (now units)) × Lent (net (now links)) (now delays) ⌝ }
-    ensures { λ r. ⌜ Finishes (areas (net (now (links .entry))) (now (values .entry)) (now (units .entry)) (now (delays .entry))) (areas (net (now (links .entry))) (now (values .exit)) (now (units .exit)) (now (delays .exit))) r (finished (net (now (links .entry))) to (areas (net (now (links .entry))) (now (values .entry)) (now (units .entry)) (now (delays .entry)) .state) left stop (areas (net (now (links .entry))) (now (values .entry)) (now (units .entry)) (now (delays .entry)) .lists)) ⌝ }
-    ensures { λ _. ⌜ Lent (net (now (links .entry))) (now (delays .exit)) ⌝ }
+    requires { ⌜ All-lent links values units delays ⌝ }
+    ensures { λ r. ⌜ Over-all links values units delays (λ c old new. Finishes old new r (finished c to (old .state) left stop (old .lists))) ⌝ }
+    ensures { λ _. ⌜ Slots-stay links delays ⌝ }
 {
     if stop != 0 {
         return stop;
@@ -195,9 +197,9 @@ pub fn unit(
     left: u64,
     to: Place,
 ) -> Ran
-    requires { ⌜ (length (now links) ≡ 4816) × (65536 ≤ length (now values)) × (65536 ≤ length (now units)) × Lent (net (now links)) (now delays) × Few-calls (net (now links)) ⌝ }
-    ensures { λ r. ⌜ Ran-as (areas (net (now (links .entry))) (now (values .entry)) (now (units .entry)) (now (delays .entry))) (areas (net (now (links .entry))) (now (values .exit)) (now (units .exit)) (now (delays .exit))) r (ran (net (now (links .entry))) to left (act-in (net (now (links .entry))) (units-view (net (now (links .entry))) (now (units .entry)) .events) a) (areas (net (now (links .entry))) (now (values .entry)) (now (units .entry)) (now (delays .entry)) .state) (areas (net (now (links .entry))) (now (values .entry)) (now (units .entry)) (now (delays .entry)) .lists)) ⌝ }
-    ensures { λ _. ⌜ Lent (net (now (links .entry))) (now (delays .exit)) ⌝ }
+    requires { ⌜ Linked links × Room values × Room units × Slots links delays × Few-calls (net (now links)) ⌝ }
+    ensures { λ r. ⌜ Over-all links values units delays (λ c old new. Ran-as old new r (ran c to left (act-in c (old .kept .events) a) (old .state) (old .lists))) ⌝ }
+    ensures { λ _. ⌜ Slots-stay links delays ⌝ }
 {
     enter(links, values, units, a);
     begin_act(links, units, a);

@@ -1,3 +1,4 @@
 pub mod View
 pub mod Raising
 pub mod Calls
+pub mod Lent

@@ -1,12 +1,9 @@
 // Calls that wait: the chain stack and the forks.
 ghost use mathlib.Core.Path.{_≡_};
-ghost use Prim.Native.Nat.{_≤_};
-ghost use lib.ListN.{length};
-ghost use Rattle.model.specs.Circuit.{Circuit};
-ghost use Rattle.model.specs.Chain.{no-calls, pop};
-// The definition `units` is named `view` here, beside the slice of that name.
-ghost use Rattle.units.specs.View.{units as view};
-ghost use Rattle.units.specs.Calls.{with-calls, fits-one, called, forked, popped, calls-left};
+ghost use Rattle.model.specs.Chain.{no-calls};
+ghost use Rattle.links.specs.Lent.{Room};
+ghost use Rattle.units.specs.Calls.{with-calls, fits-one, called, forked};
+ghost use Rattle.units.specs.Lent.{Changes, Pops};
 use crate::layout::FORKS;
 use crate::layout::MOST_CALLS;
 use crate::layout::PENDING;
@@ -21,24 +18,24 @@ use lists::stack_push;
 
 // A call on top of the chain stack, if there is room.
 pub fn push_call(units: &mut [u8], i: usize) -> Filed
-    requires { ⌜ 65536 ≤ length (now units) ⌝ }
-    ensures { λ r. ⌜ ((c : Circuit) → (r ≡ fits-one (view c (now (units .entry)) .calls .stack)) × (view c (now (units .exit)) ≡ with-calls (view c (now (units .entry))) (called i (view c (now (units .entry)) .calls)))) ⌝ }
+    requires { ⌜ Room units ⌝ }
+    ensures { λ r. ⌜ Changes units (λ _ old new. (r ≡ fits-one (old .calls .stack)) × (new ≡ with-calls old (called i (old .calls)))) ⌝ }
 {
     stack_push(&mut units[STACK..FORKS], MOST_CALLS, i as u64)
 }
 
 // A call behind the forks, if there is room.
 pub fn push_fork(units: &mut [u8], i: usize) -> Filed
-    requires { ⌜ 65536 ≤ length (now units) ⌝ }
-    ensures { λ r. ⌜ ((c : Circuit) → (r ≡ fits-one (view c (now (units .entry)) .calls .forks)) × (view c (now (units .exit)) ≡ with-calls (view c (now (units .entry))) (forked i (view c (now (units .entry)) .calls)))) ⌝ }
+    requires { ⌜ Room units ⌝ }
+    ensures { λ r. ⌜ Changes units (λ _ old new. (r ≡ fits-one (old .calls .forks)) × (new ≡ with-calls old (forked i (old .calls)))) ⌝ }
 {
     enqueue(&mut units[FORKS..PENDING], MOST_CALLS, i as u64)
 }
 
 // The next call to make is taken off: from the stack, else from the forks.
 pub fn pop_call(units: &mut [u8]) -> Taken
-    requires { ⌜ 65536 ≤ length (now units) ⌝ }
-    ensures { λ r. ⌜ ((c : Circuit) → (r ≡ popped (pop (view c (now (units .entry)) .calls .stack) (view c (now (units .entry)) .calls .forks))) × (view c (now (units .exit)) ≡ with-calls (view c (now (units .entry))) (calls-left (view c (now (units .entry)) .calls) (pop (view c (now (units .entry)) .calls .stack) (view c (now (units .entry)) .calls .forks))))) ⌝ }
+    requires { ⌜ Room units ⌝ }
+    ensures { λ r. ⌜ Changes units (λ _ old new. Pops old new r) ⌝ }
 {
     let top = stack_pop(&mut units[STACK..FORKS], MOST_CALLS);
     match top {
@@ -49,8 +46,8 @@ pub fn pop_call(units: &mut [u8]) -> Taken
 
 // No call waits.
 pub fn clear_calls(units: &mut [u8])
-    requires { ⌜ 65536 ≤ length (now units) ⌝ }
-    ensures { λ _. ⌜ ((c : Circuit) → view c (now (units .exit)) ≡ with-calls (view c (now (units .entry))) no-calls) ⌝ }
+    requires { ⌜ Room units ⌝ }
+    ensures { λ _. ⌜ Changes units (λ _ old new. new ≡ with-calls old no-calls) ⌝ }
 {
     clear(&mut units[STACK..FORKS]);
     clear(&mut units[FORKS..PENDING]);

@@ -1,10 +1,8 @@
 // How many wait.
 ghost use mathlib.Core.Path.{_≡_};
-ghost use Prim.Native.Nat.{_≤_};
 ghost use lib.ListN.{length};
-ghost use Rattle.model.specs.Circuit.{Circuit};
-// The definition `units` is named `view` here, beside the slice of that name.
-ghost use Rattle.units.specs.View.{units as view};
+ghost use Rattle.links.specs.Lent.{Room};
+ghost use Rattle.units.specs.Lent.{Reads};
 use crate::layout::BEGUN;
 use crate::layout::CARRIED;
 use crate::layout::DELIVERED;
@@ -16,24 +14,24 @@ use lists::count;
 
 // How many are pending.
 pub fn pending(units: &[u8]) -> usize
-    requires { ⌜ 65536 ≤ length (now units) ⌝ }
-    ensures { λ r. ⌜ ((c : Circuit) → r ≡ length (view c (now (units .entry)) .lists .pending)) ⌝ }
+    requires { ⌜ Room units ⌝ }
+    ensures { λ r. ⌜ Reads units (λ _ u. r ≡ length (u .lists .pending)) ⌝ }
 {
     count(&units[PENDING..LATE], MOST_WAITING)
 }
 
 // How many are late.
 pub fn late(units: &[u8]) -> usize
-    requires { ⌜ 65536 ≤ length (now units) ⌝ }
-    ensures { λ r. ⌜ ((c : Circuit) → r ≡ length (view c (now (units .entry)) .lists .late)) ⌝ }
+    requires { ⌜ Room units ⌝ }
+    ensures { λ r. ⌜ Reads units (λ _ u. r ≡ length (u .lists .late)) ⌝ }
 {
     count(&units[LATE..CARRIED], MOST_WAITING)
 }
 
 // How many events are delivered and wait.
 pub fn delivered(units: &[u8]) -> usize
-    requires { ⌜ 65536 ≤ length (now units) ⌝ }
-    ensures { λ r. ⌜ ((c : Circuit) → r ≡ length (view c (now (units .entry)) .lists .delivered)) ⌝ }
+    requires { ⌜ Room units ⌝ }
+    ensures { λ r. ⌜ Reads units (λ _ u. r ≡ length (u .lists .delivered)) ⌝ }
 {
     count(&units[DELIVERED..BEGUN], MOST_DELIVERED)
 }

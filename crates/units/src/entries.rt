@@ -1,6 +1,6 @@
 // An entry of a list in one word: a gate, a form, and a number that says what it brings, 16 bits each.
 ghost use mathlib.Core.Path.{_≡_};
-ghost use Prim.Native.Nat.{_<_};
+ghost use Rattle.links.specs.Lent.{Short};
 ghost use Rattle.units.specs.View.{gate-of, form-of, brings, entry-of};
 
 // The values of one part.
@@ -18,21 +18,21 @@ pub fn entry(g: usize, form: usize, k: usize) -> u64
 
 // The gate of an entry.
 pub fn gate_of(x: u64) -> usize
-    ensures { λ r. ⌜ (r ≡ gate-of x) × (r < 65536) ⌝ }
+    ensures { λ r. ⌜ (r ≡ gate-of x) × Short r ⌝ }
 {
     (x / GATE % PART) as usize
 }
 
 // Its form.
 pub fn form_of(x: u64) -> usize
-    ensures { λ r. ⌜ (r ≡ form-of x) × (r < 65536) ⌝ }
+    ensures { λ r. ⌜ (r ≡ form-of x) × Short r ⌝ }
 {
     (x / PART % PART) as usize
 }
 
 // The number that says what it brings.
 pub fn brings(x: u64) -> usize
-    ensures { λ r. ⌜ (r ≡ brings x) × (r < 65536) ⌝ }
+    ensures { λ r. ⌜ (r ≡ brings x) × Short r ⌝ }
 {
     (x % PART) as usize
 }

@@ -2,16 +2,17 @@
 ghost use mathlib.Core.Path.{_≡_};
 ghost use mathlib.Core.Bool.{cond};
 ghost use mathlib.Core.List.{[], map};
-ghost use Prim.Native.Nat.{_+_, _*_, _<_, _≤_, min};
+ghost use Prim.Native.Nat.{_+_, _<_, _≤_, min};
 ghost use lib.ListN.{length, getD};
-ghost use Rattle.words.specs.Words.{words};
+ghost use Rattle.words.specs.Slices.{was};
 ghost use Rattle.model.specs.declared.Value.the-variants.{Nothing};
 ghost use Rattle.model.specs.Base.{among, both, from};
 ghost use Rattle.model.specs.Value.{value-of};
-ghost use Rattle.model.specs.Circuit.{Circuit};
-// The definition `units` is named `view` here, beside the slice of that name.
-ghost use Rattle.units.specs.View.{cut, second-half, units as view};
+ghost use Rattle.model.specs.Circuit.{most-gates};
+ghost use Rattle.links.specs.Lent.{Room};
+ghost use Rattle.units.specs.View.{cut, second-half};
 ghost use Rattle.units.specs.Calls.{with-outbox, sent};
+ghost use Rattle.units.specs.Lent.{Reads, Changes};
 use crate::layout::COUNTS;
 use crate::layout::HALF;
 use crate::layout::MOST_EVENTS;
@@ -26,16 +27,16 @@ use words::rows::put_row;
 
 // The half that is the outbox.
 fn outbox(units: &[u8]) -> usize
-    requires { ⌜ 65536 ≤ length (now units) ⌝ }
-    ensures { λ r. ⌜ (r ≡ cond (second-half (cut (words (now (units .entry))))) 1 0) × (r < 2) ⌝ }
+    requires { ⌜ Room units ⌝ }
+    ensures { λ r. ⌜ (r ≡ cond (second-half (cut (was units))) 1 0) × (r < 2) ⌝ }
 {
     if get(units, HALF) == 0 { 0 } else { 1 }
 }
 
 // How many events half h holds.
 fn held(units: &[u8], h: usize) -> usize
-    requires { ⌜ (65536 ≤ length (now units)) × (h < 2) ⌝ }
-    ensures { λ r. ⌜ (r ≡ min (getD (words (now (units .entry))) (2378 + h) 0) 64) × (r ≤ 64) ⌝ }
+    requires { ⌜ Room units × (h < 2) ⌝ }
+    ensures { λ r. ⌜ (r ≡ min (getD (was units) (2378 + h) 0) 64) × (r ≤ most-gates) ⌝ }
 {
     let n = get(units, COUNTS + h) as usize;
     if n < MOST_EVENTS { n } else { MOST_EVENTS }
@@ -43,8 +44,8 @@ fn held(units: &[u8], h: usize) -> usize
 
 // Whether gate g sent one of the n events from place a on.
 fn sent_by(units: &[u8], a: usize, n: usize, g: usize) -> bool
-    requires { ⌜ (65536 ≤ length (now units)) × (a + n ≤ 128) ⌝ }
-    ensures { λ r. ⌜ r ≡ among g (map (λ k. getD (words (now (units .entry))) (2380 + k) 0) (from a n)) ⌝ }
+    requires { ⌜ Room units × (a + n ≤ 128) ⌝ }
+    ensures { λ r. ⌜ r ≡ among g (map (λ k. getD (was units) (2380 + k) 0) (from a n)) ⌝ }
 {
     let mut i = 0;
     while i < n {
@@ -58,8 +59,8 @@ fn sent_by(units: &[u8], a: usize, n: usize, g: usize) -> bool
 
 // Gate g sends an event with eight values. A second one in a tick is ignored.
 pub fn send(units: &mut [u8], g: usize, kinds: [u64; 8], contents: [u64; 8])
-    requires { ⌜ 65536 ≤ length (now units) ⌝ }
-    ensures { λ _. ⌜ ((c : Circuit) → view c (now (units .exit)) ≡ with-outbox (view c (now (units .entry))) (sent (record { gate = g; row = both value-of kinds contents }) (view c (now (units .entry)) .outbox))) ⌝ }
+    requires { ⌜ Room units ⌝ }
+    ensures { λ _. ⌜ Changes units (λ _ old new. new ≡ with-outbox old (sent (record { gate = g; row = both value-of kinds contents }) (old .outbox))) ⌝ }
 {
     let h = outbox(units);
     let n = held(units, h);
@@ -78,8 +79,8 @@ pub fn send(units: &mut [u8], g: usize, kinds: [u64; 8], contents: [u64; 8])
 
 // Whether gate g has sent an event in this tick.
 pub fn has_sent(units: &[u8], g: usize) -> bool
-    requires { ⌜ 65536 ≤ length (now units) ⌝ }
-    ensures { λ r. ⌜ ((c : Circuit) → r ≡ among g (map (λ m. m .gate) (view c (now (units .entry)) .outbox))) ⌝ }
+    requires { ⌜ Room units ⌝ }
+    ensures { λ r. ⌜ Reads units (λ _ u. r ≡ among g (map (λ m. m .gate) (u .outbox))) ⌝ }
 {
     let h = outbox(units);
     let n = held(units, h);
@@ -88,17 +89,17 @@ pub fn has_sent(units: &[u8], g: usize) -> bool
 
 // How many events the tick before sent.
 pub fn events(units: &[u8]) -> usize
-    requires { ⌜ 65536 ≤ length (now units) ⌝ }
-    ensures { λ r. ⌜ ((c : Circuit) → r ≡ length (view c (now (units .entry)) .events)) ⌝ }
-    ensures { λ r. ⌜ r ≤ 64 ⌝ }
+    requires { ⌜ Room units ⌝ }
+    ensures { λ r. ⌜ Reads units (λ _ u. r ≡ length (u .events)) ⌝ }
+    ensures { λ r. ⌜ r ≤ most-gates ⌝ }
 {
     held(units, 1 - outbox(units))
 }
 
 // The gate that sent event e of these.
 pub fn sender(units: &[u8], e: usize) -> usize
-    requires { ⌜ 65536 ≤ length (now units) ⌝ }
-    ensures { λ r. ⌜ ((c : Circuit) → r ≡ getD (map (λ m. m .gate) (view c (now (units .entry)) .events)) e 0) ⌝ }
+    requires { ⌜ Room units ⌝ }
+    ensures { λ r. ⌜ Reads units (λ _ u. r ≡ getD (map (λ m. m .gate) (u .events)) e 0) ⌝ }
 {
     let h = 1 - outbox(units);
     if held(units, h) <= e {
@@ -109,8 +110,8 @@ pub fn sender(units: &[u8], e: usize) -> usize
 
 // Value j of the row of event e.
 pub fn event_value(units: &[u8], e: usize, j: usize) -> Value
-    requires { ⌜ 65536 ≤ length (now units) ⌝ }
-    ensures { λ r. ⌜ ((c : Circuit) → r ≡ getD (getD (map (λ m. m .row) (view c (now (units .entry)) .events)) e []) j Nothing) ⌝ }
+    requires { ⌜ Room units ⌝ }
+    ensures { λ r. ⌜ Reads units (λ _ u. r ≡ getD (getD (map (λ m. m .row) (u .events)) e []) j Nothing) ⌝ }
 {
     let h = 1 - outbox(units);
     if held(units, h) <= e {

@@ -1,23 +1,21 @@
 // What is raised, and what waits.
 ghost use mathlib.Core.Path.{_≡_};
-ghost use mathlib.Core.Bool.{cond};
 ghost use mathlib.Core.List.{[], map};
 ghost use Prim.Native.Nat.{_+_, _*_, _<_, _≤_};
-ghost use lib.Dec.{ltb};
-ghost use lib.ListN.{length, drop};
-ghost use Rattle.words.specs.Words.{words};
-ghost use Rattle.lists.specs.Lists.{downward, ranked};
-ghost use Rattle.lists.specs.declared.Filed.the-variants.{Full, Done};
-ghost use Rattle.model.specs.Circuit.{Circuit, rank-of-gate};
-ghost use Rattle.model.specs.Base.{snoc};
+ghost use lib.ListN.{length};
+ghost use Rattle.words.specs.Slices.{was, is};
+ghost use Rattle.schedule.specs.Schedule.{most-units, most-waiting};
+ghost use Rattle.model.specs.Circuit.{rank-of-gate};
 ghost use Rattle.model.specs.Chain.{no-calls};
-ghost use Rattle.schedule.specs.Schedule.{room};
-ghost use Rattle.links.specs.Links.{net};
 // The definition `units` is named `view` here, beside the slice of that name.
+ghost use Rattle.links.specs.Links.{net};
+ghost use Rattle.links.specs.Lent.{Linked, net-of, Room};
+ghost use Rattle.lists.specs.Lists.{downward};
 ghost use Rattle.units.specs.View.{gate-of, entry-of, act-of, event-of, units as view};
 ghost use Rattle.units.specs.declared.Place.the-variants.{Late, Pending};
-ghost use Rattle.units.specs.Raising.{late≔, delivered≔, pending≔, carried≔, with-lists, by-rank, all-by-rank, activate, deliver, answer, lists-after};
-ghost use Rattle.units.specs.Calls.{with-calls, with-begun, first-of, act-taken, reopened, empty};
+ghost use Rattle.units.specs.Raising.{late≔, delivered≔, pending≔, carried≔, with-lists, by-rank, all-by-rank, activate, deliver};
+ghost use Rattle.units.specs.Calls.{with-calls, with-begun, act-taken, reopened, empty};
+ghost use Rattle.units.specs.Lent.{Reads, Changes, Units-change, Files, carry, Takes-off, with-halves, Files-by-rank};
 use crate::Place;
 use crate::entries::entry;
 use crate::entries::gate_of;
@@ -50,8 +48,8 @@ use words::put;
 
 // x, of that rank, goes below those of the n entries, from the last one down, whose rank is not above its own; these move up by one.
 fn place(links: &[usize], list: &mut [u8], n: usize, x: u64, rank: u64)
-    requires { ⌜ (length (now links) ≡ 4816) × ((n + 2) * 8 ≤ length (now list)) × (n < 1024) × (rank ≡ rank-of-gate (net (now links)) (gate-of x)) ⌝ }
-    ensures { λ _. ⌜ map (act-of (net (now (links .entry)))) (downward (n + 1) (words (now (list .exit)))) ≡ by-rank (net (now (links .entry))) (act-of (net (now (links .entry))) x) (map (act-of (net (now (links .entry)))) (downward n (words (now (list .entry))))) ⌝ }
+    requires { ⌜ Linked links × ((n + 2) * 8 ≤ length (now list)) × (n < most-units) × (rank ≡ rank-of-gate (net (now links)) (gate-of x)) ⌝ }
+    ensures { λ _. ⌜ map (act-of (net-of links)) (downward (n + 1) (is list)) ≡ by-rank (net-of links) (act-of (net-of links) x) (map (act-of (net-of links)) (downward n (was list))) ⌝ }
 {
     let mut i = n;
     while 0 < i {
@@ -68,8 +66,8 @@ fn place(links: &[usize], list: &mut [u8], n: usize, x: u64, rank: u64)
 
 // x, of that rank, joins a list by rank, behind all whose rank is not above its own, if there is room.
 fn file(links: &[usize], list: &mut [u8], x: u64, rank: u64) -> Filed
-    requires { ⌜ (length (now links) ≡ 4816) × (length (now list) ≡ 2056) × (rank ≡ rank-of-gate (net (now links)) (gate-of x)) ⌝ }
-    ensures { λ r. ⌜ (r ≡ cond (ltb (length (map (act-of (net (now (links .entry)))) (ranked 256 (words (now (list .entry)))))) 256) Done Full) × (map (act-of (net (now (links .entry)))) (ranked 256 (words (now (list .exit)))) ≡ cond (ltb (length (map (act-of (net (now (links .entry)))) (ranked 256 (words (now (list .entry)))))) 256) (by-rank (net (now (links .entry))) (act-of (net (now (links .entry))) x) (map (act-of (net (now (links .entry)))) (ranked 256 (words (now (list .entry)))))) (map (act-of (net (now (links .entry)))) (ranked 256 (words (now (list .entry)))))) ⌝ }
+    requires { ⌜ Linked links × (length (now list) ≡ 2056) × (rank ≡ rank-of-gate (net (now links)) (gate-of x)) ⌝ }
+    ensures { λ r. ⌜ Files-by-rank (net-of links) (was list) (is list) r x ⌝ }
 {
     let n = lists::count(list, MOST_WAITING);
     if MOST_WAITING <= n {
@@ -82,32 +80,32 @@ fn file(links: &[usize], list: &mut [u8], x: u64, rank: u64) -> Filed
 
 // x, of that rank, joins the late list, if there is room.
 fn file_late(links: &[usize], units: &mut [u8], x: u64, rank: u64) -> Filed
-    requires { ⌜ (length (now links) ≡ 4816) × (65536 ≤ length (now units)) × (rank ≡ rank-of-gate (net (now links)) (gate-of x)) ⌝ }
-    ensures { λ r. ⌜ (r ≡ answer (activate (net (now (links .entry))) Late (act-of (net (now (links .entry))) x) (view (net (now (links .entry))) (now (units .entry)) .lists))) × (view (net (now (links .entry))) (now (units .exit)) ≡ with-lists (view (net (now (links .entry))) (now (units .entry))) (lists-after (view (net (now (links .entry))) (now (units .entry)) .lists) (activate (net (now (links .entry))) Late (act-of (net (now (links .entry))) x) (view (net (now (links .entry))) (now (units .entry)) .lists)))) ⌝ }
+    requires { ⌜ Linked links × Room units × (rank ≡ rank-of-gate (net (now links)) (gate-of x)) ⌝ }
+    ensures { λ r. ⌜ Units-change links units (λ c old new. Files old new r (activate c Late (act-of c x) (old .lists))) ⌝ }
 {
     file(links, &mut units[LATE..CARRIED], x, rank)
 }
 
 // x, of that rank, joins the pending list, if there is room.
 fn file_pending(links: &[usize], units: &mut [u8], x: u64, rank: u64) -> Filed
-    requires { ⌜ (length (now links) ≡ 4816) × (65536 ≤ length (now units)) × (rank ≡ rank-of-gate (net (now links)) (gate-of x)) ⌝ }
-    ensures { λ r. ⌜ (r ≡ answer (activate (net (now (links .entry))) Pending (act-of (net (now (links .entry))) x) (view (net (now (links .entry))) (now (units .entry)) .lists))) × (view (net (now (links .entry))) (now (units .exit)) ≡ with-lists (view (net (now (links .entry))) (now (units .entry))) (lists-after (view (net (now (links .entry))) (now (units .entry)) .lists) (activate (net (now (links .entry))) Pending (act-of (net (now (links .entry))) x) (view (net (now (links .entry))) (now (units .entry)) .lists)))) ⌝ }
+    requires { ⌜ Linked links × Room units × (rank ≡ rank-of-gate (net (now links)) (gate-of x)) ⌝ }
+    ensures { λ r. ⌜ Units-change links units (λ c old new. Files old new r (activate c Pending (act-of c x) (old .lists))) ⌝ }
 {
     file(links, &mut units[PENDING..LATE], x, rank)
 }
 
 // x is carried, behind the others, if there is room.
 fn carry(units: &mut [u8], x: u64) -> Filed
-    requires { ⌜ 65536 ≤ length (now units) ⌝ }
-    ensures { λ r. ⌜ ((c : Circuit) → (r ≡ answer (room ((view c (now (units .entry)) .lists) .carried) 256 (carried≔ (view c (now (units .entry)) .lists) (snoc ((view c (now (units .entry)) .lists) .carried) (act-of c x))))) × (view c (now (units .exit)) ≡ with-lists (view c (now (units .entry))) (lists-after (view c (now (units .entry)) .lists) (room ((view c (now (units .entry)) .lists) .carried) 256 (carried≔ (view c (now (units .entry)) .lists) (snoc ((view c (now (units .entry)) .lists) .carried) (act-of c x))))))) ⌝ }
+    requires { ⌜ Room units ⌝ }
+    ensures { λ r. ⌜ Changes units (λ c old new. Files old new r (carry (act-of c x) (old .lists))) ⌝ }
 {
     stack_push(&mut units[CARRIED..DELIVERED], MOST_WAITING, x)
 }
 
 // x goes where it belongs, if there is room.
 pub fn activate(links: &[usize], units: &mut [u8], to: Place, x: u64) -> Filed
-    requires { ⌜ (length (now links) ≡ 4816) × (65536 ≤ length (now units)) ⌝ }
-    ensures { λ r. ⌜ (r ≡ answer (activate (net (now (links .entry))) to (act-of (net (now (links .entry))) x) (view (net (now (links .entry))) (now (units .entry)) .lists))) × (view (net (now (links .entry))) (now (units .exit)) ≡ with-lists (view (net (now (links .entry))) (now (units .entry))) (lists-after (view (net (now (links .entry))) (now (units .entry)) .lists) (activate (net (now (links .entry))) to (act-of (net (now (links .entry))) x) (view (net (now (links .entry))) (now (units .entry)) .lists)))) ⌝ }
+    requires { ⌜ Linked links × Room units ⌝ }
+    ensures { λ r. ⌜ Units-change links units (λ c old new. Files old new r (activate c to (act-of c x) (old .lists))) ⌝ }
 {
     let rank = rank_of_gate(links, gate_of(x));
     match to {
@@ -125,8 +123,8 @@ pub fn activate(links: &[usize], units: &mut [u8], to: Place, x: u64) -> Filed
 
 // Event e is delivered to gate g, behind the others, if there is room.
 pub fn deliver(units: &mut [u8], g: usize, e: usize) -> Filed
-    requires { ⌜ 65536 ≤ length (now units) ⌝ }
-    ensures { λ r. ⌜ ((c : Circuit) → (r ≡ answer (deliver (event-of ((view c (now (units .entry))) .events) (entry-of g 1 e)) (view c (now (units .entry)) .lists))) × (view c (now (units .exit)) ≡ with-lists (view c (now (units .entry))) (lists-after (view c (now (units .entry)) .lists) (deliver (event-of ((view c (now (units .entry))) .events) (entry-of g 1 e)) (view c (now (units .entry)) .lists))))) ⌝ }
+    requires { ⌜ Room units ⌝ }
+    ensures { λ r. ⌜ Changes units (λ _ old new. Files old new r (deliver (event-of (old .events) (entry-of g 1 e)) (old .lists))) ⌝ }
 {
     let x = entry(g, 1, e);
     enqueue(&mut units[DELIVERED..BEGUN], MOST_DELIVERED, x)
@@ -134,41 +132,41 @@ pub fn deliver(units: &mut [u8], g: usize, e: usize) -> Filed
 
 // The next one of the late list is taken off.
 pub fn take_late(units: &mut [u8]) -> Taken
-    requires { ⌜ 65536 ≤ length (now units) ⌝ }
-    ensures { λ r. ⌜ ((c : Circuit) → (act-taken (act-of c) r ≡ first-of (view c (now (units .entry)) .lists .late)) × (view c (now (units .exit)) ≡ with-lists (view c (now (units .entry))) (late≔ (view c (now (units .entry)) .lists) (drop 1 (view c (now (units .entry)) .lists .late))))) ⌝ }
+    requires { ⌜ Room units ⌝ }
+    ensures { λ r. ⌜ Changes units (λ c old new. Takes-off old new (act-taken (act-of c) r) (old .lists .late) (late≔ (old .lists))) ⌝ }
 {
     stack_pop(&mut units[LATE..CARRIED], MOST_WAITING)
 }
 
 // The oldest of the delivered events is taken off.
 pub fn take_delivered(units: &mut [u8]) -> Taken
-    requires { ⌜ 65536 ≤ length (now units) ⌝ }
-    ensures { λ r. ⌜ ((c : Circuit) → (act-taken (event-of (view c (now (units .entry)) .events)) r ≡ first-of (view c (now (units .entry)) .lists .delivered)) × (view c (now (units .exit)) ≡ with-lists (view c (now (units .entry))) (delivered≔ (view c (now (units .entry)) .lists) (drop 1 (view c (now (units .entry)) .lists .delivered))))) ⌝ }
+    requires { ⌜ Room units ⌝ }
+    ensures { λ r. ⌜ Changes units (λ _ old new. Takes-off old new (act-taken (event-of (old .events)) r) (old .lists .delivered) (delivered≔ (old .lists))) ⌝ }
 {
     dequeue(&mut units[DELIVERED..BEGUN], MOST_DELIVERED)
 }
 
 // The next one that is pending is taken off.
 pub fn take_pending(units: &mut [u8]) -> Taken
-    requires { ⌜ 65536 ≤ length (now units) ⌝ }
-    ensures { λ r. ⌜ ((c : Circuit) → (act-taken (act-of c) r ≡ first-of (view c (now (units .entry)) .lists .pending)) × (view c (now (units .exit)) ≡ with-lists (view c (now (units .entry))) (pending≔ (view c (now (units .entry)) .lists) (drop 1 (view c (now (units .entry)) .lists .pending))))) ⌝ }
+    requires { ⌜ Room units ⌝ }
+    ensures { λ r. ⌜ Changes units (λ c old new. Takes-off old new (act-taken (act-of c) r) (old .lists .pending) (pending≔ (old .lists))) ⌝ }
 {
     stack_pop(&mut units[PENDING..LATE], MOST_WAITING)
 }
 
 // How many are carried.
 pub fn carried(units: &[u8]) -> usize
-    requires { ⌜ 65536 ≤ length (now units) ⌝ }
-    ensures { λ r. ⌜ ((c : Circuit) → r ≡ length (view c (now (units .entry)) .lists .carried)) ⌝ }
-    ensures { λ r. ⌜ r ≤ 256 ⌝ }
+    requires { ⌜ Room units ⌝ }
+    ensures { λ r. ⌜ Reads units (λ _ u. r ≡ length (u .lists .carried)) ⌝ }
+    ensures { λ r. ⌜ r ≤ most-waiting ⌝ }
 {
     lists::count(&units[CARRIED..DELIVERED], MOST_WAITING)
 }
 
 // The late list is empty: the carried are filed there, in the order raised.
 fn file_carried(links: &[usize], units: &mut [u8])
-    requires { ⌜ (length (now links) ≡ 4816) × (65536 ≤ length (now units)) × (view (net (now links)) (now units) .lists .late ≡ []) ⌝ }
-    ensures { λ _. ⌜ view (net (now (links .entry))) (now (units .exit)) ≡ with-lists (view (net (now (links .entry))) (now (units .entry))) (late≔ (view (net (now (links .entry))) (now (units .entry)) .lists) (all-by-rank (net (now (links .entry))) (view (net (now (links .entry))) (now (units .entry)) .lists .carried) [])) ⌝ }
+    requires { ⌜ Linked links × Room units × (view (net (now links)) (now units) .lists .late ≡ []) ⌝ }
+    ensures { λ _. ⌜ Units-change links units (λ c old new. new ≡ with-lists old (late≔ (old .lists) (all-by-rank c (old .lists .carried) []))) ⌝ }
 {
     let n = carried(units);
     let mut k: usize = 0;
@@ -181,8 +179,8 @@ fn file_carried(links: &[usize], units: &mut [u8])
 
 // No call waits, nothing is pending or carried, no unit has begun.
 fn clear_rest(units: &mut [u8])
-    requires { ⌜ 65536 ≤ length (now units) ⌝ }
-    ensures { λ _. ⌜ ((c : Circuit) → view c (now (units .exit)) ≡ with-begun (with-calls (with-lists (view c (now (units .entry))) (carried≔ (pending≔ ((view c (now (units .entry))) .lists) []) [])) no-calls) []) ⌝ }
+    requires { ⌜ Room units ⌝ }
+    ensures { λ _. ⌜ Changes units (λ _ old new. new ≡ with-begun (with-calls (with-lists old (carried≔ (pending≔ (old .lists) []) [])) no-calls) []) ⌝ }
 {
     put(units, STACK_COUNT, 0);
     put(units, FORKS_COUNT, 0);
@@ -193,8 +191,8 @@ fn clear_rest(units: &mut [u8])
 
 // What the outbox holds is what the tick before sent; the other half is the outbox, and is empty. Nothing is delivered.
 fn switch_half(units: &mut [u8])
-    requires { ⌜ 65536 ≤ length (now units) ⌝ }
-    ensures { λ _. ⌜ ((c : Circuit) → view c (now (units .exit)) ≡ record { calls = (view c (now (units .entry))) .calls; lists = delivered≔ ((view c (now (units .entry))) .lists) []; begun = (view c (now (units .entry))) .begun; outbox = []; events = (view c (now (units .entry))) .outbox; rest = (view c (now (units .entry))) .rest }) ⌝ }
+    requires { ⌜ Room units ⌝ }
+    ensures { λ _. ⌜ Changes units (λ _ old new. new ≡ with-halves (with-lists old (delivered≔ (old .lists) [])) [] (old .outbox)) ⌝ }
 {
     put(units, DELIVERED_COUNT, 0);
     if get(units, HALF) == 0 {
@@ -208,8 +206,8 @@ fn switch_half(units: &mut [u8])
 
 // There is no event, and nothing is delivered.
 fn clear_events(units: &mut [u8])
-    requires { ⌜ 65536 ≤ length (now units) ⌝ }
-    ensures { λ _. ⌜ ((c : Circuit) → view c (now (units .exit)) ≡ record { calls = (view c (now (units .entry))) .calls; lists = delivered≔ ((view c (now (units .entry))) .lists) []; begun = (view c (now (units .entry))) .begun; outbox = []; events = []; rest = (view c (now (units .entry))) .rest }) ⌝ }
+    requires { ⌜ Room units ⌝ }
+    ensures { λ _. ⌜ Changes units (λ _ old new. new ≡ with-halves (with-lists old (delivered≔ (old .lists) [])) [] []) ⌝ }
 {
     put(units, FIRST_COUNT, 0);
     put(units, SECOND_COUNT, 0);
@@ -218,8 +216,8 @@ fn clear_events(units: &mut [u8])
 
 // The next tick begins: what was carried is late, nothing else waits, no call, no unit has begun, and the outbox is what the tick before sent.
 pub fn next_tick(links: &[usize], units: &mut [u8])
-    requires { ⌜ (length (now links) ≡ 4816) × (65536 ≤ length (now units)) ⌝ }
-    ensures { λ _. ⌜ view (net (now (links .entry))) (now (units .exit)) ≡ reopened (net (now (links .entry))) (view (net (now (links .entry))) (now (units .entry))) ⌝ }
+    requires { ⌜ Linked links × Room units ⌝ }
+    ensures { λ _. ⌜ Units-change links units (λ c old new. new ≡ reopened c old) ⌝ }
 {
     put(units, LATE_COUNT, 0);
     file_carried(links, units);
@@ -229,8 +227,8 @@ pub fn next_tick(links: &[usize], units: &mut [u8])
 
 // The lists at the start of a run, whatever the area held.
 pub fn start(links: &[usize], units: &mut [u8])
-    requires { ⌜ (length (now links) ≡ 4816) × (65536 ≤ length (now units)) ⌝ }
-    ensures { λ _. ⌜ view (net (now (links .entry))) (now (units .exit)) ≡ empty (view (net (now (links .entry))) (now (units .entry)) .rest) ⌝ }
+    requires { ⌜ Linked links × Room units ⌝ }
+    ensures { λ _. ⌜ Units-change links units (λ _ old new. new ≡ empty (old .rest)) ⌝ }
 {
     put(units, LATE_COUNT, 0);
     clear_rest(units);

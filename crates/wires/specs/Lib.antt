@@ -3,3 +3,4 @@ pub mod View
 pub mod Marking
 pub mod Checks
 pub mod Start
+pub mod Lent

@@ -1,16 +1,13 @@
 // The watched inputs that wait to be checked, and what the last check of each read.
-ghost use Prim.Native.Nat.{_≤_};
 ghost use mathlib.Core.Path.{_≡_};
 ghost use mathlib.Core.Bool.{false};
 ghost use mathlib.Core.Option.{none, some};
-ghost use lib.ListN.{length, getD, set};
+ghost use lib.ListN.{getD, set};
 ghost use Rattle.model.specs.State.{to-check≔, last≔};
 ghost use Rattle.model.specs.Wires.{watch};
-ghost use Rattle.links.specs.Links.{net};
-// The definition `values` is named `view` here, beside the slice of that name.
-ghost use Rattle.wires.specs.View.{values as view, with-wires};
-ghost use Rattle.wires.specs.Marking.{area, area-with};
+ghost use Rattle.links.specs.Lent.{Linked, Room};
 ghost use Rattle.wires.specs.Checks.{waiting, oldest, taken, remembered};
+ghost use Rattle.wires.specs.Lent.{wires-in, Turns, Turns-beside-stack};
 use crate::Remembered;
 use crate::Waiting;
 use crate::layout::COUNT;
@@ -31,8 +28,8 @@ use words::put;
 
 // Watched input i waits to be checked; one that waits already keeps its place. The marking stack stays as it is.
 pub fn watch(links: &[usize], values: &mut [u8], i: usize)
-    requires { ⌜ (length (now links) ≡ 4816) × (65536 ≤ length (now values)) ⌝ }
-    ensures { λ _. ⌜ area (net (now (links .entry))) (now (values .exit)) ≡ area-with (area (net (now (links .entry))) (now (values .entry))) (watch (area (net (now (links .entry))) (now (values .entry)) .values .wires) i) ⌝ }
+    requires { ⌜ Linked links × Room values ⌝ }
+    ensures { λ _. ⌜ Turns-beside-stack links values (λ _ w. watch w i) ⌝ }
 {
     if i < inputs(links) {
         if get(values, QUEUED + i) == 0 {
@@ -49,8 +46,8 @@ pub fn watch(links: &[usize], values: &mut [u8], i: usize)
 
 // Input i may be queued again.
 fn unqueue(links: &[usize], values: &mut [u8], i: usize)
-    requires { ⌜ (length (now links) ≡ 4816) × (65536 ≤ length (now values)) ⌝ }
-    ensures { λ _. ⌜ view (net (now (links .entry))) (now (values .exit)) ≡ with-wires (view (net (now (links .entry))) (now (values .entry))) (to-check≔ (view (net (now (links .entry))) (now (values .entry)) .wires) (view (net (now (links .entry))) (now (values .entry)) .wires .to-check) (set (view (net (now (links .entry))) (now (values .entry)) .wires .queued) i false)) ⌝ }
+    requires { ⌜ Linked links × Room values ⌝ }
+    ensures { λ _. ⌜ Turns links values (λ _ w. to-check≔ w (w .to-check) (set (w .queued) i false)) ⌝ }
 {
     if i < inputs(links) {
         put(values, QUEUED + i, 0);
@@ -59,8 +56,8 @@ fn unqueue(links: &[usize], values: &mut [u8], i: usize)
 
 // The input that waits longest is taken, and may be queued again.
 pub fn take_check(links: &[usize], values: &mut [u8]) -> Waiting
-    requires { ⌜ (length (now links) ≡ 4816) × (65536 ≤ length (now values)) ⌝ }
-    ensures { λ r. ⌜ (waiting r ≡ oldest (view (net (now (links .entry))) (now (values .entry)) .wires)) × (view (net (now (links .entry))) (now (values .exit)) ≡ with-wires (view (net (now (links .entry))) (now (values .entry))) (taken (view (net (now (links .entry))) (now (values .entry)) .wires))) ⌝ }
+    requires { ⌜ Linked links × Room values ⌝ }
+    ensures { λ r. ⌜ (waiting r ≡ oldest (wires-in links values)) × Turns links values (λ _ w. taken w) ⌝ }
 {
     let n = get(values, COUNT);
     if n == 0 {
@@ -76,8 +73,8 @@ pub fn take_check(links: &[usize], values: &mut [u8]) -> Waiting
 
 // What the last check of input i read.
 pub fn last(links: &[usize], values: &[u8], i: usize) -> Remembered
-    requires { ⌜ (length (now links) ≡ 4816) × (65536 ≤ length (now values)) ⌝ }
-    ensures { λ r. ⌜ remembered r ≡ getD (view (net (now (links .entry))) (now (values .entry)) .wires .last) i none ⌝ }
+    requires { ⌜ Linked links × Room values ⌝ }
+    ensures { λ r. ⌜ remembered r ≡ getD (wires-in links values .last) i none ⌝ }
 {
     if inputs(links) <= i {
         return Remembered::Nothing;
@@ -93,8 +90,8 @@ pub fn last(links: &[usize], values: &[u8], i: usize) -> Remembered
 
 // The last check of input i read v.
 pub fn set_last(links: &[usize], values: &mut [u8], i: usize, v: Value)
-    requires { ⌜ (length (now links) ≡ 4816) × (65536 ≤ length (now values)) ⌝ }
-    ensures { λ _. ⌜ view (net (now (links .entry))) (now (values .exit)) ≡ with-wires (view (net (now (links .entry))) (now (values .entry))) (last≔ (view (net (now (links .entry))) (now (values .entry)) .wires) (set (view (net (now (links .entry))) (now (values .entry)) .wires .last) i (some v))) ⌝ }
+    requires { ⌜ Linked links × Room values ⌝ }
+    ensures { λ _. ⌜ Turns links values (λ _ w. last≔ w (set (w .last) i (some v))) ⌝ }
 {
     if i < inputs(links) {
         put(values, LAST_KINDS + i, kind_of(v) + 1);

@@ -1,6 +1,6 @@
 // The two words that hold what an output shows: a tag and a content. Odd tags have a whole content, so that a row of them is masked without a branch. No match here: a jump table costs more than two tests of digits.
-ghost use Prim.Native.Nat.{ℕ};
 ghost use mathlib.Core.Path.{_≡_};
+ghost use Prim.Native.Nat.{ℕ};
 ghost use Rattle.model.specs.Value.{kind-of, content-of};
 ghost use Rattle.wires.specs.Held.{held, tag-of};
 use model::Value;

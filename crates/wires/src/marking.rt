@@ -1,14 +1,9 @@
 // Marking: everything that reads an output is stale, through any depth of pure gates, and the watched inputs that this reaches wait to be checked.
-ghost use Prim.Native.Nat.{_≤_};
-ghost use mathlib.Core.Path.{_≡_};
-ghost use lib.ListN.{length};
 ghost use Rattle.model.specs.Base.{each};
 ghost use Rattle.model.specs.Circuit.{readers-of};
 ghost use Rattle.model.specs.Wires.{mark-reader, mark-on, mark-readers, invalidate, set-out};
-ghost use Rattle.links.specs.Links.{net};
-// The definition `values` is named `view` here, beside the slice of that name.
-ghost use Rattle.wires.specs.View.{values as view, with-wires};
-ghost use Rattle.wires.specs.Marking.{marking, with-marking, to-do};
+ghost use Rattle.links.specs.Lent.{Linked, Room};
+ghost use Rattle.wires.specs.Lent.{Turns, Few-to-do, marking-in, Marks};
 use crate::checks::watch;
 use crate::layout::STACK;
 use crate::reading::show;
@@ -32,9 +27,9 @@ use words::put;
 
 // One reader, input i, where n outputs are on the stack: how many there are then. A pure gate that is stale already marks nothing further.
 fn mark_reader(links: &[usize], values: &mut [u8], n: usize, i: usize) -> usize
-    requires { ⌜ (length (now links) ≡ 4816) × (65536 ≤ length (now values)) ⌝ }
-    requires { ⌜ to-do (marking (net (now links)) (now values) n .marking) ≤ 65 ⌝ }
-    ensures { λ r. ⌜ marking (net (now (links .entry))) (now (values .exit)) r ≡ with-marking (marking (net (now (links .entry))) (now (values .entry)) n) (mark-reader (net (now (links .entry))) (marking (net (now (links .entry))) (now (values .entry)) n .marking) i) ⌝ }
+    requires { ⌜ Linked links × Room values ⌝ }
+    requires { ⌜ Few-to-do links values n ⌝ }
+    ensures { λ r. ⌜ Marks links values n r (λ c m. mark-reader c m i) ⌝ }
 {
     let g = gate_at_input(links, i);
     if kinds::is_pure(kind_of_gate(links, g)) {
@@ -55,9 +50,9 @@ fn mark_reader(links: &[usize], values: &mut [u8], n: usize, i: usize) -> usize
 
 // The readers of output o, in their order.
 fn mark_row(links: &[usize], values: &mut [u8], n: usize, o: usize) -> usize
-    requires { ⌜ (length (now links) ≡ 4816) × (65536 ≤ length (now values)) ⌝ }
-    requires { ⌜ to-do (marking (net (now links)) (now values) n .marking) ≤ 65 ⌝ }
-    ensures { λ r. ⌜ marking (net (now (links .entry))) (now (values .exit)) r ≡ with-marking (marking (net (now (links .entry))) (now (values .entry)) n) (each (mark-reader (net (now (links .entry)))) (marking (net (now (links .entry))) (now (values .entry)) n .marking) (readers-of (net (now (links .entry))) o)) ⌝ }
+    requires { ⌜ Linked links × Room values ⌝ }
+    requires { ⌜ Few-to-do links values n ⌝ }
+    ensures { λ r. ⌜ Marks links values n r (λ c m. each (mark-reader c) m (readers-of c o)) ⌝ }
 {
     let first = first_reader(links, o);
     let count = reader_count(links, o);
@@ -72,9 +67,9 @@ fn mark_row(links: &[usize], values: &mut [u8], n: usize, o: usize) -> usize
 
 // The readers of the n outputs on the stack and of all that this finds, the last one found first, in at most `rounds` rounds.
 fn mark_on(links: &[usize], values: &mut [u8], n: usize, rounds: usize)
-    requires { ⌜ (length (now links) ≡ 4816) × (65536 ≤ length (now values)) ⌝ }
-    requires { ⌜ to-do (marking (net (now links)) (now values) n .marking) ≤ 65 ⌝ }
-    ensures { λ _. ⌜ view (net (now (links .entry))) (now (values .exit)) ≡ with-wires (view (net (now (links .entry))) (now (values .entry))) (mark-on (net (now (links .entry))) rounds (marking (net (now (links .entry))) (now (values .entry)) n .marking)) ⌝ }
+    requires { ⌜ Linked links × Room values ⌝ }
+    requires { ⌜ Few-to-do links values n ⌝ }
+    ensures { λ _. ⌜ Turns links values (λ c _. mark-on c rounds (marking-in links values n)) ⌝ }
 {
     let mut h = n;
     let mut m = rounds;
@@ -90,8 +85,8 @@ fn mark_on(links: &[usize], values: &mut [u8], n: usize, rounds: usize)
 
 // All that reads output o.
 pub fn mark_readers(links: &[usize], values: &mut [u8], o: usize)
-    requires { ⌜ (length (now links) ≡ 4816) × (65536 ≤ length (now values)) ⌝ }
-    ensures { λ _. ⌜ view (net (now (links .entry))) (now (values .exit)) ≡ with-wires (view (net (now (links .entry))) (now (values .entry))) (mark-readers (net (now (links .entry))) (view (net (now (links .entry))) (now (values .entry)) .wires) o) ⌝ }
+    requires { ⌜ Linked links × Room values ⌝ }
+    ensures { λ _. ⌜ Turns links values (λ c w. mark-readers c w o) ⌝ }
 {
     put(values, STACK, o as u64);
     mark_on(links, values, 1, gates(links) + 1);
@@ -99,8 +94,8 @@ pub fn mark_readers(links: &[usize], values: &mut [u8], o: usize)
 
 // Time source g becomes stale itself, and all that reads it is marked.
 pub fn invalidate(links: &[usize], values: &mut [u8], g: usize)
-    requires { ⌜ (length (now links) ≡ 4816) × (65536 ≤ length (now values)) ⌝ }
-    ensures { λ _. ⌜ view (net (now (links .entry))) (now (values .exit)) ≡ with-wires (view (net (now (links .entry))) (now (values .entry))) (invalidate (net (now (links .entry))) (view (net (now (links .entry))) (now (values .entry)) .wires) g) ⌝ }
+    requires { ⌜ Linked links × Room values ⌝ }
+    ensures { λ _. ⌜ Turns links values (λ c w. invalidate c w g) ⌝ }
 {
     soil(links, values, g);
     mark_readers(links, values, output(links, g, 0));
@@ -108,8 +103,8 @@ pub fn invalidate(links: &[usize], values: &mut [u8], g: usize)
 
 // All time sources, in their order.
 pub fn invalidate_all(links: &[usize], values: &mut [u8])
-    requires { ⌜ (length (now links) ≡ 4816) × (65536 ≤ length (now values)) ⌝ }
-    ensures { λ _. ⌜ view (net (now (links .entry))) (now (values .exit)) ≡ with-wires (view (net (now (links .entry))) (now (values .entry))) (each (invalidate (net (now (links .entry)))) (view (net (now (links .entry))) (now (values .entry)) .wires) (net (now (links .entry)) .time-sources)) ⌝ }
+    requires { ⌜ Linked links × Room values ⌝ }
+    ensures { λ _. ⌜ Turns links values (λ c w. each (invalidate c) w (c .time-sources)) ⌝ }
 {
     let mut d = time_sources(links) as u64;
     while d > 0 {
@@ -120,8 +115,8 @@ pub fn invalidate_all(links: &[usize], values: &mut [u8])
 
 // Output o gets value v, which reaches its readers at once if it is not equal to the old one.
 pub fn set_out(links: &[usize], values: &mut [u8], o: usize, v: Value)
-    requires { ⌜ (length (now links) ≡ 4816) × (65536 ≤ length (now values)) ⌝ }
-    ensures { λ _. ⌜ view (net (now (links .entry))) (now (values .exit)) ≡ with-wires (view (net (now (links .entry))) (now (values .entry))) (set-out (net (now (links .entry))) (view (net (now (links .entry))) (now (values .entry)) .wires) o v) ⌝ }
+    requires { ⌜ Linked links × Room values ⌝ }
+    ensures { λ _. ⌜ Turns links values (λ c w. set-out c w o v) ⌝ }
 {
     let old = shown(links, values, o);
     if same(old, v) {

@@ -1,16 +1,15 @@
 // Pulses: outputs that go up, and fall in the second tick after.
-ghost use Prim.Native.Nat.{_+_, _*_, _<_, _≤_};
 ghost use mathlib.Core.Path.{_≡_};
 ghost use mathlib.Core.Bool.{_&&_};
+ghost use Prim.Native.Nat.{_+_, _*_, _<_};
 ghost use lib.Dec.{leb, ltb};
 ghost use lib.ListN.{length, getD, set};
 ghost use Rattle.model.specs.Base.{each, from};
 ghost use Rattle.model.specs.State.{pulses≔};
 ghost use Rattle.model.specs.Settle.{pulse};
 ghost use Rattle.model.specs.Opening.{lower};
-ghost use Rattle.links.specs.Links.{net};
-// The definition `values` is named `view` here, beside the slice of that name.
-ghost use Rattle.wires.specs.View.{values as view, with-wires};
+ghost use Rattle.links.specs.Lent.{Linked, Room};
+ghost use Rattle.wires.specs.Lent.{wires-in, Turns};
 use crate::layout::TICK;
 use crate::layout::TICKS;
 use crate::layout::UP;
@@ -22,8 +21,8 @@ use words::put;
 
 // The tick in which the pulse of output o was last raised, 0 for none.
 fn raised_at(links: &[usize], values: &[u8], o: usize) -> u64
-    requires { ⌜ (length (now links) ≡ 4816) × (65536 ≤ length (now values)) ⌝ }
-    ensures { λ r. ⌜ r ≡ getD (view (net (now (links .entry))) (now (values .entry)) .wires .pulses) o 0 ⌝ }
+    requires { ⌜ Linked links × Room values ⌝ }
+    ensures { λ r. ⌜ r ≡ getD (wires-in links values .pulses) o 0 ⌝ }
 {
     if outputs(links) <= o {
         return 0;
@@ -37,8 +36,8 @@ fn raised_at(links: &[usize], values: &[u8], o: usize) -> u64
 
 // The pulse of output o is raised in this tick.
 fn set_pulse(links: &[usize], values: &mut [u8], o: usize)
-    requires { ⌜ (length (now links) ≡ 4816) × (65536 ≤ length (now values)) ⌝ }
-    ensures { λ _. ⌜ view (net (now (links .entry))) (now (values .exit)) ≡ with-wires (view (net (now (links .entry))) (now (values .entry))) (pulses≔ (view (net (now (links .entry))) (now (values .entry)) .wires) (set (view (net (now (links .entry))) (now (values .entry)) .wires .pulses) o (view (net (now (links .entry))) (now (values .entry)) .wires .tick))) ⌝ }
+    requires { ⌜ Linked links × Room values ⌝ }
+    ensures { λ _. ⌜ Turns links values (λ _ w. pulses≔ w (set (w .pulses) o (w .tick))) ⌝ }
 {
     if o < outputs(links) {
         let tick = get(values, TICK);
@@ -50,8 +49,8 @@ fn set_pulse(links: &[usize], values: &mut [u8], o: usize)
 
 // The pulse of output o has ended.
 fn end_pulse(links: &[usize], values: &mut [u8], o: usize)
-    requires { ⌜ (length (now links) ≡ 4816) × (65536 ≤ length (now values)) ⌝ }
-    ensures { λ _. ⌜ view (net (now (links .entry))) (now (values .exit)) ≡ with-wires (view (net (now (links .entry))) (now (values .entry))) (pulses≔ (view (net (now (links .entry))) (now (values .entry)) .wires) (set (view (net (now (links .entry))) (now (values .entry)) .wires .pulses) o 0)) ⌝ }
+    requires { ⌜ Linked links × Room values ⌝ }
+    ensures { λ _. ⌜ Turns links values (λ _ w. pulses≔ w (set (w .pulses) o 0)) ⌝ }
 {
     if o < outputs(links) {
         let d = get(values, UP + o / 64);
@@ -63,8 +62,8 @@ fn end_pulse(links: &[usize], values: &mut [u8], o: usize)
 
 // A detector's output o goes up, or stays up, from this tick on.
 pub fn pulse(links: &[usize], values: &mut [u8], o: usize)
-    requires { ⌜ (length (now links) ≡ 4816) × (65536 ≤ length (now values)) ⌝ }
-    ensures { λ _. ⌜ view (net (now (links .entry))) (now (values .exit)) ≡ with-wires (view (net (now (links .entry))) (now (values .entry))) (pulse (net (now (links .entry))) (view (net (now (links .entry))) (now (values .entry)) .wires) o) ⌝ }
+    requires { ⌜ Linked links × Room values ⌝ }
+    ensures { λ _. ⌜ Turns links values (λ c w. pulse c w o) ⌝ }
 {
     set_out(links, values, o, Value::Bool(true));
     set_pulse(links, values, o);
@@ -85,8 +84,8 @@ fn has_ended(at: u64, tick: u64) -> bool
 
 // The pulse of output o falls, if it has ended.
 pub fn lower(links: &[usize], values: &mut [u8], o: usize)
-    requires { ⌜ (length (now links) ≡ 4816) × (65536 ≤ length (now values)) ⌝ }
-    ensures { λ _. ⌜ view (net (now (links .entry))) (now (values .exit)) ≡ with-wires (view (net (now (links .entry))) (now (values .entry))) (lower (net (now (links .entry))) (view (net (now (links .entry))) (now (values .entry)) .wires) o) ⌝ }
+    requires { ⌜ Linked links × Room values ⌝ }
+    ensures { λ _. ⌜ Turns links values (λ c w. lower c w o) ⌝ }
 {
     let at = raised_at(links, values, o);
     if has_ended(at, get(values, TICK)) {
@@ -97,8 +96,8 @@ pub fn lower(links: &[usize], values: &mut [u8], o: usize)
 
 // The pulses of the 64 outputs of word j that have ended fall, in their order.
 fn lower_word(links: &[usize], values: &mut [u8], j: usize)
-    requires { ⌜ (length (now links) ≡ 4816) × (65536 ≤ length (now values)) × (j < 9) ⌝ }
-    ensures { λ _. ⌜ view (net (now (links .entry))) (now (values .exit)) ≡ with-wires (view (net (now (links .entry))) (now (values .entry))) (each (lower (net (now (links .entry)))) (view (net (now (links .entry))) (now (values .entry)) .wires) (from (64 * j) 64)) ⌝ }
+    requires { ⌜ Linked links × Room values × (j < 9) ⌝ }
+    ensures { λ _. ⌜ Turns links values (λ c w. each (lower c) w (from (64 * j) 64)) ⌝ }
 {
     let mut d = get(values, UP + j);
     while d > 0 {
@@ -109,8 +108,8 @@ fn lower_word(links: &[usize], values: &mut [u8], j: usize)
 
 // All pulses that have ended fall, in the order of their outputs.
 pub fn lower_all(links: &[usize], values: &mut [u8])
-    requires { ⌜ (length (now links) ≡ 4816) × (65536 ≤ length (now values)) ⌝ }
-    ensures { λ _. ⌜ view (net (now (links .entry))) (now (values .exit)) ≡ with-wires (view (net (now (links .entry))) (now (values .entry))) (each (lower (net (now (links .entry)))) (view (net (now (links .entry))) (now (values .entry)) .wires) (from 0 (length (net (now (links .entry)) .outputs)))) ⌝ }
+    requires { ⌜ Linked links × Room values ⌝ }
+    ensures { λ _. ⌜ Turns links values (λ c w. each (lower c) w (from 0 (length (c .outputs)))) ⌝ }
 {
     let n = (outputs(links) + 63) / 64;
     let mut j = 0;

@@ -1,14 +1,13 @@
 // Stale gates are recomputed, each after all stale gates that it reads.
-ghost use Prim.Native.Nat.{_+_, _<_, _≤_};
 ghost use mathlib.Core.Path.{_≡_};
+ghost use Prim.Native.Nat.{_+_, _<_, _≤_};
 ghost use lib.ListN.{length};
 ghost use Rattle.model.specs.Base.{each, from};
 ghost use Rattle.model.specs.Kinds.{kind-at};
 ghost use Rattle.model.specs.Circuit.{kind-of-gate};
 ghost use Rattle.model.specs.Wires.{compute, recompute, behind, refresh-to, refresh, refresh-all, ready};
-ghost use Rattle.links.specs.Links.{net};
-// The definition `values` is named `view` here, beside the slice of that name.
-ghost use Rattle.wires.specs.View.{values as view, with-wires};
+ghost use Rattle.links.specs.Lent.{Linked, net-of, Room};
+ghost use Rattle.wires.specs.Lent.{wires-in, Turns};
 use crate::layout::DIRTY;
 use crate::layout::DT;
 use crate::layout::UPTIME;
@@ -30,8 +29,8 @@ use words::get;
 
 // What pure gate g gives.
 pub fn compute(links: &[usize], values: &[u8], g: usize) -> Value
-    requires { ⌜ (length (now links) ≡ 4816) × (65536 ≤ length (now values)) ⌝ }
-    ensures { λ r. ⌜ r ≡ compute (net (now (links .entry))) (view (net (now (links .entry))) (now (values .entry)) .wires) g ⌝ }
+    requires { ⌜ Linked links × Room values ⌝ }
+    ensures { λ r. ⌜ r ≡ compute (net-of links) (wires-in links values) g ⌝ }
 {
     match kind_of_gate(links, g) {
         // a Select
@@ -54,8 +53,8 @@ pub fn compute(links: &[usize], values: &[u8], g: usize) -> Value
 
 // Pure gate g shows what it gives, and is fresh.
 pub fn recompute(links: &[usize], values: &mut [u8], g: usize)
-    requires { ⌜ (length (now links) ≡ 4816) × (65536 ≤ length (now values)) ⌝ }
-    ensures { λ _. ⌜ view (net (now (links .entry))) (now (values .exit)) ≡ with-wires (view (net (now (links .entry))) (now (values .entry))) (recompute (net (now (links .entry))) (view (net (now (links .entry))) (now (values .entry)) .wires) g) ⌝ }
+    requires { ⌜ Linked links × Room values ⌝ }
+    ensures { λ _. ⌜ Turns links values (λ c w. recompute c w g) ⌝ }
 {
     let v = compute(links, values, g);
     show(links, values, output(links, g, 0), v);
@@ -64,16 +63,16 @@ pub fn recompute(links: &[usize], values: &mut [u8], g: usize)
 
 // How many inputs gate g has.
 fn inputs_of(links: &[usize], g: usize) -> usize
-    requires { ⌜ length (now links) ≡ 4816 ⌝ }
-    ensures { λ r. ⌜ (r ≡ length (kind-at (kind-of-gate (net (now (links .entry))) g) .ins)) × (r ≤ 10) ⌝ }
+    requires { ⌜ Linked links ⌝ }
+    ensures { λ r. ⌜ (r ≡ length (kind-at (kind-of-gate (net-of links) g) .ins)) × (r ≤ 10) ⌝ }
 {
     kinds::inputs(kind_of_gate(links, g))
 }
 
 // Gate g, if it is stale, is recomputed after all its stale sources, which go at most `deep` gates deep.
 fn refresh_to(links: &[usize], values: &mut [u8], deep: usize, g: usize)
-    requires { ⌜ (length (now links) ≡ 4816) × (65536 ≤ length (now values)) ⌝ }
-    ensures { λ _. ⌜ view (net (now (links .entry))) (now (values .exit)) ≡ with-wires (view (net (now (links .entry))) (now (values .entry))) (refresh-to (net (now (links .entry))) deep (view (net (now (links .entry))) (now (values .entry)) .wires) g) ⌝ }
+    requires { ⌜ Linked links × Room values ⌝ }
+    ensures { λ _. ⌜ Turns links values (λ c w. refresh-to c deep w g) ⌝ }
 {
     if deep > 0 {
         if is_dirty(links, values, g) {
@@ -87,8 +86,8 @@ fn refresh_to(links: &[usize], values: &mut [u8], deep: usize, g: usize)
 
 // What n inputs from a on read is refreshed, in their order.
 fn refresh_sources(links: &[usize], values: &mut [u8], deep: usize, a: usize, n: usize)
-    requires { ⌜ (length (now links) ≡ 4816) × (65536 ≤ length (now values)) × (a + n < 262144) ⌝ }
-    ensures { λ _. ⌜ view (net (now (links .entry))) (now (values .exit)) ≡ with-wires (view (net (now (links .entry))) (now (values .entry))) (each (behind (net (now (links .entry))) (refresh-to (net (now (links .entry))) deep)) (view (net (now (links .entry))) (now (values .entry)) .wires) (from a n)) ⌝ }
+    requires { ⌜ Linked links × Room values × (a + n < 262144) ⌝ }
+    ensures { λ _. ⌜ Turns links values (λ c w. each (behind c (refresh-to c deep)) w (from a n)) ⌝ }
 {
     let mut k = 0;
     while k < n {
@@ -99,8 +98,8 @@ fn refresh_sources(links: &[usize], values: &mut [u8], deep: usize, a: usize, n:
 
 // The gate that input i reads is refreshed, if it reads one.
 fn refresh_behind(links: &[usize], values: &mut [u8], deep: usize, i: usize)
-    requires { ⌜ (length (now links) ≡ 4816) × (65536 ≤ length (now values)) ⌝ }
-    ensures { λ _. ⌜ view (net (now (links .entry))) (now (values .exit)) ≡ with-wires (view (net (now (links .entry))) (now (values .entry))) (behind (net (now (links .entry))) (refresh-to (net (now (links .entry))) deep) (view (net (now (links .entry))) (now (values .entry)) .wires) i) ⌝ }
+    requires { ⌜ Linked links × Room values ⌝ }
+    ensures { λ _. ⌜ Turns links values (λ c w. behind c (refresh-to c deep) w i) ⌝ }
 {
     let s = source(links, i);
     match s {
@@ -117,24 +116,24 @@ fn refresh_behind(links: &[usize], values: &mut [u8], deep: usize, i: usize)
 
 // Gate g and all that it reads.
 pub fn refresh(links: &[usize], values: &mut [u8], g: usize)
-    requires { ⌜ (length (now links) ≡ 4816) × (65536 ≤ length (now values)) ⌝ }
-    ensures { λ _. ⌜ view (net (now (links .entry))) (now (values .exit)) ≡ with-wires (view (net (now (links .entry))) (now (values .entry))) (refresh (net (now (links .entry))) (view (net (now (links .entry))) (now (values .entry)) .wires) g) ⌝ }
+    requires { ⌜ Linked links × Room values ⌝ }
+    ensures { λ _. ⌜ Turns links values (λ c w. refresh c w g) ⌝ }
 {
     refresh_to(links, values, gates(links), g);
 }
 
 // What input i reads is fresh.
 pub fn ready(links: &[usize], values: &mut [u8], i: usize)
-    requires { ⌜ (length (now links) ≡ 4816) × (65536 ≤ length (now values)) ⌝ }
-    ensures { λ _. ⌜ view (net (now (links .entry))) (now (values .exit)) ≡ with-wires (view (net (now (links .entry))) (now (values .entry))) (ready (net (now (links .entry))) (view (net (now (links .entry))) (now (values .entry)) .wires) i) ⌝ }
+    requires { ⌜ Linked links × Room values ⌝ }
+    ensures { λ _. ⌜ Turns links values (λ c w. ready c w i) ⌝ }
 {
     refresh_behind(links, values, gates(links), i);
 }
 
 // Every stale gate is refreshed, the lowest first, until none remains.
 pub fn refresh_all(links: &[usize], values: &mut [u8])
-    requires { ⌜ (length (now links) ≡ 4816) × (65536 ≤ length (now values)) ⌝ }
-    ensures { λ _. ⌜ view (net (now (links .entry))) (now (values .exit)) ≡ with-wires (view (net (now (links .entry))) (now (values .entry))) (refresh-all (net (now (links .entry))) (view (net (now (links .entry))) (now (values .entry)) .wires)) ⌝ }
+    requires { ⌜ Linked links × Room values ⌝ }
+    ensures { λ _. ⌜ Turns links values (λ c w. refresh-all c w) ⌝ }
 {
     let mut d = get(values, DIRTY);
     while u64::count_ones(d) > 0 {

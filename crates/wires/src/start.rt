@@ -1,13 +1,10 @@
 // The wires at the start of a run.
-ghost use Prim.Native.Nat.{_≤_};
-ghost use mathlib.Core.Path.{_≡_};
 ghost use lib.ListN.{length};
 ghost use Rattle.model.specs.Base.{each, from};
 ghost use Rattle.model.specs.Opening.{wires-at-start};
-ghost use Rattle.links.specs.Links.{net};
-// The definition `values` is named `view` here, beside the slice of that name.
-ghost use Rattle.wires.specs.View.{values as view, with-wires};
+ghost use Rattle.links.specs.Lent.{Linked, Room};
 ghost use Rattle.wires.specs.Start.{blank, prepared, noted};
+ghost use Rattle.wires.specs.Lent.{Turns};
 use crate::checks::set_last;
 use crate::layout::TABLES;
 use crate::reading::look;
@@ -26,8 +23,8 @@ use words::put;
 
 // All tables are cleared.
 fn clear(links: &[usize], values: &mut [u8])
-    requires { ⌜ (length (now links) ≡ 4816) × (65536 ≤ length (now values)) ⌝ }
-    ensures { λ _. ⌜ view (net (now (links .entry))) (now (values .exit)) ≡ with-wires (view (net (now (links .entry))) (now (values .entry))) (blank (net (now (links .entry)))) ⌝ }
+    requires { ⌜ Linked links × Room values ⌝ }
+    ensures { λ _. ⌜ Turns links values (λ c _. blank c) ⌝ }
 {
     let mut k = 0;
     while k < TABLES {
@@ -38,8 +35,8 @@ fn clear(links: &[usize], values: &mut [u8])
 
 // Gate g, if it is pure, is stale; a Var shows its initial.
 fn prepare(links: &[usize], values: &mut [u8], g: usize)
-    requires { ⌜ (length (now links) ≡ 4816) × (65536 ≤ length (now values)) ⌝ }
-    ensures { λ _. ⌜ view (net (now (links .entry))) (now (values .exit)) ≡ with-wires (view (net (now (links .entry))) (now (values .entry))) (prepared (net (now (links .entry))) (view (net (now (links .entry))) (now (values .entry)) .wires) g) ⌝ }
+    requires { ⌜ Linked links × Room values ⌝ }
+    ensures { λ _. ⌜ Turns links values (λ c w. prepared c w g) ⌝ }
 {
     let kind = kind_of_gate(links, g);
     if kinds::is_pure(kind) {
@@ -53,8 +50,8 @@ fn prepare(links: &[usize], values: &mut [u8], g: usize)
 
 // Every gate is prepared.
 fn prepare_all(links: &[usize], values: &mut [u8])
-    requires { ⌜ (length (now links) ≡ 4816) × (65536 ≤ length (now values)) ⌝ }
-    ensures { λ _. ⌜ view (net (now (links .entry))) (now (values .exit)) ≡ with-wires (view (net (now (links .entry))) (now (values .entry))) (each (prepared (net (now (links .entry)))) (view (net (now (links .entry))) (now (values .entry)) .wires) (from 0 (length (net (now (links .entry)) .kinds)))) ⌝ }
+    requires { ⌜ Linked links × Room values ⌝ }
+    ensures { λ _. ⌜ Turns links values (λ c w. each (prepared c) w (from 0 (length (c .kinds)))) ⌝ }
 {
     let n = gates(links);
     let mut g = 0;
@@ -66,8 +63,8 @@ fn prepare_all(links: &[usize], values: &mut [u8])
 
 // The last value of input i, if it is watched, is what it reads.
 fn note(links: &[usize], values: &mut [u8], i: usize)
-    requires { ⌜ (length (now links) ≡ 4816) × (65536 ≤ length (now values)) ⌝ }
-    ensures { λ _. ⌜ view (net (now (links .entry))) (now (values .exit)) ≡ with-wires (view (net (now (links .entry))) (now (values .entry))) (noted (net (now (links .entry))) (view (net (now (links .entry))) (now (values .entry)) .wires) i) ⌝ }
+    requires { ⌜ Linked links × Room values ⌝ }
+    ensures { λ _. ⌜ Turns links values (λ c w. noted c w i) ⌝ }
 {
     if watching(links, i) {
         let v = look(links, values, i);
@@ -77,8 +74,8 @@ fn note(links: &[usize], values: &mut [u8], i: usize)
 
 // The last value of every watched input is what it reads.
 fn note_all(links: &[usize], values: &mut [u8])
-    requires { ⌜ (length (now links) ≡ 4816) × (65536 ≤ length (now values)) ⌝ }
-    ensures { λ _. ⌜ view (net (now (links .entry))) (now (values .exit)) ≡ with-wires (view (net (now (links .entry))) (now (values .entry))) (each (noted (net (now (links .entry)))) (view (net (now (links .entry))) (now (values .entry)) .wires) (from 0 (length (net (now (links .entry)) .pins)))) ⌝ }
+    requires { ⌜ Linked links × Room values ⌝ }
+    ensures { λ _. ⌜ Turns links values (λ c w. each (noted c) w (from 0 (length (c .pins)))) ⌝ }
 {
     let n = inputs(links);
     let mut i = 0;
@@ -90,8 +87,8 @@ fn note_all(links: &[usize], values: &mut [u8])
 
 // The wires at the start of a run, whatever the area held.
 pub fn start(links: &[usize], values: &mut [u8])
-    requires { ⌜ (length (now links) ≡ 4816) × (65536 ≤ length (now values)) ⌝ }
-    ensures { λ _. ⌜ view (net (now (links .entry))) (now (values .exit)) ≡ with-wires (view (net (now (links .entry))) (now (values .entry))) (wires-at-start (net (now (links .entry)))) ⌝ }
+    requires { ⌜ Linked links × Room values ⌝ }
+    ensures { λ _. ⌜ Turns links values (λ c _. wires-at-start c) ⌝ }
 {
     clear(links, values);
     prepare_all(links, values);

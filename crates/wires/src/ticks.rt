@@ -1,13 +1,11 @@
 // This tick, the Unions that have passed in it, and the next tick.
-ghost use Prim.Native.Nat.{_+_, _^_, _<_, _≤_};
 ghost use mathlib.Core.Path.{_≡_};
 ghost use mathlib.Core.Bool.{true, false};
-ghost use lib.ListN.{length, getD, set};
+ghost use lib.ListN.{getD, set};
 ghost use Rattle.model.specs.State.{unions-passed≔};
 ghost use Rattle.model.specs.Opening.{next-tick};
-ghost use Rattle.links.specs.Links.{net};
-// The definition `values` is named `view` here, beside the slice of that name.
-ghost use Rattle.wires.specs.View.{values as view, with-wires};
+ghost use Rattle.links.specs.Lent.{Linked, Room};
+ghost use Rattle.wires.specs.Lent.{wires-in, Turns, Tick-fits};
 use crate::layout::DT;
 use crate::layout::TICK;
 use crate::layout::UNIONS_PASSED;
@@ -19,8 +17,8 @@ use words::put;
 
 // Whether Union g has passed in this tick.
 pub fn passed(links: &[usize], values: &[u8], g: usize) -> bool
-    requires { ⌜ (length (now links) ≡ 4816) × (65536 ≤ length (now values)) ⌝ }
-    ensures { λ r. ⌜ r ≡ getD (view (net (now (links .entry))) (now (values .entry)) .wires .unions-passed) g false ⌝ }
+    requires { ⌜ Linked links × Room values ⌝ }
+    ensures { λ r. ⌜ r ≡ getD (wires-in links values .unions-passed) g false ⌝ }
 {
     if g < gates(links) {
         (get(values, UNIONS_PASSED) >> g) % 2 != 0
@@ -31,8 +29,8 @@ pub fn passed(links: &[usize], values: &[u8], g: usize) -> bool
 
 // Union g passes.
 pub fn pass(links: &[usize], values: &mut [u8], g: usize)
-    requires { ⌜ (length (now links) ≡ 4816) × (65536 ≤ length (now values)) ⌝ }
-    ensures { λ _. ⌜ view (net (now (links .entry))) (now (values .exit)) ≡ with-wires (view (net (now (links .entry))) (now (values .entry))) (unions-passed≔ (view (net (now (links .entry))) (now (values .entry)) .wires) (set (view (net (now (links .entry))) (now (values .entry)) .wires .unions-passed) g true)) ⌝ }
+    requires { ⌜ Linked links × Room values ⌝ }
+    ensures { λ _. ⌜ Turns links values (λ _ w. unions-passed≔ w (set (w .unions-passed) g true)) ⌝ }
 {
     if g < gates(links) {
         let d = get(values, UNIONS_PASSED);
@@ -42,24 +40,24 @@ pub fn pass(links: &[usize], values: &mut [u8], g: usize)
 
 // The number of this tick.
 pub fn tick(links: &[usize], values: &[u8]) -> u64
-    requires { ⌜ (length (now links) ≡ 4816) × (65536 ≤ length (now values)) ⌝ }
-    ensures { λ r. ⌜ r ≡ view (net (now (links .entry))) (now (values .entry)) .wires .tick ⌝ }
+    requires { ⌜ Linked links × Room values ⌝ }
+    ensures { λ r. ⌜ r ≡ wires-in links values .tick ⌝ }
 {
     get(values, TICK)
 }
 
 // The length of this tick, as f64 bits.
 pub fn dt(links: &[usize], values: &[u8]) -> u64
-    requires { ⌜ (length (now links) ≡ 4816) × (65536 ≤ length (now values)) ⌝ }
-    ensures { λ r. ⌜ r ≡ view (net (now (links .entry))) (now (values .entry)) .wires .dt ⌝ }
+    requires { ⌜ Linked links × Room values ⌝ }
+    ensures { λ r. ⌜ r ≡ wires-in links values .dt ⌝ }
 {
     get(values, DT)
 }
 
 // The next tick begins, of this length: no Union has passed.
 pub fn next_tick(links: &[usize], values: &mut [u8], dt: u64)
-    requires { ⌜ (length (now links) ≡ 4816) × (65536 ≤ length (now values)) × (view (net (now links)) (now values) .wires .tick + 1 < 2 ^ 64) ⌝ }
-    ensures { λ _. ⌜ view (net (now (links .entry))) (now (values .exit)) ≡ with-wires (view (net (now (links .entry))) (now (values .entry))) (next-tick (view (net (now (links .entry))) (now (values .entry)) .wires) dt) ⌝ }
+    requires { ⌜ Linked links × Room values × Tick-fits links values ⌝ }
+    ensures { λ _. ⌜ Turns links values (λ _ w. next-tick w dt) ⌝ }
 {
     let tick = get(values, TICK);
     let uptime = get(values, UPTIME);

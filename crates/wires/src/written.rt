@@ -1,15 +1,16 @@
 // The Vars written, and how they reach what reads them.
-ghost use Prim.Native.Nat.{_≤_};
 ghost use mathlib.Core.Path.{_≡_};
+ghost use Prim.Native.Nat.{_≤_};
 ghost use lib.ListN.{length, take};
-ghost use Rattle.words.specs.Words.{words};
+ghost use Rattle.words.specs.Slices.{was};
 ghost use Rattle.model.specs.Base.{among, each};
 ghost use Rattle.model.specs.Wires.{mark-readers};
 ghost use Rattle.model.specs.Exec.{record-write};
 ghost use Rattle.model.specs.Settle.{publish-writes};
-ghost use Rattle.links.specs.Links.{net};
-// The definition `values` is named `view` here, beside the slice of that name.
-ghost use Rattle.wires.specs.View.{cut, values as view, with-wires};
+ghost use Rattle.model.specs.Circuit.{most-gates};
+ghost use Rattle.links.specs.Lent.{Linked, Room};
+ghost use Rattle.wires.specs.View.{cut};
+ghost use Rattle.wires.specs.Lent.{wires-in, Turns};
 use crate::layout::MOST_WRITTEN;
 use crate::layout::WRITTEN;
 use crate::layout::WRITTEN_COUNT;
@@ -19,8 +20,8 @@ use words::put;
 
 // Whether o is one of the first n Vars written.
 fn is_written(values: &[u8], n: usize, o: usize) -> bool
-    requires { ⌜ (65536 ≤ length (now values)) × (n ≤ 64) ⌝ }
-    ensures { λ r. ⌜ r ≡ among o (take n (cut (words (now (values .entry))) .written)) ⌝ }
+    requires { ⌜ Room values × (n ≤ 64) ⌝ }
+    ensures { λ r. ⌜ r ≡ among o (take n (cut (was values) .written)) ⌝ }
 {
     let mut k = 0;
     while k < n {
@@ -34,8 +35,8 @@ fn is_written(values: &[u8], n: usize, o: usize) -> bool
 
 // A Var written, once; o is its output.
 pub fn record_write(links: &[usize], values: &mut [u8], o: usize)
-    requires { ⌜ (length (now links) ≡ 4816) × (65536 ≤ length (now values)) ⌝ }
-    ensures { λ _. ⌜ view (net (now (links .entry))) (now (values .exit)) ≡ with-wires (view (net (now (links .entry))) (now (values .entry))) (record-write (net (now (links .entry))) (view (net (now (links .entry))) (now (values .entry)) .wires) o) ⌝ }
+    requires { ⌜ Linked links × Room values ⌝ }
+    ensures { λ _. ⌜ Turns links values (λ c w. record-write c w o) ⌝ }
 {
     let n = get(values, WRITTEN_COUNT) as usize;
     if MOST_WRITTEN <= n {
@@ -50,8 +51,8 @@ pub fn record_write(links: &[usize], values: &mut [u8], o: usize)
 
 // How many Vars are written.
 fn written(links: &[usize], values: &[u8]) -> usize
-    requires { ⌜ (length (now links) ≡ 4816) × (65536 ≤ length (now values)) ⌝ }
-    ensures { λ r. ⌜ (r ≡ length (view (net (now (links .entry))) (now (values .entry)) .wires .written)) × (r ≤ 64) ⌝ }
+    requires { ⌜ Linked links × Room values ⌝ }
+    ensures { λ r. ⌜ (r ≡ length (wires-in links values .written)) × (r ≤ most-gates) ⌝ }
 {
     let n = get(values, WRITTEN_COUNT) as usize;
     if n < MOST_WRITTEN {
@@ -62,8 +63,8 @@ fn written(links: &[usize], values: &[u8]) -> usize
 
 // All that reads the Vars written is marked, in the order of their first write.
 fn mark_written(links: &[usize], values: &mut [u8])
-    requires { ⌜ (length (now links) ≡ 4816) × (65536 ≤ length (now values)) ⌝ }
-    ensures { λ _. ⌜ view (net (now (links .entry))) (now (values .exit)) ≡ with-wires (view (net (now (links .entry))) (now (values .entry))) (each (mark-readers (net (now (links .entry)))) (view (net (now (links .entry))) (now (values .entry)) .wires) (view (net (now (links .entry))) (now (values .entry)) .wires .written)) ⌝ }
+    requires { ⌜ Linked links × Room values ⌝ }
+    ensures { λ _. ⌜ Turns links values (λ c w. each (mark-readers c) w (w .written)) ⌝ }
 {
     let n = written(links, values);
     let mut k = 0;
@@ -75,8 +76,8 @@ fn mark_written(links: &[usize], values: &mut [u8])
 
 // The Vars written reach what reads them, also where the value did not change.
 pub fn publish_writes(links: &[usize], values: &mut [u8])
-    requires { ⌜ (length (now links) ≡ 4816) × (65536 ≤ length (now values)) ⌝ }
-    ensures { λ _. ⌜ view (net (now (links .entry))) (now (values .exit)) ≡ with-wires (view (net (now (links .entry))) (now (values .entry))) (publish-writes (net (now (links .entry))) (view (net (now (links .entry))) (now (values .entry)) .wires)) ⌝ }
+    requires { ⌜ Linked links × Room values ⌝ }
+    ensures { λ _. ⌜ Turns links values (λ c w. publish-writes c w) ⌝ }
 {
     mark_written(links, values);
     put(values, WRITTEN_COUNT, 0);

@@ -2,7 +2,8 @@
 ghost use mathlib.Core.Path.{_≡_};
 ghost use Prim.Native.Nat.{_+_, _*_, _<_, _≤_};
 ghost use lib.ListN.{length, getD};
-ghost use Rattle.words.specs.Words.{words, Stored, signed, unsigned};
+ghost use Rattle.words.specs.Words.{Stored, signed, unsigned};
+ghost use Rattle.words.specs.Slices.{before, after, was};
 
 pub mod counting;
 pub mod rows;
@@ -17,7 +18,7 @@ fn wide(x: u8) -> u64
 // Word i of the area.
 pub fn get(area: &[u8], i: usize) -> u64
     requires { ⌜ i * 8 + 8 ≤ length (now area) ⌝ }
-    ensures { λ r. ⌜ r ≡ getD (words (now (area .entry))) i 0 ⌝ }
+    ensures { λ r. ⌜ r ≡ getD (was area) i 0 ⌝ }
 {
     let o = i * 8;
     wide(area[o])
@@ -33,7 +34,7 @@ pub fn get(area: &[u8], i: usize) -> u64
 // Word i of the area becomes v.
 pub fn put(area: &mut [u8], i: usize, v: u64)
     requires { ⌜ i * 8 + 8 ≤ length (now area) ⌝ }
-    ensures { λ _. ⌜ Stored (now (area .entry)) (now (area .exit)) i v ⌝ }
+    ensures { λ _. ⌜ Stored (before area) (after area) i v ⌝ }
 {
     let o = i * 8;
     let v1 = v / 256;
@@ -55,7 +56,7 @@ pub fn put(area: &mut [u8], i: usize, v: u64)
 
 // Word i, or 0 where the area has no word i.
 pub fn read(area: &[u8], i: usize) -> u64
-    ensures { λ r. ⌜ r ≡ getD (words (now (area .entry))) i 0 ⌝ }
+    ensures { λ r. ⌜ r ≡ getD (was area) i 0 ⌝ }
 {
     if area.len() / 8 <= i {
         return 0;
@@ -65,7 +66,7 @@ pub fn read(area: &[u8], i: usize) -> u64
 
 // Word i becomes v. Where the area has no word i, nothing changes.
 pub fn write(area: &mut [u8], i: usize, v: u64)
-    ensures { λ _. ⌜ Stored (now (area .entry)) (now (area .exit)) i v ⌝ }
+    ensures { λ _. ⌜ Stored (before area) (after area) i v ⌝ }
 {
     if i < area.len() / 8 {
         put(area, i, v);
@@ -92,14 +93,14 @@ pub fn unsigned(z: i64) -> u64
 
 // What word i stands for, or 0 where the area has no word i.
 pub fn read_signed(area: &[u8], i: usize) -> i64
-    ensures { λ r. ⌜ r ≡ signed (getD (words (now (area .entry))) i 0) ⌝ }
+    ensures { λ r. ⌜ r ≡ signed (getD (was area) i 0) ⌝ }
 {
     signed(read(area, i))
 }
 
 // Word i becomes the one that stands for z. Where the area has no word i, nothing changes.
 pub fn write_signed(area: &mut [u8], i: usize, z: i64)
-    ensures { λ _. ⌜ Stored (now (area .entry)) (now (area .exit)) i (unsigned z) ⌝ }
+    ensures { λ _. ⌜ Stored (before area) (after area) i (unsigned z) ⌝ }
 {
     write(area, i, unsigned(z));
 }

@@ -1,0 +1,8 @@
+-- What contracts say of chains that are lent.
+use Prim.Native.Nat.{ℕ}
+use Rattle.words.specs.Slices.{Slice, before}
+use Rattle.linking.specs.Building.{chains, size-at}
+
+-- how many members each chain has
+abbrev pub sizes-in : Slice → Slice → ℕ → ℕ
+sizes-in heads next = size-at (chains (before heads) (before next))

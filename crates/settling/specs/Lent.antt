@@ -1,0 +1,46 @@
+-- What contracts say of settling, over the circuit of the links.
+use Prim.Native.Nat.{ℕ}
+use mathlib.Core.Path.{_≡_}
+use mathlib.Core.Option.{Option}
+use Rattle.words.specs.Slices.{Slice, before, after}
+use Rattle.schedule.specs.Schedule.{Filed}
+use Rattle.model.specs.Circuit.{Circuit}
+use Rattle.model.specs.State.{State}
+use Rattle.model.specs.Settle.{Settled}
+use Rattle.links.specs.Lent.{net-of}
+use Rattle.wires.specs.Lent.{values-in, values-out}
+use Rattle.states.specs.View.{Delays, delays}
+use Rattle.units.specs.View.{Lists, Units}
+use Rattle.units.specs.Raising.{answer, lists-after, with-lists, Went}
+use Rattle.areas.specs.Areas.{Areas, with-state}
+use Rattle.settling.specs.declared.Raised.{Raised}
+use Rattle.settling.specs.declared.Round.{Round}
+use Rattle.settling.specs.Settling.{settled}
+use Rattle.settling.specs.Rounds.{Acts, answer-of, round-answer, after-round}
+
+-- wires and small states go on as f has it, and r is what f raises: of the wires alone, and of both
+abbrev pub Acts-in-values : Slice → Slice → (Circuit → State → Settled) → Raised → Type 0
+Acts-in-values links vs f r = (d : Delays) → Acts (net-of links) (values-in links vs) d (values-out links vs) d (f (net-of links)) r
+
+abbrev pub Acts-in-both : Slice → Slice → Slice → (Circuit → State → Settled) → Raised → Type 0
+Acts-in-both links vs ds f r =
+    Acts
+    (net-of links)
+    (values-in links vs)
+    (delays (net-of links) (before ds))
+    (values-out links vs)
+    (delays (net-of links) (after ds))
+    (f (net-of links))
+    r
+
+-- a became b, and r is what z raises
+abbrev pub Settles : Circuit → Areas → Areas → Raised → Settled → Type 0
+Settles c a b r z = (b ≡ with-state a (z .state)) × (settled c (z .state) r ≡ z)
+
+-- u became v, and r is a round's answer, as filing came to x
+abbrev pub Files-in-round : Units → Units → Round → Filed Lists → Type 0
+Files-in-round u v r x = (r ≡ answer-of (answer x)) × (v ≡ with-lists u (lists-after (u .lists) x))
+
+-- a became b, with the answer r, as a round came to w
+abbrev pub Goes-round : Areas → Areas → Round → Option Went → Type 0
+Goes-round a b r w = (r ≡ round-answer w) × (b ≡ after-round a w)
