@@ -111,7 +111,7 @@ fn play(circuit: &[u8], script: &[u8]) {
     );
     match answer {
         Answer::Refused(number) => print_refused(number),
-        Answer::Played(stop, ticks, bytes) => {
+        Answer::Played { stop, ticks, bytes } => {
             print_records(circuit, &log, (bytes / 8) as usize);
             print_end(stop, ticks);
         }

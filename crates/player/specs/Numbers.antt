@@ -1,8 +1,9 @@
 -- The numbers that a host is told: document 01's number for each answer, the ticks done, and the bytes of the log that hold records.
 use Prim.Native.Nat.{ℕ, _*_}
+use mathlib.Core.Path.{_≡_}
 use mathlib.Core.List.{List}
 use lib.ListN.{length, set}
-use Rattle.model.specs.Answer.{refused, played}
+use Rattle.model.specs.Answer.{refused, played, number}
 use Rattle.model.specs.Answer as model
 use Rattle.run.specs.declared.Answer.{Answer}
 use Rattle.run.specs.declared.Answer.the-variants.{Refused, Played}
@@ -37,3 +38,8 @@ log-bytes (played p) = 8 * length (p .log)
 -- the words for the ticks done and the bytes, as far as there is room for them
 unfoldable pub words-told : model.Answer → List ℕ → List ℕ
 words-told a ws = set (set ws 0 (ticks-done a)) 1 (log-bytes a)
+
+-- what a host is told of an answer: its number, and the words
+pub record Tells-host (a : model.Answer) (r : ℕ) (before after : List ℕ) : Type 0 where
+  pub number : r ≡ number a
+  pub words : after ≡ words-told a before

@@ -1,14 +1,11 @@
 // The player as C functions, for a host program in Rust or C.
 ghost use mathlib.Core.Path.{_≡_};
-ghost use mathlib.Core.Option.{none, some};
+ghost use mathlib.Core.Option.{none};
 ghost use lib.ListN.{set};
-ghost use lib.ListN.{length};
 ghost use Rattle.words.specs.Slices.{before, after};
 ghost use Rattle.model.specs.Questions.{refusal};
-ghost use Rattle.model.specs.Answer.{number, log-after, area-after};
-ghost use Rattle.model.specs.Order.{Whole-run-in-order};
-ghost use Rattle.run.specs.Told.{lent, answered};
-ghost use Rattle.player.specs.Numbers.{number-of, ticks-of, bytes-of, words-told};
+ghost use Rattle.run.specs.Call.{Right-call};
+ghost use Rattle.player.specs.Numbers.{number-of, ticks-of, bytes-of, Tells-host};
 use circuit::check;
 use run::Answer;
 
@@ -26,7 +23,7 @@ fn number_of(a: Answer) -> u64
 {
     match a {
         Answer::Refused(n) => n,
-        Answer::Played(stop, _, _) => stop,
+        Answer::Played { stop, .. } => stop,
     }
 }
 
@@ -36,7 +33,7 @@ fn ticks_of(a: Answer) -> u64
 {
     match a {
         Answer::Refused(_) => 0,
-        Answer::Played(_, ticks, _) => ticks,
+        Answer::Played { ticks, .. } => ticks,
     }
 }
 
@@ -46,7 +43,7 @@ fn bytes_of(a: Answer) -> u64
 {
     match a {
         Answer::Refused(_) => 0,
-        Answer::Played(_, _, bytes) => bytes,
+        Answer::Played { bytes, .. } => bytes,
     }
 }
 
@@ -71,13 +68,7 @@ pub extern "C" fn hazhirun_run(
     delays: &mut [u8],
     told: &mut [u64],
 ) -> u64
-    ensures { λ r. ⌜ r ≡ number (answered (before circuit) (before script) (before log) (before values) (before units) (before delays)) ⌝ }
-    ensures { λ _. ⌜ after told ≡ words-told (answered (before circuit) (before script) (before log) (before values) (before units) (before delays)) (before told) ⌝ }
-    ensures { λ _. ⌜ after log ≡ log-after (answered (before circuit) (before script) (before log) (before values) (before units) (before delays)) (before log) ⌝ }
-    ensures { λ _. ⌜ after values ≡ area-after (answered (before circuit) (before script) (before log) (before values) (before units) (before delays)) (before values) ⌝ }
-    ensures { λ _. ⌜ after units ≡ area-after (answered (before circuit) (before script) (before log) (before values) (before units) (before delays)) (before units) ⌝ }
-    ensures { λ _. ⌜ after delays ≡ area-after (answered (before circuit) (before script) (before log) (before values) (before units) (before delays)) (before delays) ⌝ }
-    ensures { λ _. ⌜ ((refusal (some (lent (before values) (before units) (before delays))) (before circuit) (before script) ≡ 0) → Whole-run-in-order (lent (before values) (before units) (before delays)) (length (before log)) (before circuit) (before script)) ⌝ }
+    ensures { λ r. ⌜ Right-call circuit script log values units delays (λ a. Tells-host a r (before told) (after told)) ⌝ }
 {
     let a = run::run(circuit, script, log, values, units, delays);
     put_at(told, 0, ticks_of(a));

@@ -5,13 +5,18 @@ use mathlib.Core.List.{List}
 use lib.ListN.{length, replicate}
 use Rattle.model.specs.Answer.{log-after, area-after}
 use Rattle.model.specs.Answer as model
-use Rattle.run.specs.Told.{answered, told}
+use Rattle.run.specs.Call.{Call, call-answer}
+use Rattle.run.specs.Told.{told}
 use Rattle.replay.specs.declared.due.Due.{Due}
 use Rattle.replay.specs.Due.{as-due}
 
 -- a log or an area before the run
 abbrev pub filled : List ℕ → List ℕ
 filled l = replicate (length l) 165
+
+-- the call that is made
+abbrev pub called : (circuit script log vs us ds : List ℕ) → Call
+called circuit script log vs us ds = record { circuit = circuit; script = script; log = log; values = vs; units = us; delays = ds }
 
 -- an answer of the definition, and what it leaves of this log and these areas, are as they are due
 abbrev pub left-as-due : Due → List ℕ → model.Answer → (log vs us ds : List ℕ) → Bool
@@ -20,4 +25,4 @@ left-as-due d records a log vs us ds = as-due d (told a) records 165 (log-after 
 -- so is the definition's answer to this circuit and script, where a log and areas of these lengths are lent
 unfoldable pub met : Due → (circuit script records log vs us ds : List ℕ) → Bool
 met d circuit script records log vs us ds =
-    left-as-due d records (answered circuit script (filled log) (filled vs) (filled us) (filled ds)) (filled log) (filled vs) (filled us) (filled ds)
+    left-as-due d records (call-answer (called circuit script (filled log) (filled vs) (filled us) (filled ds))) (filled log) (filled vs) (filled us) (filled ds)

@@ -43,7 +43,7 @@ pub fn is_end(due: Due, answer: Answer) -> bool
 {
     match answer {
         Answer::Refused(_) => false,
-        Answer::Played(stop, ticks, bytes) => {
+        Answer::Played { stop, ticks, bytes } => {
             if stop != due.stop {
                 return false;
             }

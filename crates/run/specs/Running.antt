@@ -2,19 +2,24 @@
 use Prim.Native.Nat.{ℕ, _+_, _-_, _*_, _≤_}
 use mathlib.Core.Path.{_≡_}
 use mathlib.Core.Bool.{true}
-use mathlib.Core.List.{List, _++_, map}
+use mathlib.Core.List.{List, [], _++_, map}
 use lib.Dec.{eqb}
-use lib.ListN.{length, drop}
+use lib.ListN.{length, drop, replicate}
 use Rattle.words.specs.Words.{words, tail}
+use Rattle.words.specs.Slices.{Ref, Slice, before, after, was}
 use Rattle.schedule.specs.Schedule.{run, run-on}
 use Rattle.model.specs.Base.{all, sum}
 use Rattle.model.specs.Circuit.{Circuit, part, word-at, kind-of-gate}
 use Rattle.model.specs.Script.{Given, script}
 use Rattle.model.specs.Questions.{names-constant}
+use Rattle.model.specs.Opening.{start}
 use Rattle.model.specs.Unit.{World}
-use Rattle.model.specs.Run.{Played, seen}
-use Rattle.areas.specs.Areas.{Areas}
+use Rattle.model.specs.Run.{Played, seen, world-at-start}
+use Rattle.links.specs.Links.{net}
+use Rattle.links.specs.Lent.{net-of}
+use Rattle.areas.specs.Areas.{Areas, areas}
 use Rattle.passes.specs.Waiting.{bare, waiting}
+use Rattle.run.specs.declared.Outcome.{Outcome}
 
 -- these records and so many ticks, and then what is seen of the rest
 unfoldable pub more : List ℕ → ℕ → Played → Played
@@ -42,6 +47,25 @@ pub record Logged (p : Played) (before log : List ℕ) (at end k : ℕ) : Type 0
 -- what a script with these words gives to its ticks
 abbrev pub givens : Circuit → List ℕ → List Given
 givens c ws = script (c .constants) ws
+
+-- what is seen of its run over c, with a log of so many bytes
+abbrev pub seen-of : Circuit → ℕ → List ℕ → ℕ → Played
+seen-of c limit ws room = seen c limit (run (bare c limit) (givens c ws) (world-at-start c limit room))
+
+-- the same in a contract: the log shows it, and r says how it came out
+abbrev pub Logs : Slice → Slice → Slice → ℕ → Outcome → Type 0
+Logs links script log limit r =
+    Logged (seen-of (net-of links) limit (was script) (length (before log))) (before log) (after log) (r .size) (r .stop) (r .ticks)
+
+-- the areas are as at the start of a run
+abbrev pub Started : Ref → Ref → Ref → Ref → Type 0
+Started links vs us ds =
+    (areas (net (links .now)) (vs .now) (us .now) (ds .now) .state ≡ start (net (links .now)))
+    × (areas (net (links .now)) (vs .now) (us .now) (ds .now) .lists .carried ≡ [])
+
+-- an area is made zero
+abbrev pub Zeroed : Slice → Type 0
+Zeroed s = after s ≡ replicate (length (before s)) 0
 
 -- a script that fits the circuit: few ticks, all words there, counts that add up, and stimuli of gates and constants that there are
 pub record Good-script (c : Circuit) (ws : List ℕ) : Type 0 where

@@ -1,11 +1,9 @@
 // An area made zero.
-ghost use mathlib.Core.Path.{_≡_};
-ghost use lib.ListN.{length, replicate};
-ghost use Rattle.words.specs.Slices.{before, after};
+ghost use Rattle.run.specs.Running.{Zeroed};
 
 // Every byte of the area is zero.
 pub fn clear(area: &mut [u8])
-    ensures { λ _. ⌜ after area ≡ replicate (length (before area)) 0 ⌝ }
+    ensures { λ _. ⌜ Zeroed area ⌝ }
 {
     let n = area.len();
     let mut i = 0;

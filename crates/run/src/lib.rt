@@ -1,26 +1,20 @@
 // A run: a script played over a circuit, tick after tick.
 ghost use mathlib.Core.Path.{_≡_};
 ghost use mathlib.Core.List.{[]};
-ghost use mathlib.Core.Option.{some};
 ghost use Prim.Native.Nat.{_*_, _^_, _≤_, _<_};
-ghost use lib.ListN.{length, replicate};
+ghost use lib.ListN.{length};
 ghost use Rattle.words.specs.Words.{words};
-ghost use Rattle.words.specs.Slices.{before, after, was};
-ghost use Rattle.schedule.specs.Schedule.{run};
+ghost use Rattle.words.specs.Slices.{before};
 ghost use Rattle.model.specs.Opening.{start};
-ghost use Rattle.model.specs.Questions.{refusal};
-ghost use Rattle.model.specs.Run.{seen, most-steps, world-at-start};
-ghost use Rattle.model.specs.Answer.{log-after, area-after};
-ghost use Rattle.model.specs.Order.{Whole-run-in-order};
+ghost use Rattle.model.specs.Run.{most-steps};
 ghost use Rattle.links.specs.Links.{net};
-ghost use Rattle.links.specs.Lent.{Linked, net-of, Room};
+ghost use Rattle.links.specs.Lent.{Linked, Room};
 ghost use Rattle.states.specs.Lent.{Parts, Slots, Slots-stay};
-ghost use Rattle.areas.specs.Areas.{areas};
 ghost use Rattle.areas.specs.Lent.{Over-all};
 ghost use Rattle.unit.specs.Unit.{Few-calls};
-ghost use Rattle.passes.specs.Waiting.{bare};
-ghost use Rattle.run.specs.Running.{givens, Good-script, Logged};
-ghost use Rattle.run.specs.Told.{lent, answered, told};
+ghost use Rattle.run.specs.Running.{Good-script, Logs, Started, Zeroed};
+ghost use Rattle.run.specs.Told.{told};
+ghost use Rattle.run.specs.Call.{Right-call};
 use crate::clearing::clear;
 use circuit::refusal_and_links;
 use links::layout::CELLS;
@@ -34,11 +28,11 @@ const MOST_STEPS: u64 = 50000000;
 // The answer to a call: refused with the number of a question; or played, with the stop, or 0, the ticks done, and how many bytes of the log hold records.
 pub enum Answer {
     Refused(u64),
-    Played(u64, u64, u64),
+    Played { stop: u64, ticks: u64, bytes: u64 },
 }
 
 // What playing came to: the stop, or 0, the ticks done, and how many words of the log hold records.
-pub struct Played {
+pub struct Outcome {
     pub stop: u64,
     pub ticks: u64,
     pub size: usize,
@@ -63,11 +57,11 @@ fn play(
     script: &[u8],
     log: &mut [u8],
     limit: u64,
-) -> Played
+) -> Outcome
     requires { ⌜ Linked links × Room values × Room units × Slots links delays × Few-calls (net (now links)) ⌝ }
     requires { ⌜ (limit < 2 ^ 63) × Good-script (net (now links)) (words (now script)) ⌝ }
-    requires { ⌜ (areas (net (now links)) (now values) (now units) (now delays) .state ≡ start (net (now links))) × (areas (net (now links)) (now values) (now units) (now delays) .lists .carried ≡ []) ⌝ }
-    ensures { λ r. ⌜ Logged (seen (net-of links) limit (run (bare (net-of links) limit) (givens (net-of links) (was script)) (world-at-start (net-of links) limit (length (before log))))) (before log) (after log) (r .size) (r .stop) (r .ticks) ⌝ }
+    requires { ⌜ Started links values units delays ⌝ }
+    ensures { λ r. ⌜ Logs links script log limit r ⌝ }
     ensures { λ r. ⌜ r .size * 8 ≤ length (before log) ⌝ }
 {
     let ticks = get(script, 0) as usize;
@@ -96,7 +90,7 @@ fn play(
         );
         at += t.size;
         if t.stop != 0 {
-            return Played {
+            return Outcome {
                 stop: t.stop,
                 ticks: k as u64,
                 size: at,
@@ -105,7 +99,7 @@ fn play(
         used += n;
         k += 1;
     }
-    Played {
+    Outcome {
         stop: 0,
         ticks: ticks as u64,
         size: at,
@@ -120,12 +114,12 @@ fn perform(
     values: &mut [u8],
     units: &mut [u8],
     delays: &mut [u8],
-) -> Played
+) -> Outcome
     requires { ⌜ Linked links × Room values × Room units × Parts links delays ⌝ }
     requires { ⌜ Few-calls (net (now links)) × Good-script (net (now links)) (words (now script)) ⌝ }
-    ensures { λ r. ⌜ Logged (seen (net-of links) most-steps (run (bare (net-of links) most-steps) (givens (net-of links) (was script)) (world-at-start (net-of links) most-steps (length (before log))))) (before log) (after log) (r .size) (r .stop) (r .ticks) ⌝ }
+    ensures { λ r. ⌜ Logs links script log most-steps r ⌝ }
     ensures { λ r. ⌜ r .size * 8 ≤ length (before log) ⌝ }
-    ensures { λ _. ⌜ (after values ≡ replicate (length (before values)) 0) × (after units ≡ replicate (length (before units)) 0) × (after delays ≡ replicate (length (before delays)) 0) ⌝ }
+    ensures { λ _. ⌜ Zeroed values × Zeroed units × Zeroed delays ⌝ }
 {
     start(links, values, units, delays);
     let played = play(links, values, units, delays, script, log, MOST_STEPS);
@@ -144,12 +138,7 @@ pub fn run(
     units: &mut [u8],
     delays: &mut [u8],
 ) -> Answer
-    ensures { λ r. ⌜ r ≡ told (answered (before circuit) (before script) (before log) (before values) (before units) (before delays)) ⌝ }
-    ensures { λ _. ⌜ after log ≡ log-after (answered (before circuit) (before script) (before log) (before values) (before units) (before delays)) (before log) ⌝ }
-    ensures { λ _. ⌜ after values ≡ area-after (answered (before circuit) (before script) (before log) (before values) (before units) (before delays)) (before values) ⌝ }
-    ensures { λ _. ⌜ after units ≡ area-after (answered (before circuit) (before script) (before log) (before values) (before units) (before delays)) (before units) ⌝ }
-    ensures { λ _. ⌜ after delays ≡ area-after (answered (before circuit) (before script) (before log) (before values) (before units) (before delays)) (before delays) ⌝ }
-    ensures { λ _. ⌜ ((refusal (some (lent (before values) (before units) (before delays))) (before circuit) (before script) ≡ 0) → Whole-run-in-order (lent (before values) (before units) (before delays)) (length (before log)) (before circuit) (before script)) ⌝ }
+    ensures { λ r. ⌜ Right-call circuit script log values units delays (λ a. r ≡ told a) ⌝ }
 {
     let mut links = [0usize; CELLS];
     let number = refusal_and_links(
@@ -164,5 +153,9 @@ pub fn run(
         return Answer::Refused(number);
     }
     let played = perform(&links, script, log, values, units, delays);
-    Answer::Played(played.stop, played.ticks, (played.size * 8) as u64)
+    Answer::Played {
+        stop: played.stop,
+        ticks: played.ticks,
+        bytes: (played.size * 8) as u64,
+    }
 }

@@ -37,7 +37,17 @@ same-length-5 : tie.Need-same-length-5
 same-length-5 c = search needs
 
 returns : tie.Need-returns
-returns c = let e = c .before .before .before .before .before .before .before .before .before .before .before .before .before .before .before .before .before .before .before .run .ensures in (told-number _ _ _ (e .0) (c .number-of .ensures), (told-words _ _ _ _ _ _ _ (e .0) (c .before .before .before .before .before .before .before .before .before .ticks-of .ensures) (c .before .before .before .before .before .before .before .before .put-at .ensures) (c .before .before .before .before .bytes-of .ensures) (c .before .before .before .put-at2 .ensures), e .1))
+returns c =
+    let e = c .before .before .before .before .before .before .before .before .before .before .before .before .before .before .before .before .before .before .before .run .ensures in
+    record {
+      answer = record { number = told-number _ _ _ (e .answer) (c .number-of .ensures); words = told-words _ _ _ _ _ _ _ (e .answer) (c .before .before .before .before .before .before .before .before .before .ticks-of .ensures) (c .before .before .before .before .before .before .before .before .put-at .ensures) (c .before .before .before .before .bytes-of .ensures) (c .before .before .before .put-at2 .ensures) };
+      numbers = e .numbers;
+      log = e .log;
+      values = e .values;
+      units = e .units;
+      delays = e .delays;
+      order = e .order;
+    }
 
 pub hazhirun-run-spec : {M : Type 1} → statement M
 hazhirun-run-spec =

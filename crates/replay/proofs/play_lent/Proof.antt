@@ -50,7 +50,7 @@ same-length-4 c = search needs
 
 -- src/main.rt:76:1
 returns : tie.Need-returns
-returns c = meets _ _ _ _ _ _ _ _ _ _ _ _ _ _ _ _ _ _ (c .before .before .before .before .before .before .before .before .before .before .before .before .before .before .before .before .before .before .before .before .before .before .before .before .before .before .before .before .before .before .before .before .fill .ensures) (c .before .before .before .before .before .before .before .before .before .before .before .before .before .before .before .before .before .before .before .before .before .before .before .before .before .before .before .before .fill2 .ensures) (c .before .before .before .before .before .before .before .before .before .before .before .before .before .before .before .before .before .before .before .before .before .before .before .before .fill3 .ensures) (c .before .before .before .before .before .before .before .before .before .before .before .before .before .before .before .before .before .before .before .before .fill4 .ensures) (c .before .before .before .before .before .before .before .before .before .before .before .before .before .run .ensures .0) (c .before .before .before .before .before .before .before .before .before .before .before .before .before .run .ensures .1 .0) (c .before .before .before .before .before .before .before .before .before .before .before .before .before .run .ensures .1 .1 .0) (c .before .before .before .before .before .before .before .before .before .before .before .before .before .run .ensures .1 .1 .1 .0) (c .before .before .before .before .before .before .before .before .before .before .before .before .before .run .ensures .1 .1 .1 .1 .0) (c .is-as-due .ensures)
+returns c = meets _ _ _ _ _ _ _ _ _ _ _ _ _ _ _ _ _ _ (c .before .before .before .before .before .before .before .before .before .before .before .before .before .before .before .before .before .before .before .before .before .before .before .before .before .before .before .before .before .before .before .before .fill .ensures) (c .before .before .before .before .before .before .before .before .before .before .before .before .before .before .before .before .before .before .before .before .before .before .before .before .before .before .before .before .fill2 .ensures) (c .before .before .before .before .before .before .before .before .before .before .before .before .before .before .before .before .before .before .before .before .before .before .before .before .fill3 .ensures) (c .before .before .before .before .before .before .before .before .before .before .before .before .before .before .before .before .before .before .before .before .fill4 .ensures) (c .before .before .before .before .before .before .before .before .before .before .before .before .before .run .ensures) (c .is-as-due .ensures)
 
 pub play-lent-spec : {M : Type 1} → statement M
 play-lent-spec =

@@ -1,5 +1,4 @@
 use Rattle.run.proofs.Calls.{call-refused, few-called, fitting, large-values, large-units, large-delays, call-played}
-use Rattle.model.proofs.InOrder.{in-order}
 use native.Mathlib.Omega.{arith}
 use borrow.Author.Needs.{needs}
 use Rattle.run.proofs.run.Statement.{statement}
@@ -12,13 +11,13 @@ refusal-and-links-requires : tie.Need-refusal-and-links-requires
 refusal-and-links-requires c κs = search needs
 
 returns : tie.Need-returns
-returns c = let x = call-refused (c .before .before .before .before .before .before .before .before .before .before .args .circuit .now) (c .before .before .before .before .before .before .before .before .before .before .args .script .now) (c .before .before .before .before .before .before .before .before .before .before .args .log .now) (c .before .before .before .before .before .before .before .before .before .before .args .values .now) (c .before .before .before .before .before .before .before .before .before .before .args .units .now) (c .before .before .before .before .before .before .before .before .before .before .args .delays .now) _ (c .before .before .refusal-and-links .ensures .0) (c .if1 .taken) in (x .0, (x .1, (x .2, (x .3, (x .4, in-order _ _ _ _)))))
+returns c = call-refused (record { circuit = c .before .before .before .before .before .before .before .before .before .before .args .circuit .now; script = c .before .before .before .before .before .before .before .before .before .before .args .script .now; log = c .before .before .before .before .before .before .before .before .before .before .args .log .now; values = c .before .before .before .before .before .before .before .before .before .before .args .values .now; units = c .before .before .before .before .before .before .before .before .before .before .args .units .now; delays = c .before .before .before .before .before .before .before .before .before .before .args .delays .now }) _ (c .before .before .refusal-and-links .ensures .0) (c .if1 .taken)
 
 slice-aggregate-perform : tie.Need-slice-aggregate-perform
 slice-aggregate-perform c = search needs
 
 perform-requires : tie.Need-perform-requires
-perform-requires c κs = ((search needs, large-values (c .before .before .before .before .before .before .before .before .before .before .before .before .before .before .before .args .circuit .now) (c .before .before .before .before .before .before .before .before .before .before .before .before .before .before .before .args .script .now) (c .before .before .before .before .before .before .before .before .before .before .before .before .before .before .before .args .log .now) (c .before .before .before .before .before .before .before .before .before .before .before .before .before .before .before .args .values .now) (c .before .before .before .before .before .before .before .before .before .before .before .before .before .before .before .args .units .now) (c .before .before .before .before .before .before .before .before .before .before .before .before .before .before .before .args .delays .now) _ (c .before .before .before .before .before .before .before .refusal-and-links .ensures .0) (c .before .before .before .before .before .if1 .left) _ _ (c .before .before .before .before .before .before .before .refusal-and-links .ensures .1), large-units (c .before .before .before .before .before .before .before .before .before .before .before .before .before .before .before .args .circuit .now) (c .before .before .before .before .before .before .before .before .before .before .before .before .before .before .before .args .script .now) (c .before .before .before .before .before .before .before .before .before .before .before .before .before .before .before .args .log .now) (c .before .before .before .before .before .before .before .before .before .before .before .before .before .before .before .args .values .now) (c .before .before .before .before .before .before .before .before .before .before .before .before .before .before .before .args .units .now) (c .before .before .before .before .before .before .before .before .before .before .before .before .before .before .before .args .delays .now) _ (c .before .before .before .before .before .before .before .refusal-and-links .ensures .0) (c .before .before .before .before .before .if1 .left) _ _ (c .before .before .before .before .before .before .before .refusal-and-links .ensures .1), large-delays (c .before .before .before .before .before .before .before .before .before .before .before .before .before .before .before .args .circuit .now) (c .before .before .before .before .before .before .before .before .before .before .before .before .before .before .before .args .script .now) (c .before .before .before .before .before .before .before .before .before .before .before .before .before .before .before .args .log .now) (c .before .before .before .before .before .before .before .before .before .before .before .before .before .before .before .args .values .now) (c .before .before .before .before .before .before .before .before .before .before .before .before .before .before .before .args .units .now) (c .before .before .before .before .before .before .before .before .before .before .before .before .before .before .before .args .delays .now) _ (c .before .before .before .before .before .before .before .refusal-and-links .ensures .0) (c .before .before .before .before .before .if1 .left) _ _ (c .before .before .before .before .before .before .before .refusal-and-links .ensures .1)), (few-called (c .before .before .before .before .before .before .before .before .before .before .before .before .before .before .before .args .circuit .now) (c .before .before .before .before .before .before .before .before .before .before .before .before .before .before .before .args .script .now) (c .before .before .before .before .before .before .before .before .before .before .before .before .before .before .before .args .log .now) (c .before .before .before .before .before .before .before .before .before .before .before .before .before .before .before .args .values .now) (c .before .before .before .before .before .before .before .before .before .before .before .before .before .before .before .args .units .now) (c .before .before .before .before .before .before .before .before .before .before .before .before .before .before .before .args .delays .now) _ (c .before .before .before .before .before .before .before .refusal-and-links .ensures .0) (c .before .before .before .before .before .if1 .left) _ _ (c .before .before .before .before .before .before .before .refusal-and-links .ensures .1), fitting (c .before .before .before .before .before .before .before .before .before .before .before .before .before .before .before .args .circuit .now) (c .before .before .before .before .before .before .before .before .before .before .before .before .before .before .before .args .script .now) (c .before .before .before .before .before .before .before .before .before .before .before .before .before .before .before .args .log .now) (c .before .before .before .before .before .before .before .before .before .before .before .before .before .before .before .args .values .now) (c .before .before .before .before .before .before .before .before .before .before .before .before .before .before .before .args .units .now) (c .before .before .before .before .before .before .before .before .before .before .before .before .before .before .before .args .delays .now) _ (c .before .before .before .before .before .before .before .refusal-and-links .ensures .0) (c .before .before .before .before .before .if1 .left) _ _ (c .before .before .before .before .before .before .before .refusal-and-links .ensures .1)))
+perform-requires c κs = ((search needs, large-values (record { circuit = c .before .before .before .before .before .before .before .before .before .before .before .before .before .before .before .args .circuit .now; script = c .before .before .before .before .before .before .before .before .before .before .before .before .before .before .before .args .script .now; log = c .before .before .before .before .before .before .before .before .before .before .before .before .before .before .before .args .log .now; values = c .before .before .before .before .before .before .before .before .before .before .before .before .before .before .before .args .values .now; units = c .before .before .before .before .before .before .before .before .before .before .before .before .before .before .before .args .units .now; delays = c .before .before .before .before .before .before .before .before .before .before .before .before .before .before .before .args .delays .now }) _ (c .before .before .before .before .before .before .before .refusal-and-links .ensures .0) (c .before .before .before .before .before .if1 .left) _ _ (c .before .before .before .before .before .before .before .refusal-and-links .ensures .1), large-units (record { circuit = c .before .before .before .before .before .before .before .before .before .before .before .before .before .before .before .args .circuit .now; script = c .before .before .before .before .before .before .before .before .before .before .before .before .before .before .before .args .script .now; log = c .before .before .before .before .before .before .before .before .before .before .before .before .before .before .before .args .log .now; values = c .before .before .before .before .before .before .before .before .before .before .before .before .before .before .before .args .values .now; units = c .before .before .before .before .before .before .before .before .before .before .before .before .before .before .before .args .units .now; delays = c .before .before .before .before .before .before .before .before .before .before .before .before .before .before .before .args .delays .now }) _ (c .before .before .before .before .before .before .before .refusal-and-links .ensures .0) (c .before .before .before .before .before .if1 .left) _ _ (c .before .before .before .before .before .before .before .refusal-and-links .ensures .1), large-delays (record { circuit = c .before .before .before .before .before .before .before .before .before .before .before .before .before .before .before .args .circuit .now; script = c .before .before .before .before .before .before .before .before .before .before .before .before .before .before .before .args .script .now; log = c .before .before .before .before .before .before .before .before .before .before .before .before .before .before .before .args .log .now; values = c .before .before .before .before .before .before .before .before .before .before .before .before .before .before .before .args .values .now; units = c .before .before .before .before .before .before .before .before .before .before .before .before .before .before .before .args .units .now; delays = c .before .before .before .before .before .before .before .before .before .before .before .before .before .before .before .args .delays .now }) _ (c .before .before .before .before .before .before .before .refusal-and-links .ensures .0) (c .before .before .before .before .before .if1 .left) _ _ (c .before .before .before .before .before .before .before .refusal-and-links .ensures .1)), (few-called (record { circuit = c .before .before .before .before .before .before .before .before .before .before .before .before .before .before .before .args .circuit .now; script = c .before .before .before .before .before .before .before .before .before .before .before .before .before .before .before .args .script .now; log = c .before .before .before .before .before .before .before .before .before .before .before .before .before .before .before .args .log .now; values = c .before .before .before .before .before .before .before .before .before .before .before .before .before .before .before .args .values .now; units = c .before .before .before .before .before .before .before .before .before .before .before .before .before .before .before .args .units .now; delays = c .before .before .before .before .before .before .before .before .before .before .before .before .before .before .before .args .delays .now }) _ (c .before .before .before .before .before .before .before .refusal-and-links .ensures .0) (c .before .before .before .before .before .if1 .left) _ _ (c .before .before .before .before .before .before .before .refusal-and-links .ensures .1), fitting (record { circuit = c .before .before .before .before .before .before .before .before .before .before .before .before .before .before .before .args .circuit .now; script = c .before .before .before .before .before .before .before .before .before .before .before .before .before .before .before .args .script .now; log = c .before .before .before .before .before .before .before .before .before .before .before .before .before .before .before .args .log .now; values = c .before .before .before .before .before .before .before .before .before .before .before .before .before .before .before .args .values .now; units = c .before .before .before .before .before .before .before .before .before .before .before .before .before .before .before .args .units .now; delays = c .before .before .before .before .before .before .before .before .before .before .before .before .before .before .before .args .delays .now }) _ (c .before .before .before .before .before .before .before .refusal-and-links .ensures .0) (c .before .before .before .before .before .if1 .left) _ _ (c .before .before .before .before .before .before .before .refusal-and-links .ensures .1)))
 
 mul-t12 : tie.Need-mul-t12
 mul-t12 c = let x = c .before .before .before .before .before .before .before .before .before .perform .ensures .1 .0 in omega (arith, c .before .before .before .before .before .before .before .before .before .before .before .before .before .before .before .before .before .before .before .before .before .before .before .before .before .good)
@@ -36,7 +35,7 @@ same-length-4 : tie.Need-same-length-4
 same-length-4 c = search needs
 
 returns-2 : tie.Need-returns-2
-returns-2 c = let x = call-played (c .before .before .before .before .before .before .before .before .before .before .before .before .before .before .before .before .before .before .before .before .before .before .before .before .before .args .circuit .now) (c .before .before .before .before .before .before .before .before .before .before .before .before .before .before .before .before .before .before .before .before .before .before .before .before .before .args .script .now) (c .before .before .before .before .before .before .before .before .before .before .before .before .before .before .before .before .before .before .before .before .before .before .before .before .before .args .log .now) (c .before .before .before .before .before .before .before .before .before .before .before .before .before .before .before .before .before .before .before .before .before .before .before .before .before .args .values .now) (c .before .before .before .before .before .before .before .before .before .before .before .before .before .before .before .before .before .before .before .before .before .before .before .before .before .args .units .now) (c .before .before .before .before .before .before .before .before .before .before .before .before .before .before .before .before .before .before .before .before .before .before .before .before .before .args .delays .now) _ (c .before .before .before .before .before .before .before .before .before .before .before .before .before .before .before .before .before .refusal-and-links .ensures .0) (c .before .before .before .before .before .before .before .before .before .before .before .before .before .before .before .if1 .left) _ _ (c .before .before .before .before .before .before .before .before .before .before .before .before .before .before .before .before .before .refusal-and-links .ensures .1) _ _ _ _ _ _ _ (λ i. c .before .before .before .before .before .before .before .before .before .before .before .before .before .before .before .before .before .before .before .before .before .before .slice-known .given i .fits) (λ i. c .before .before .before .before .before .before .before .slice-known5 .given i .fits) (c .before .before .before .before .before .before .before .before .before .perform .ensures .0) (c .before .before .before .before .before .before .before .before .before .perform .ensures .1 .0) (c .before .before .before .before .before .before .before .before .before .perform .ensures .1 .1 .0) (c .before .before .before .before .before .before .before .before .before .perform .ensures .1 .1 .1) (c .before .before .before .before .before .before .before .before .before .perform .ensures .1 .1 .2) in (x .0, (x .1, (x .2, (x .3, (x .4, in-order _ _ _ _)))))
+returns-2 c = call-played (record { circuit = c .before .before .before .before .before .before .before .before .before .before .before .before .before .before .before .before .before .before .before .before .before .before .before .before .before .args .circuit .now; script = c .before .before .before .before .before .before .before .before .before .before .before .before .before .before .before .before .before .before .before .before .before .before .before .before .before .args .script .now; log = c .before .before .before .before .before .before .before .before .before .before .before .before .before .before .before .before .before .before .before .before .before .before .before .before .before .args .log .now; values = c .before .before .before .before .before .before .before .before .before .before .before .before .before .before .before .before .before .before .before .before .before .before .before .before .before .args .values .now; units = c .before .before .before .before .before .before .before .before .before .before .before .before .before .before .before .before .before .before .before .before .before .before .before .before .before .args .units .now; delays = c .before .before .before .before .before .before .before .before .before .before .before .before .before .before .before .before .before .before .before .before .before .before .before .before .before .args .delays .now }) _ (c .before .before .before .before .before .before .before .before .before .before .before .before .before .before .before .before .before .refusal-and-links .ensures .0) (c .before .before .before .before .before .before .before .before .before .before .before .before .before .before .before .if1 .left) _ _ (c .before .before .before .before .before .before .before .before .before .before .before .before .before .before .before .before .before .refusal-and-links .ensures .1) (record { log = _; values = _; units = _; delays = _ }) _ _ _ (λ i. c .before .before .before .before .before .before .before .before .before .before .before .before .before .before .before .before .before .before .before .before .before .before .slice-known .given i .fits) (λ i. c .before .before .before .before .before .before .before .slice-known5 .given i .fits) (c .before .before .before .before .before .before .before .before .before .perform .ensures .0) (c .before .before .before .before .before .before .before .before .before .perform .ensures .1 .0) (c .before .before .before .before .before .before .before .before .before .perform .ensures .1 .1 .0) (c .before .before .before .before .before .before .before .before .before .perform .ensures .1 .1 .1) (c .before .before .before .before .before .before .before .before .before .perform .ensures .1 .1 .2)
 
 pub run-spec : {M : Type 1} → statement M
 run-spec =
