@@ -19,14 +19,14 @@ pub record Kept : Type 0 where
   pub behind-delays : List ℕ
 
 -- the definition's state, what waits, the calls, and the rest
-pub record Areas : Type 0 where
+pub record Contents : Type 0 where
   pub state : State
   pub lists : Lists
   pub calls : Calls
   pub kept : Kept
 
 -- of what each of them holds
-abbrev pub together : Values → Units → Delays → Areas
+abbrev pub together : Values → Units → Delays → Contents
 together v u d =
     record {
       state = record { wires = v .wires; delays = d .delays; outbox = u .outbox };
@@ -36,17 +36,17 @@ together v u d =
     }
 
 -- of the bytes of the three areas
-abbrev pub areas : Circuit → List ℕ → List ℕ → List ℕ → Areas
+abbrev pub areas : Circuit → List ℕ → List ℕ → List ℕ → Contents
 areas c vs us ds = together (values c vs) (units c us) (delays c ds)
 
 -- ---- one part changed, and nothing else
 
-abbrev pub with-state : Areas → State → Areas
+abbrev pub with-state : Contents → State → Contents
 with-state a s = record { state = s; lists = a .lists; calls = a .calls; kept = a .kept }
 
-abbrev pub with-calls : Areas → Calls → Areas
+abbrev pub with-calls : Contents → Calls → Contents
 with-calls a q = record { state = a .state; lists = a .lists; calls = q; kept = a .kept }
 
 -- what raising led to
-abbrev pub with-went : Areas → Went → Areas
+abbrev pub with-went : Contents → Went → Contents
 with-went a w = record { state = w .state; lists = w .lists; calls = a .calls; kept = a .kept }

@@ -10,17 +10,17 @@ use Rattle.states.specs.View.{Delays, delays}
 use Rattle.states.specs.Lent.{Slots}
 use Rattle.units.specs.View.{Units, units}
 use Rattle.units.specs.Raising.{Went}
-use Rattle.areas.specs.Areas.{Areas, together, areas, with-went}
+use Rattle.areas.specs.Areas.{Contents, together, areas, with-went}
 
 -- a statement about the circuit, the areas at the call, and the areas at the return
 abbrev pub Of-areas : Type 1
-Of-areas = Circuit → Areas → Areas → Type 0
+Of-areas = Circuit → Contents → Contents → Type 0
 
 abbrev pub Over-all : Slice → Slice → Slice → Slice → Of-areas → Type 0
 Over-all links vs us ds P = P (net-of links) (areas (net-of links) (before vs) (before us) (before ds)) (areas (net-of links) (after vs) (after us) (after ds))
 
 -- the areas at the call
-abbrev pub areas-in : Slice → Slice → Slice → Slice → Areas
+abbrev pub areas-in : Slice → Slice → Slice → Slice → Contents
 areas-in links vs us ds = areas (net-of links) (before vs) (before us) (before ds)
 
 module _ (links : Slice) where
@@ -60,7 +60,7 @@ module _ (links : Slice) where
       (d : Delays) → P (net-of links) (together (values-before vs) (units-before us) d) (together (values-after vs) (units-after us) d)
 
 -- a became b, with the answer r, as raising led to w
-abbrev pub Goes : Areas → Areas → Filed → Went → Type 0
+abbrev pub Goes : Contents → Contents → Filed → Went → Type 0
 Goes a b r w = (b ≡ with-went a w) × (r ≡ w .answer)
 
 -- all areas are lent, with what each must be

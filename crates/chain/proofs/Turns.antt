@@ -19,7 +19,7 @@ use Rattle.units.specs.Calls as on-units
 use Rattle.units.specs.Calls.{popped, calls-left}
 use Rattle.wires.specs.View.{Values, values}
 use Rattle.states.specs.View.{Delays, delays, Lent}
-use Rattle.areas.specs.Areas.{Areas, together, areas, with-state, with-calls}
+use Rattle.areas.specs.Areas.{Contents, together, areas, with-state, with-calls}
 use Rattle.steps.specs.declared.Step.{Step}
 use Rattle.steps.specs.declared.Step.the-variants.{Fires, Ends, Full as NoRoom}
 use Rattle.steps.specs.Steps.{stepped, Makes}
@@ -30,12 +30,12 @@ use Rattle.chain.proofs.Fits.{held-fit, was-done, was-full}
 
 -- ---- one call made
 
-module _ (a b : Areas) (d : Stepped) (step : Step) (e : Makes a b step d) where
+module _ (a b : Contents) (d : Stepped) (step : Step) (e : Makes a b step d) where
   next-is : (o : Option ℕ) (f : Bool) → stepped (d .state) step ≡ record { state = d .state; next = o; full = f } → (d .next ≡ o) × (d .full ≡ f)
   next-is o f h = (ap (λ (x : Stepped). x .next) (sym (e .answer) ∙ h), ap (λ (x : Stepped). x .full) (sym (e .answer) ∙ h))
 
   same-calls : b .calls ≡ a .calls
-  same-calls = ap (λ (x : Areas). x .calls) (e .state)
+  same-calls = ap (λ (x : Contents). x .calls) (e .state)
 
   -- it fires nothing, and the calls fit as they did
   made-quiet : (c : Circuit) → fit (b .calls) ≡ true → step ≡ Ends → Makes-call a b Done d (push-calls c (d .next) (a .calls))
@@ -46,7 +46,7 @@ module _ (a b : Areas) (d : Stepped) (step : Step) (e : Makes a b step d) where
       record {
         answer = ap (λ (x : Bool). cond x Done Full) (sym (and-true (fit (a .calls)) ∙ sym (ap fit same-calls) ∙ f));
         calls = λ _. same-calls;
-        others = ap (λ (x : Areas). with-calls x no-calls) (e .state);
+        others = ap (λ (x : Contents). with-calls x no-calls) (e .state);
       }
 
   -- a list was full
@@ -58,7 +58,7 @@ module _ (a b : Areas) (d : Stepped) (step : Step) (e : Makes a b step d) where
       record {
         answer = ap (λ (x : Bool). cond x Done Full) (sym z);
         calls = λ t. absurd (true≢false (sym t ∙ z));
-        others = ap (λ (x : Areas). with-calls x no-calls) (e .state);
+        others = ap (λ (x : Contents). with-calls x no-calls) (e .state);
       }
 
 module _ (c : Circuit) (vs us ds vs₁ us₁ ds₁ : List ℕ) (i : ℕ) (step : Step) (e : Makes (areas c vs us ds) (areas c vs₁ us₁ ds₁) step (exec-gate c (areas c vs us ds .state) i)) where
@@ -79,7 +79,7 @@ module _ (c : Circuit) (vs us ds vs₁ us₁ ds₁ : List ℕ) (i : ℕ) (step :
         answer = p .answer ∙ ap (λ (x : Bool). cond x Done Full) (sym t);
         calls = λ f. p .calls (sym t ∙ f) ∙ q;
         others =
-            ap (λ (x : Units). together (values c vs₁) x (delays c ds₁)) (p .others) ∙ ap (λ (x : Areas). with-calls x no-calls) (e .state);
+            ap (λ (x : Units). together (values c vs₁) x (delays c ds₁)) (p .others) ∙ ap (λ (x : Contents). with-calls x no-calls) (e .state);
       }
 
   pub call-ends :
@@ -91,7 +91,7 @@ module _ (c : Circuit) (vs us ds vs₁ us₁ ds₁ : List ℕ) (i : ℕ) (step :
   call-full h = made-full (areas c vs us ds) (areas c vs₁ us₁ ds₁) (exec-gate c (areas c vs us ds .state) i) step e _ h
 
 -- A step that leads to the same state and makes the same calls makes the same call.
-pub alike-call : (c : Circuit) (a b : Areas) (r : Filed) (d e : Stepped) → Alike c d e → Makes-call a b r d (push-calls c (d .next) (a .calls)) → Makes-call a b r e (push-calls c (e .next) (a .calls))
+pub alike-call : (c : Circuit) (a b : Contents) (r : Filed) (d e : Stepped) → Alike c d e → Makes-call a b r d (push-calls c (d .next) (a .calls)) → Makes-call a b r e (push-calls c (e .next) (a .calls))
 alike-call c a b r d e h m =
     record {
       answer = m .answer ∙ (λ j. cond (fit (h .calls (a .calls) j) && not (h .full j)) Done Full);
@@ -151,7 +151,7 @@ module _ (c : Circuit) (vs₀ us₀ ds₀ vs us ds : List ℕ) (left₀ left : �
     (sl : areas c vs us ds .lists ≡ areas c vs₀ us₀ ds₀ .lists) (sk : areas c vs us ds .kept ≡ areas c vs₀ us₀ ds₀ .kept)
     (inv : run-chain c left (areas c vs us ds .calls) (areas c vs us ds .state) ≡ run-chain c left₀ (areas c vs₀ us₀ ds₀ .calls) (areas c vs₀ us₀ ds₀ .state)) where
   -- the areas b hold what the chain k made of the first ones
-  reached : (b : Areas) (s : State) (n stop : ℕ) (q : Calls) → run-chain c left (areas c vs us ds .calls) (areas c vs us ds .state) ≡ chained s n stop q →
+  reached : (b : Contents) (s : State) (n stop : ℕ) (q : Calls) → run-chain c left (areas c vs us ds .calls) (areas c vs us ds .state) ≡ chained s n stop q →
       with-calls b no-calls ≡ with-calls (with-state (areas c vs us ds) s) no-calls → (stop ≡ 0 → b .calls ≡ no-calls) →
       Runs (areas c vs₀ us₀ ds₀) b (record { left = n; stop = stop }) (run-chain c left₀ (areas c vs₀ us₀ ds₀ .calls) (areas c vs₀ us₀ ds₀ .state))
   unfolding chained
@@ -215,7 +215,7 @@ module _ (c : Circuit) (vs₀ us₀ ds₀ vs us ds : List ℕ) (left₀ left : �
         11
         (units c us .calls)
         (ap (λ (n : ℕ). run-chain c n (units c us .calls) (areas c vs us ds .state)) k ∙ run-over c (units c us .calls) (areas c vs us ds .state) (p .0) (p .1 .0))
-        (ap (λ (x : Areas). with-calls x no-calls) (p .1 .1 .1))
+        (ap (λ (x : Contents). with-calls x no-calls) (p .1 .1 .1))
         (λ f. absurd (omega (arith, f)))
 
     module _ (i : ℕ) (h : top ≡ Entry i) (l : 0 < left) (vs₂ us₂ ds₂ : List ℕ) (r : Filed)
@@ -227,7 +227,7 @@ module _ (c : Circuit) (vs₀ us₀ ds₀ vs us ds : List ℕ) (left₀ left : �
           subst
           (λ (j : ℕ). Makes-call (with-calls (areas c vs us ds) (t .rest)) (areas c vs₂ us₂ ds₂) r (exec-gate c (areas c vs us ds .state) j) (push-calls c (exec-gate c (areas c vs us ds .state) j .next) (t .rest)))
           ei
-          (subst (λ (a : Areas). Makes-call a (areas c vs₂ us₂ ds₂) r (exec-gate c (a .state) i) (push-calls c (exec-gate c (a .state) i .next) (a .calls))) ea m)
+          (subst (λ (a : Contents). Makes-call a (areas c vs₂ us₂ ds₂) r (exec-gate c (a .state) i) (push-calls c (exec-gate c (a .state) i .next) (a .calls))) ea m)
 
       -- a list was full
       pub chain-stopped :
@@ -252,12 +252,12 @@ module _ (c : Circuit) (vs₀ us₀ ds₀ vs us ds : List ℕ) (left₀ left : �
           let p = taken-off i h in
           let o = one-made (p .0) (p .1 .1 .0) (p .1 .1 .1) in
           let t = was-done _ (sym d ∙ o .answer) in
-          ap₂ (λ (q : Calls) (s : State). run-chain c (left - 1) q s) (o .calls t) (ap (λ (x : Areas). x .state) (o .others))
+          ap₂ (λ (q : Calls) (s : State). run-chain c (left - 1) q s) (o .calls t) (ap (λ (x : Contents). x .state) (o .others))
           ∙ sym (run-on c (units c us .calls) (areas c vs us ds .state) (p .0) (p .1 .0) left l t)
           ∙ inv
 
       pub lists-kept : areas c vs₂ us₂ ds₂ .lists ≡ areas c vs₀ us₀ ds₀ .lists
-      lists-kept = let p = taken-off i h in ap (λ (x : Areas). x .lists) (one-made (p .0) (p .1 .1 .0) (p .1 .1 .1) .others) ∙ sl
+      lists-kept = let p = taken-off i h in ap (λ (x : Contents). x .lists) (one-made (p .0) (p .1 .1 .0) (p .1 .1 .1) .others) ∙ sl
 
       pub others-kept : areas c vs₂ us₂ ds₂ .kept ≡ areas c vs₀ us₀ ds₀ .kept
-      others-kept = let p = taken-off i h in ap (λ (x : Areas). x .kept) (one-made (p .0) (p .1 .1 .0) (p .1 .1 .1) .others) ∙ sk
+      others-kept = let p = taken-off i h in ap (λ (x : Contents). x .kept) (one-made (p .0) (p .1 .1 .0) (p .1 .1 .1) .others) ∙ sk

@@ -12,7 +12,7 @@ use Rattle.model.specs.Chain.{Calls, no-calls, fit, push-calls, Chained}
 use Rattle.links.specs.Links.{call-of, target}
 use Rattle.units.specs.View.{Units}
 use Rattle.units.specs.Calls as units
-use Rattle.areas.specs.Areas.{Areas, with-state, with-calls}
+use Rattle.areas.specs.Areas.{Contents, with-state, with-calls}
 use Rattle.chain.specs.declared.Ran.{Ran}
 
 -- The calls of an output were added and are now q, if they all fit: u became v.
@@ -22,7 +22,7 @@ pub record Pushes (u v : Units) (r : Filed) (q : Calls) : Type 0 where
   pub others : units.with-calls v no-calls ≡ units.with-calls u no-calls
 
 -- The areas a became b, with the answer r, as the definition's chain k.
-pub record Runs (a b : Areas) (r : Ran) (k : Chained) : Type 0 where
+pub record Runs (a b : Contents) (r : Ran) (k : Chained) : Type 0 where
   pub state : with-calls b no-calls ≡ with-calls (with-state a (k .state)) no-calls
   pub calls : k .stop ≡ 0 → b .calls ≡ no-calls
   pub left : r .left ≡ k .left
@@ -45,7 +45,7 @@ stack-before ks q = units.stack≔ q (map (λ k. k .to) (keep (λ k. not (k .rem
 -- ---- one call made
 
 -- A step d was made, and what it fires calls q: there was room, a became b, with the answer r.
-pub record Makes-call (a b : Areas) (r : Filed) (d : Stepped) (q : Calls) : Type 0 where
+pub record Makes-call (a b : Contents) (r : Filed) (d : Stepped) (q : Calls) : Type 0 where
   pub answer : r ≡ cond (fit q && not (d .full)) Done Full
   pub calls : (fit q && not (d .full)) ≡ true → b .calls ≡ q
   pub others : with-calls b no-calls ≡ with-calls (with-state a (d .state)) no-calls

@@ -6,7 +6,7 @@ ghost use Rattle.delays.specs.States.{counted, buffer, buffer-moved, sta
 use crate::countdown::Countdown;
 use crate::countdown::buffer_countdown;
 use model::Value;
-use values::truthy;
+use value::truthy;
 
 // A value in flight with its countdown, or none.
 pub enum Flight {

@@ -7,8 +7,8 @@ use floats::le64;
 use floats::narrowing::narrow;
 use floats::plus32;
 use model::Value;
-use values::as_float;
-use values::as_int;
+use value::as_float;
+use value::as_int;
 
 // -1.0
 const MINUS_ONE: u64 = 0xbff0_0000_0000_0000;

@@ -16,7 +16,7 @@ use Rattle.model.specs.Circuit.{source-of, gates-such}
 use Rattle.model.specs.Questions.{within, good-constant}
 use Rattle.model.proofs.Lists.{both-true}
 use Rattle.model.proofs.Sizes.{within-true}
-use Rattle.values.proofs.Laws.{taken-apart}
+use Rattle.value.proofs.Laws.{taken-apart}
 use Rattle.links.specs.Links.{packed, word-of-gates, source-cell, gate-cells, listed}
 use Rattle.links.proofs.Reading.{listed-length, listed-in}
 use Rattle.links.proofs.Net.{source-back}

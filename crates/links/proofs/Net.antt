@@ -20,7 +20,7 @@ use Rattle.model.proofs.Lists.{both-true, bit-most, both-length, from-length}
 use Rattle.model.proofs.Sizes.{all-within, sizes}
 use Rattle.model.proofs.Laid.{starts-length, joined-length, part-most, Laid, laid, Full, filled}
 use Rattle.kinds.proofs.Laws.{few-outputs as nine-outputs}
-use Rattle.values.proofs.Laws.{made-again}
+use Rattle.value.proofs.Laws.{made-again}
 use Rattle.links.specs.Links.{gates-at, sources-at, stored-kinds-at, stored-contents-at, inputs-at, outputs-at, rows-at, readers-at, calls-at, constant-kinds-at, constant-contents-at, packed, digit, word-of-gates, gates-of-word, source-cell, call-cell, gate-cells, row-cells, named, count-cells, cells, listed, call-of, cell, gate-digit, input-digit, row-digit, kind-in, net}
 use Rattle.links.proofs.Tables.{listed-is, both-at, both-most, map-at, base, table-sizes, Room, [·], _∷·_, table-read, digit-0, digit-1, Small, gate-cells-length, Four, four, rows-read, starts-small, counts-small, firsts-small, by-owner, bit-read, word-read, shares, joined-map}
 

@@ -11,7 +11,7 @@ ghost use Rattle.links.specs.Links.{gates-at, inputs-at, rows-at, entrie
 ghost use Rattle.links.specs.Lent.{Linked, net-of, Short};
 use crate::layout::*;
 use model::Value;
-use values::value_of;
+use value::value_of;
 use words::counting::less;
 
 pub mod layout;

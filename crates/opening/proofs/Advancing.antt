@@ -35,7 +35,7 @@ use Rattle.links.specs.Links.{net}
 use Rattle.wires.specs.View.{Values, with-wires}
 use Rattle.states.specs.View.{is-queue, Delays, delay-in, with-delay, delays, Lent, Moves}
 use Rattle.units.specs.View.{Units}
-use Rattle.areas.specs.Areas.{Areas, together, with-state}
+use Rattle.areas.specs.Areas.{Contents, together, with-state}
 use Rattle.opening.specs.Opening.{unopened, Opens}
 use Rattle.opening.specs.Stages.{Puts, Advances, Moves-on, landing, firing, releasing}
 use Rattle.opening.proofs.Stages.{puts-none, opens-none, advances-fire}
@@ -215,7 +215,7 @@ next-input c g i e = omega arith
 
 -- the wires changed, and then the gate moved on
 moves-after :
-    (v : Values) (w : Wires) (u : Units) (d : Delays) (b : Areas) (z : Opened) (p : Place) (g n : ℕ) → Advances (together (with-wires v w) u d) b z p g n →
+    (v : Values) (w : Wires) (u : Units) (d : Delays) (b : Contents) (z : Opened) (p : Place) (g n : ℕ) → Advances (together (with-wires v w) u d) b z p g n →
     Advances (together v u d) b z p g n
 moves-after v w u d b z p g n a = record { areas = a .areas; raises = a .raises }
 

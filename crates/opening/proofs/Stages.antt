@@ -18,7 +18,7 @@ use Rattle.wires.specs.View.{Values}
 use Rattle.states.specs.View.{Delays}
 use Rattle.units.specs.View.{Lists, Units}
 use Rattle.units.specs.Raising.{Went, with-lists, raise-into}
-use Rattle.areas.specs.Areas.{Areas, together, with-state, with-went}
+use Rattle.areas.specs.Areas.{Contents, together, with-state, with-went}
 use Rattle.opening.specs.Opening.{put-to, opened-into, unopened, Opens}
 use Rattle.opening.specs.Stages.{put-all, Puts, is-full, Advances}
 use Rattle.opening.proofs.Raises.{full-is, done-is, raise-done, raise-full, raise-state, raise-put, put-done, put-full}
@@ -58,24 +58,24 @@ module _ (c : Circuit) (p : Place) where
 -- ---- parts of the opening
 
 module _ (c : Circuit) where
-  pub opens-none : (a : Areas) → Opens c a a Done (unopened (a .state))
+  pub opens-none : (a : Contents) → Opens c a a Done (unopened (a .state))
   unfolding opened-into unopened raise-into
   opens-none a = record { areas = refl; answer = refl }
 
-  pub opens-state : (a b : Areas) (z : Opened) → Opens c a b Done z → b .state ≡ z .state
+  pub opens-state : (a b : Contents) (z : Opened) → Opens c a b Done z → b .state ≡ z .state
   unfolding opened-into
-  opens-state a b z o = ap (λ (x : Areas). x .state) (o .areas) ∙ raise-state (put-to c) (z .raises) (a .lists) (z .state) (sym (o .answer))
+  opens-state a b z o = ap (λ (x : Contents). x .state) (o .areas) ∙ raise-state (put-to c) (z .raises) (a .lists) (z .state) (sym (o .answer))
 
-  pub opens-next : (a b d : Areas) (r : Answer) (z y : Opened) → Opens c a b Done z → Opens c b d r y → Opens c a d r (after z y)
+  pub opens-next : (a b d : Contents) (r : Answer) (z y : Opened) → Opens c a b Done z → Opens c b d r y → Opens c a d r (after z y)
   unfolding opened-into
   opens-next a b d r z y o p =
-      let e : b .lists ≡ opened-into c z (a .lists) .lists = ap (λ (x : Areas). x .lists) (o .areas) in
+      let e : b .lists ≡ opened-into c z (a .lists) .lists = ap (λ (x : Contents). x .lists) (o .areas) in
       let q : opened-into c (after z y) (a .lists) ≡ opened-into c y (b .lists) =
       raise-done (put-to c) (z .raises) (y .raises) (a .lists) (z .state) (y .state) (sym (o .answer)) ∙ ap (opened-into c y) (sym e)
       in
       record { areas = p .areas ∙ (λ j. with-went (o .areas j) (sym q j)); answer = p .answer ∙ (λ j. sym q j .answer) }
 
-  pub opens-full : (a b : Areas) (z y : Opened) → Opens c a b Full z → Opens c a b Full (after z y)
+  pub opens-full : (a b : Contents) (z y : Opened) → Opens c a b Full z → Opens c a b Full (after z y)
   unfolding opened-into
   opens-full a b z y o =
       let q : opened-into c (after z y) (a .lists) ≡ opened-into c z (a .lists) =
@@ -99,7 +99,7 @@ module _ (c : Circuit) where
       }
 
   -- a state that changed with nothing raised
-  pub opens-from : (a b d : Areas) (s : State) (r : Answer) (z : Opened) → b ≡ with-state a s → Opens c b d r z → Opens c a d r z
+  pub opens-from : (a b d : Contents) (s : State) (r : Answer) (z : Opened) → b ≡ with-state a s → Opens c b d r z → Opens c a d r z
   opens-from a b d s r z e o =
       record {
         areas = o .areas ∙ (λ j. with-went (e j) (opened-into c z (e j .lists)));
@@ -161,15 +161,15 @@ timer-adds c z g = refl
 -- ---- a loop over a word of gates
 
 -- with the gates of d left to do at the areas a, what they come to is what all gates come to at the areas a₀
-abbrev pub Leads : Circuit → (Opened → ℕ → Opened) → Areas → List ℕ → Areas → ℕ → Type 0
+abbrev pub Leads : Circuit → (Opened → ℕ → Opened) → Contents → List ℕ → Contents → ℕ → Type 0
 Leads c f a₀ gs a d =
-    (b : Areas) (r : Answer) → Opens c a b r (each f (unopened (a .state)) (gates-of-word d)) → Opens c a₀ b r (each f (unopened (a₀ .state)) gs)
+    (b : Contents) (r : Answer) → Opens c a b r (each f (unopened (a .state)) (gates-of-word d)) → Opens c a₀ b r (each f (unopened (a₀ .state)) gs)
 
-pub leads-first : (c : Circuit) (f : Opened → ℕ → Opened) (a : Areas) (gs : List ℕ) (d : ℕ) → gates-of-word d ≡ gs → Leads c f a gs a d
+pub leads-first : (c : Circuit) (f : Opened → ℕ → Opened) (a : Contents) (gs : List ℕ) (d : ℕ) → gates-of-word d ≡ gs → Leads c f a gs a d
 leads-first c f a gs d e b r o = subst (λ (k : List ℕ). Opens c a b r (each f (unopened (a .state)) k)) e o
 
 module _
-    (c : Circuit) (f : Opened → ℕ → Opened) (h : Adds f) (a₀ a a₁ : Areas) (gs : List ℕ) (d g k : ℕ) (r : Answer) (l : Leads c f a₀ gs a d)
+    (c : Circuit) (f : Opened → ℕ → Opened) (h : Adds f) (a₀ a a₁ : Contents) (gs : List ℕ) (d g k : ℕ) (r : Answer) (l : Leads c f a₀ gs a d)
     (e : g ≡ getD (gates-of-word d) 0 64)
   where
     -- the gate that is done, and the others after it
@@ -194,6 +194,6 @@ module _
         let o′ : Opens c a a₁ Full y = subst (λ (s : Answer). Opens c a a₁ s y) (full-is r m em i) o in
         l a₁ Full (subst (λ (z : Opened). Opens c a a₁ Full z) (sym (first-then t q)) (opens-full c a a₁ y _ o′))
 
-pub leads-last : (c : Circuit) (f : Opened → ℕ → Opened) (a₀ a : Areas) (gs : List ℕ) (d g : ℕ) → Leads c f a₀ gs a d → g ≡ getD (gates-of-word d) 0 64 → 64 ≤ g →
+pub leads-last : (c : Circuit) (f : Opened → ℕ → Opened) (a₀ a : Contents) (gs : List ℕ) (d g : ℕ) → Leads c f a₀ gs a d → g ≡ getD (gates-of-word d) 0 64 → 64 ≤ g →
     Opens c a₀ a Done (each f (unopened (a₀ .state)) gs)
 leads-last c f a₀ a gs d g l e t = l a Done (subst (λ (z : Opened). Opens c a a Done z) (sym (gates-over f (unopened (a .state)) d g e t)) (opens-none c a))

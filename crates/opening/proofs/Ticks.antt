@@ -21,7 +21,7 @@ use Rattle.units.specs.declared.Place.the-variants.{Pending}
 use Rattle.units.specs.View.{Lists, Units}
 use Rattle.units.specs.Raising.{Went, with-lists, activate, raise-into}
 use Rattle.units.specs.Calls.{reopened as next-units}
-use Rattle.areas.specs.Areas.{Areas, together, with-state, with-went}
+use Rattle.areas.specs.Areas.{Contents, together, with-state, with-went}
 use Rattle.settling.specs.Settling.{filed-into}
 use Rattle.opening.specs.Opening.{put-to, opened-into, unopened, Opens, reopened, opened}
 use Rattle.opening.specs.Stages.{Puts, is-full, arrived, lowered, advanced-all, pending-all, settled-after, finished}
@@ -36,31 +36,31 @@ module _ (c : Circuit) (f : Opened → ℕ → Opened) (h : Adds f) (gs : List �
       each-adds f h (after z y) gs ∙ (λ j. record { state = each f (unopened (y .state)) gs .state; raises = append-assoc (z .raises) (y .raises) (each f (unopened (y .state)) gs .raises) j })
       ∙ ap (after z) (sym (each-adds f h y gs))
 
-  stage-full : (a b : Areas) (z : Opened) → Opens c a b Full z → Opens c a b Full (each f z gs)
+  stage-full : (a b : Contents) (z : Opened) → Opens c a b Full z → Opens c a b Full (each f z gs)
   stage-full a b z o = subst (λ (x : Opened). Opens c a b Full x) (sym (each-adds f h z gs)) (opens-full c a b z _ o)
 
-  stage-next : (a b d : Areas) (r : Answer) (z : Opened) → Opens c a b Done z → Opens c b d r (each f (unopened (b .state)) gs) → Opens c a d r (each f z gs)
+  stage-next : (a b d : Contents) (r : Answer) (z : Opened) → Opens c a b Done z → Opens c b d r (each f (unopened (b .state)) gs) → Opens c a d r (each f z gs)
   stage-next a b d r z o p =
       subst (λ (x : Opened). Opens c a d r x) (sym (each-adds f h z gs))
       (opens-next c a b d r z _ o (subst (λ (s : State). Opens c b d r (each f (unopened s) gs)) (opens-state c a b z o) p))
 
 -- an answer that was asked for
-full-opens : (c : Circuit) (a b : Areas) (r : Answer) (z : Opened) (t : Bool) → t ≡ is-full r → t ≡ true → Opens c a b r z → Opens c a b Full z
+full-opens : (c : Circuit) (a b : Contents) (r : Answer) (z : Opened) (t : Bool) → t ≡ is-full r → t ≡ true → Opens c a b r z → Opens c a b Full z
 full-opens c a b r z t e i o = subst (λ (x : Answer). Opens c a b x z) (full-is r t e i) o
 
-done-opens : (c : Circuit) (a b : Areas) (r : Answer) (z : Opened) (t : Bool) → t ≡ is-full r → t ≡ false → Opens c a b r z → Opens c a b Done z
+done-opens : (c : Circuit) (a b : Contents) (r : Answer) (z : Opened) (t : Bool) → t ≡ is-full r → t ≡ false → Opens c a b r z → Opens c a b Done z
 done-opens c a b r z t e i o = subst (λ (x : Answer). Opens c a b x z) (done-is r t e i) o
 
 -- ---- buffers and Queues, Clocks, Stopwatches
 
-module _ (c : Circuit) (dt : ℕ) (a b : Areas) (r : Answer) (t : Bool) (o : Opens c a b r (each (advance-buffer c dt) (unopened (a .state)) (c .buffers))) (e : t ≡ is-full r) where
+module _ (c : Circuit) (dt : ℕ) (a b : Contents) (r : Answer) (t : Bool) (o : Opens c a b r (each (advance-buffer c dt) (unopened (a .state)) (c .buffers))) (e : t ≡ is-full r) where
   pub buffers-full : t ≡ true → Opens c a b Full (advanced-all c dt (a .state))
   unfolding advanced-all
   buffers-full i =
       stage-full c (advance-timer c) (timer-adds c) (c .stopwatches) a b _ (stage-full c (advance-clock c) (clock-adds c) (c .clocks) a b _ (full-opens c a b r _ t e i o))
 
   module _
-      (d : Areas) (r₁ : Answer) (t₁ : Bool) (i : t ≡ false) (o₁ : Opens c b d r₁ (each (advance-clock c) (unopened (b .state)) (c .clocks)))
+      (d : Contents) (r₁ : Answer) (t₁ : Bool) (i : t ≡ false) (o₁ : Opens c b d r₁ (each (advance-clock c) (unopened (b .state)) (c .clocks)))
     where
       two-stages : Opens c a d r₁ (each (advance-clock c) (each (advance-buffer c dt) (unopened (a .state)) (c .buffers)) (c .clocks))
       two-stages = stage-next c (advance-clock c) (clock-adds c) (c .clocks) a b d r₁ _ (done-opens c a b r _ t e i o) o₁
@@ -69,7 +69,7 @@ module _ (c : Circuit) (dt : ℕ) (a b : Areas) (r : Answer) (t : Bool) (o : Ope
       unfolding advanced-all
       clocks-full e₁ i₁ = stage-full c (advance-timer c) (timer-adds c) (c .stopwatches) a d _ (full-opens c a d r₁ _ t₁ e₁ i₁ two-stages)
 
-      pub all-advance : (x : Areas) (r₂ : Answer) → t₁ ≡ is-full r₁ → t₁ ≡ false → Opens c d x r₂ (each (advance-timer c) (unopened (d .state)) (c .stopwatches)) →
+      pub all-advance : (x : Contents) (r₂ : Answer) → t₁ ≡ is-full r₁ → t₁ ≡ false → Opens c d x r₂ (each (advance-timer c) (unopened (d .state)) (c .stopwatches)) →
           Opens c a x r₂ (advanced-all c dt (a .state))
       unfolding advanced-all
       all-advance x r₂ e₁ i₁ o₂ =
@@ -104,7 +104,7 @@ module _
 -- ---- the last stage
 
 -- settling, with what it raises pending
-settles : (c : Circuit) (a b : Areas) (r : Answer) →
+settles : (c : Circuit) (a b : Contents) (r : Answer) →
     (b ≡ with-went a (filed-into c Pending (settle c (a .state)) (a .lists))) × (r ≡ filed-into c Pending (settle c (a .state)) (a .lists) .answer) →
     Opens c a b r (pending-all (settle c (a .state)))
 unfolding filed-into opened-into pending-all
@@ -130,7 +130,7 @@ module _
     unfolding finished
     advance-stops i = opens-full c (together v u d) (together v₂ u₂ d₂) _ _ (full-opens c (together v u d) (together v₂ u₂ d₂) r _ t e i moved-on)
 
-    pub finishes : (v₃ : Values) (b : Areas) (r₂ : Answer) → t ≡ false → v₃ ≡ with-wires v₂ (each (invalidate c) (v₂ .wires) (c .time-sources)) →
+    pub finishes : (v₃ : Values) (b : Contents) (r₂ : Answer) → t ≡ false → v₃ ≡ with-wires v₂ (each (invalidate c) (v₂ .wires) (c .time-sources)) →
         (b ≡ with-went (together v₃ u₂ d₂) (filed-into c Pending (settle c (together v₃ u₂ d₂ .state)) (together v₃ u₂ d₂ .lists)))
         × (r₂ ≡ filed-into c Pending (settle c (together v₃ u₂ d₂ .state)) (together v₃ u₂ d₂ .lists) .answer) →
         Opens c (together v u d) b r₂ (finished c (advanced-all c (narrow dt) (lowered c (together v u d .state))))
@@ -144,7 +144,7 @@ module _
         opens-from c (together v₂ u₂ d₂) (together v₃ u₂ d₂) b stale r₂ _ q (settles c (together v₃ u₂ d₂) b r₂ h)
         in
         let p′ : Opens c (together v₂ u₂ d₂) b r₂ (settled-after c (together v₂ u₂ d₂ .state)) =
-        subst (λ (s : State). Opens c (together v₂ u₂ d₂) b r₂ (pending-all (settle c s))) (ap (λ (x : Areas). x .state) q) p
+        subst (λ (s : State). Opens c (together v₂ u₂ d₂) b r₂ (pending-all (settle c s))) (ap (λ (x : Contents). x .state) q) p
         in
         opens-next c (together v u d) (together v₂ u₂ d₂) b r₂ z (settled-after c (z .state)) o′
         (subst (λ (s : State). Opens c (together v₂ u₂ d₂) b r₂ (settled-after c s)) (opens-state c (together v u d) (together v₂ u₂ d₂) z o′) p′)
@@ -180,16 +180,16 @@ open-stages c s given =
     ap (finished c) q ∙ (λ j. record { state = settled-after c (advanced-all c (narrow (given .dt)) s₂ .state) .state; raises = append-assoc (z .raises) (advanced-all c (narrow (given .dt)) s₂ .raises) (settled-after c (advanced-all c (narrow (given .dt)) s₂ .state) .raises) j })
 
 module _
-    (c : Circuit) (a b x : Areas) (given : Given) (r : Answer) (t : Bool) (events : List Send) (eb : b ≡ with-state (reopened c a) (begin-tick (a .state) (given .dt))) (ee : events ≡ b .kept .events)
+    (c : Circuit) (a b x : Contents) (given : Given) (r : Answer) (t : Bool) (events : List Send) (eb : b ≡ with-state (reopened c a) (begin-tick (a .state) (given .dt))) (ee : events ≡ b .kept .events)
     (o : Opens c b x r (arrived c (b .state) events (given .stimuli))) (e : t ≡ is-full r)
   where
     came : Opens c (reopened c a) x r (arrived c (begin-tick (a .state) (given .dt)) (a .state .outbox) (given .stimuli))
     unfolding reopened
     came =
-        let q : events ≡ a .state .outbox = ee ∙ ap (λ (y : Areas). y .kept .events) eb in
+        let q : events ≡ a .state .outbox = ee ∙ ap (λ (y : Contents). y .kept .events) eb in
         opens-from c (reopened c a) b x (begin-tick (a .state) (given .dt)) r _ eb
         (subst (λ (ms : List Send). Opens c b x r (arrived c (begin-tick (a .state) (given .dt)) ms (given .stimuli))) q
-        (subst (λ (s : State). Opens c b x r (arrived c s events (given .stimuli))) (ap (λ (y : Areas). y .state) eb) o))
+        (subst (λ (s : State). Opens c b x r (arrived c s events (given .stimuli))) (ap (λ (y : Contents). y .state) eb) o))
 
     pub open-stops : t ≡ true → (x ≡ with-went (reopened c a) (opened c a given)) × (Full ≡ opened c a given .answer)
     unfolding opened
@@ -200,7 +200,7 @@ module _
         in
         (k .areas, k .answer)
 
-    pub opens-all : (y : Areas) (r₂ : Answer) → t ≡ false → Opens c x y r₂ (finished c (advanced-all c (narrow (given .dt)) (lowered c (x .state)))) →
+    pub opens-all : (y : Contents) (r₂ : Answer) → t ≡ false → Opens c x y r₂ (finished c (advanced-all c (narrow (given .dt)) (lowered c (x .state)))) →
         (y ≡ with-went (reopened c a) (opened c a given)) × (r₂ ≡ opened c a given .answer)
     unfolding opened arrived
     opens-all y r₂ i p =

@@ -13,7 +13,7 @@ use Rattle.model.specs.Opening.{Opened, open-tick}
 use Rattle.units.specs.declared.Place.the-variants.{Late, Pending}
 use Rattle.units.specs.View.{Lists}
 use Rattle.units.specs.Raising.{all-by-rank, activate, deliver, Went, raise-into}
-use Rattle.areas.specs.Areas.{Areas, with-went}
+use Rattle.areas.specs.Areas.{Contents, with-went}
 
 -- to the list that it is meant for
 unfoldable pub put-to : Circuit → Place → Act → Lists → Filed Lists
@@ -30,7 +30,7 @@ unfoldable pub unopened : State → Opened
 unopened s = record { state = s; raises = [] }
 
 -- a part of the opening: the areas a became b, with the answer r, as the definition's z says
-pub record Opens (c : Circuit) (a b : Areas) (r : Answer) (z : Opened) : Type 0 where
+pub record Opens (c : Circuit) (a b : Contents) (r : Answer) (z : Opened) : Type 0 where
   pub areas : b ≡ with-went a (opened-into c z (a .lists))
   pub answer : r ≡ opened-into c z (a .lists) .answer
 
@@ -40,7 +40,7 @@ stimuli-of c ws gates constants n =
     both (λ g k. stimulus (c .constants) (g % 2 ^ 16) (k % 2 ^ 16)) (part ws gates n) (part ws constants n)
 
 -- The areas as a tick finds them after the one before: what was carried is late, nothing else waits, no unit has begun, and what was sent is delivered now.
-unfoldable pub reopened : Circuit → Areas → Areas
+unfoldable pub reopened : Circuit → Contents → Contents
 reopened c a =
     record {
       state = a .state;
@@ -58,5 +58,5 @@ reopened c a =
     }
 
 -- the opening of a tick
-unfoldable pub opened : Circuit → Areas → Given → Went
+unfoldable pub opened : Circuit → Contents → Given → Went
 opened c a given = opened-into c (open-tick c (a .state) given) (reopened c a .lists)

@@ -22,7 +22,7 @@ use Rattle.wires.specs.View.{Values}
 use Rattle.states.specs.View.{Delays}
 use Rattle.units.specs.View.{Lists, Units}
 use Rattle.units.specs.Raising.{with-lists}
-use Rattle.areas.specs.Areas.{Areas, together, with-state}
+use Rattle.areas.specs.Areas.{Contents, together, with-state}
 use Rattle.opening.specs.Opening.{put-to, unopened}
 
 -- the lists that filing led to, and whether one was full
@@ -55,7 +55,7 @@ is-full Full = true
 is-full Done = false
 
 -- A gate moved on as the definition's z says: the areas a became b, and n Fires of gate g are still to be filed.
-pub record Advances (a b : Areas) (z : Opened) (p : Place) (g n : ℕ) : Type 0 where
+pub record Advances (a b : Contents) (z : Opened) (p : Place) (g n : ℕ) : Type 0 where
   pub areas : b ≡ with-state a (z .state)
   pub raises : z .raises ≡ raised-to p (z .state) (fire n g)
 

@@ -29,7 +29,7 @@ use units::forms::FIRE;
 use units::forms::STIMULUS;
 use units::raising::activate;
 use units::raising::deliver;
-use values::same;
+use value::same;
 use words::get;
 
 // Whether a list was full.

@@ -20,7 +20,7 @@ use Rattle.units.specs.declared.Place.{Place}
 use Rattle.units.specs.View.{gate-of, form-of, entry-of, act-of, event-of, begun-of, Begun, Lists, Units}
 use Rattle.units.specs.Raising.{late≔, delivered≔, with-lists}
 use Rattle.units.specs.Calls.{with-begun, first-of, act-taken}
-use Rattle.areas.specs.Areas.{Areas, together}
+use Rattle.areas.specs.Areas.{Contents, together}
 use Rattle.chain.specs.declared.Ran.{Ran}
 use Rattle.unit.specs.declared.Act.{Act}
 use Rattle.unit.specs.declared.Act.the-variants.{Waiting, Event}
@@ -61,7 +61,7 @@ one-more : (U U₁ : Units) (b : Begun) → length (U .begun) < 1024 → U₁ �
 one-more U U₁ b h e = e ∙ ap (λ (t : Bool). with-begun U (cond t (snoc (U .begun) b) (U .begun))) (lt-ltb (length (U .begun)) 1024 h)
 
 pub begins :
-    (c : Circuit) (vs : Values) (U U₁ : Units) (D : Delays) (b : Areas) (r : Ran) (x left : ℕ) (a : Act) (to : Place) → length (U .begun) < 1024 →
+    (c : Circuit) (vs : Values) (U U₁ : Units) (D : Delays) (b : Contents) (r : Ran) (x left : ℕ) (a : Act) (to : Place) → length (U .begun) < 1024 →
     begun-of x ≡ begun-as (act-in c (U .events) a) →
     U₁ ≡ with-begun U (cond (ltb (length (U .begun)) 1024) (snoc (U .begun) (begun-of x)) (U .begun)) →
     Ran-as (together vs U₁ D) b r (ran c to left (act-in c (U₁ .events) a) (together vs U₁ D .state) (U₁ .lists)) →
@@ -71,9 +71,9 @@ begins c vs U U₁ D b r x left a to h e f q =
     let p : Ran-as (together vs (with-begun U (snoc (U .begun) (begun-as (act-in c (U .events) a)))) D) b r (ran c to left (act-in c (U .events) a) (together vs U D .state) (U .lists)) =
     subst (λ (u : Units). Ran-as (together vs u D) b r (ran c to left (act-in c (u .events) a) (together vs u D .state) (u .lists))) k q in
     record {
-      state = ap (λ (x : Areas). x .state) (p .areas);
-      lists = ap (λ (x : Areas). x .lists) (p .areas);
-      kept = ap (λ (x : Areas). x .kept) (p .areas);
+      state = ap (λ (x : Contents). x .state) (p .areas);
+      lists = ap (λ (x : Contents). x .lists) (p .areas);
+      kept = ap (λ (x : Contents). x .kept) (p .areas);
       left = p .left;
       stop = p .stop;
     }

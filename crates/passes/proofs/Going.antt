@@ -13,7 +13,7 @@ use Rattle.model.specs.Unit.{World, state≔}
 use Rattle.units.specs.declared.Place.{Place}
 use Rattle.units.specs.View.{Lists, Begun}
 use Rattle.units.specs.Raising.{activate}
-use Rattle.areas.specs.Areas.{Areas, Kept}
+use Rattle.areas.specs.Areas.{Contents, Kept}
 use Rattle.chain.specs.declared.Ran.{Ran}
 use Rattle.unit.specs.Unit.{ran}
 use Rattle.passes.specs.Waiting.{bare, waiting}
@@ -32,14 +32,14 @@ module _ (c : Circuit) (limit : ℕ) where
 
   module _ {Q : Type 0} (h : Lists → Q) (next : Q → Took (Activation S) Q) (act : Activation S → Activation S → Q → Filed Q) (to : Act → Place) (files : (u a : Act) (l : Lists) → act (waiting c limit u) (waiting c limit a) (h l) ≡ through h (activate c (to u) a l)) where
     -- Since the areas a, with w, it has begun these; the areas are b now, n units may still begin, and the tick may make so many steps more.
-    pub record Going (a b : Areas) (w : World) (left n : ℕ) : Type 0 where
+    pub record Going (a b : Contents) (w : World) (left n : ℕ) : Type 0 where
       pub before : List Act
       pub like : Like c limit (pass S next act (units-left a) tt (h (a .lists)) w 0) (pass S next act n tt (h (b .lists)) (state≔ w left (b .state)) 0) before
       pub kept : b .kept ≡ with-begun (a .kept) (a .kept .begun ++ map begun-as before)
       pub rest : n ≡ units-left b
 
     -- at its start
-    pub going-first : (a : Areas) (w : World) (left : ℕ) → w .state ≡ a .state → w .left ≡ left → Going a a w left (units-left a)
+    pub going-first : (a : Contents) (w : World) (left : ℕ) → w .state ≡ a .state → w .left ≡ left → Going a a w left (units-left a)
     going-first a w left e f =
         record {
           before = [];
@@ -50,7 +50,7 @@ module _ (c : Circuit) (limit : ℕ) where
 
     -- The next one begins and runs, to no stop.
     pub going-on :
-        (a b b₁ : Areas) (w : World) (left n : ℕ) (x : Act) (rest : Lists) → next (h (b .lists)) ≡ took (waiting c limit x) (h rest) →
+        (a b b₁ : Contents) (w : World) (left n : ℕ) (x : Act) (rest : Lists) → next (h (b .lists)) ≡ took (waiting c limit x) (h rest) →
         let z = ran c (to x) left x (b .state) rest in
         b₁ .state ≡ z .state → b₁ .lists ≡ z .lists → b₁ .kept ≡ with-begun (b .kept) (snoc (b .kept .begun) (begun-as x)) → z .stop ≡ 0 →
         Going a b w left (suc n) → Going a b₁ w (z .left) n
@@ -73,7 +73,7 @@ module _ (c : Circuit) (limit : ℕ) where
 
     -- it came to this
     ended :
-        (a b : Areas) (r : Ran) (w : World) (p : Passed S Q) (n s : ℕ) (before : List Act) → Like c limit p (no-turn S n tt (h (b .lists)) (state≔ w (r .left) (b .state)) s) before →
+        (a b : Contents) (r : Ran) (w : World) (p : Passed S Q) (n s : ℕ) (before : List Act) → Like c limit p (no-turn S n tt (h (b .lists)) (state≔ w (r .left) (b .state)) s) before →
         r .stop ≡ s → n ≡ units-left b → b .kept ≡ with-begun (a .kept) (a .kept .begun ++ map begun-as before) → Passes c limit h a b r w p
     ended a b r w p n s before i e f k =
         record {
@@ -86,7 +86,7 @@ module _ (c : Circuit) (limit : ℕ) where
 
     -- nothing waits
     pub going-none :
-        (a b : Areas) (r : Ran) (w : World) (left n : ℕ) → next (h (b .lists)) ≡ empty → r .left ≡ left → r .stop ≡ 0 → Going a b w left n →
+        (a b : Contents) (r : Ran) (w : World) (left n : ℕ) → next (h (b .lists)) ≡ empty → r .left ≡ left → r .stop ≡ 0 → Going a b w left n →
         Passes c limit h a b r w (pass S next act (units-left a) tt (h (a .lists)) w 0)
     going-none a b r w left n e f o g =
         ended a b r w _ n 0 (g .before)
@@ -95,7 +95,7 @@ module _ (c : Circuit) (limit : ℕ) where
 
     -- one waits, and none may begin any more
     pub going-over :
-        (a b : Areas) (r : Ran) (w : World) (left : ℕ) (u : Activation S) (q : Q) → next (h (b .lists)) ≡ took u q → r .left ≡ left → r .stop ≡ list-full → Going a b w left 0 →
+        (a b : Contents) (r : Ran) (w : World) (left : ℕ) (u : Activation S) (q : Q) → next (h (b .lists)) ≡ took u q → r .left ≡ left → r .stop ≡ list-full → Going a b w left 0 →
         Passes c limit h a b r w (pass S next act (units-left a) tt (h (a .lists)) w 0)
     going-over a b r w left u q e f o g =
         ended a b r w _ 0 list-full (g .before)
@@ -104,7 +104,7 @@ module _ (c : Circuit) (limit : ℕ) where
 
     -- a unit came to a stop
     pub going-stop :
-        (a b b₁ : Areas) (r : Ran) (w : World) (left n : ℕ) (x : Act) (rest : Lists) → next (h (b .lists)) ≡ took (waiting c limit x) (h rest) →
+        (a b b₁ : Contents) (r : Ran) (w : World) (left n : ℕ) (x : Act) (rest : Lists) → next (h (b .lists)) ≡ took (waiting c limit x) (h rest) →
         let z = ran c (to x) left x (b .state) rest in
         b₁ .state ≡ z .state → b₁ .lists ≡ z .lists → b₁ .kept ≡ with-begun (b .kept) (snoc (b .kept .begun) (begun-as x)) → r .left ≡ z .left → r .stop ≡ z .stop → (r .stop ≡ 0 → ⊥) →
         Going a b w left (suc n) → Passes c limit h a b₁ r w (pass S next act (units-left a) tt (h (a .lists)) w 0)

@@ -14,7 +14,7 @@ use Rattle.states.specs.View.{Delays}
 use Rattle.units.specs.declared.Place.the-variants.{Late}
 use Rattle.units.specs.View.{Lists, Units}
 use Rattle.units.specs.Raising.{with-lists}
-use Rattle.areas.specs.Areas.{Areas, together}
+use Rattle.areas.specs.Areas.{Contents, together}
 use Rattle.chain.specs.declared.Ran.{Ran}
 use Rattle.unit.specs.declared.Act.{Act}
 use Rattle.unit.specs.Unit.{act-in, ran}
@@ -63,20 +63,20 @@ module _ (c : Circuit) (limit : ℕ) where
   took-late [] (a ∷ d) p q x e = let f : x ≡ a = cc in rw f refl
   took-late (b ∷ k) d p q x e = let f : x ≡ b = cc in rw f refl
 
-  abbrev pub Going-late : Areas → Areas → World → ℕ → ℕ → Type 0
+  abbrev pub Going-late : Contents → Contents → World → ℕ → ℕ → Type 0
   Going-late a b w left n = Going c limit (for-late c limit) (next-late (bare c limit)) (activate-late (bare c limit)) (λ _. Late) (λ u x l. late-files c limit (waiting c limit u) x l) a b w left n
 
 -- The late pass under way since the areas a, with so many steps that the tick might make: b are the areas now, n units may still begin, and the tick may make so many steps more.
-pub record Lately (c : Circuit) (a b : Areas) (left₀ left n : ℕ) : Type 0 where
+pub record Lately (c : Circuit) (a b : Contents) (left₀ left n : ℕ) : Type 0 where
   pub going : (limit : ℕ) (w : World) → w .state ≡ a .state → w .left ≡ left₀ → Going-late c limit a b w left n
   pub later : later (b .lists) ≡ later (a .lists)
 
 -- how many units may still begin
-going-rest : {c : Circuit} {a b : Areas} {left₀ left n : ℕ} → Lately c a b left₀ left n → n ≡ units-left b
+going-rest : {c : Circuit} {a b : Contents} {left₀ left n : ℕ} → Lately c a b left₀ left n → n ≡ units-left b
 going-rest {c} {a} {b} {left₀} {left} {n} g = g .going 0 (record { state = a .state; left = left₀; room = 0; logged = [] }) refl refl .rest
 
 -- it came to this
-abbrev pub Late-done : Circuit → Areas → Areas → Ran → ℕ → Type 0
+abbrev pub Late-done : Circuit → Contents → Contents → Ran → ℕ → Type 0
 Late-done c a b r left₀ =
     ((limit : ℕ) (w : World) → w .state ≡ a .state → w .left ≡ left₀ → Passes c limit (for-late c limit) a b r w (late-pass (bare c limit) (units-left a) tt (for-late c limit (a .lists)) w 0))
     × ((b .lists .pending ≡ a .lists .pending) × (b .lists .carried ≡ a .lists .carried))
@@ -85,14 +85,14 @@ both-later : (l k : Lists) → later l ≡ later k → (l .pending ≡ k .pendin
 both-later l k e = (ap (λ (x : Later). x .pending) e, ap (λ (x : Later). x .carried) e)
 
 module _ (c : Circuit) where
-  pub late-first : (a : Areas) (left n : ℕ) → n ≡ units-left a → Lately c a a left left n
+  pub late-first : (a : Contents) (left n : ℕ) → n ≡ units-left a → Lately c a a left left n
   late-first a left n e =
       record {
         going = λ limit w s f. subst (λ (m : ℕ). Going-late c limit a a w left m) (sym e) (going-first c limit (for-late c limit) (next-late (bare c limit)) (activate-late (bare c limit)) (λ _. Late) (λ u x l. late-files c limit (waiting c limit u) x l) a w left s f);
         later = refl;
       }
 
-  module _ (vs : Values) (U U₁ : Units) (D : Delays) (a : Areas) (left₀ left n : ℕ) (m : Next) (t : Takes c U U₁ m) (z : 0 < n) (g : Lately c a (together vs U D) left₀ left n) where
+  module _ (vs : Values) (U U₁ : Units) (D : Delays) (a : Contents) (left₀ left n : ℕ) (m : Next) (t : Takes c U U₁ m) (z : 0 < n) (g : Lately c a (together vs U D) left₀ left n) where
     -- there is room for one more
     pub late-room : length (U₁ .begun) < 1024
     late-room = let p : length (U₁ .begun) ≡ length (U .begun) = ap (λ (u : Units). length (u .begun)) (t .rest) in let q = going-rest g in omega arith
@@ -108,7 +108,7 @@ module _ (c : Circuit) where
           both-later (U₁ .lists) (a .lists) (ap (λ (u : Units). later (u .lists)) same ∙ g .later),
         )
 
-    module _ (b₁ : Areas) (r : Ran) (y : Act) (h : m ≡ Begins y) (q : Works b₁ r (one-begun (together vs U₁ D .kept) (act-in c (U₁ .events) y)) (ran c Late left (act-in c (U₁ .events) y) (together vs U₁ D .state) (U₁ .lists))) where
+    module _ (b₁ : Contents) (r : Ran) (y : Act) (h : m ≡ Begins y) (q : Works b₁ r (one-begun (together vs U₁ D .kept) (act-in c (U₁ .events) y)) (ran c Late left (act-in c (U₁ .events) y) (together vs U₁ D .state) (U₁ .lists))) where
       abbrev act-here : Unit-act
       act-here = act-in c (U .events) y
 
@@ -142,7 +142,7 @@ module _ (c : Circuit) where
           )
 
   -- none may begin any more
-  pub late-end : (a b : Areas) (r : Ran) (left₀ left n : ℕ) → n ≤ 0 → (r .left ≡ left) × (r .stop ≡ over (next-in (b .lists))) → Lately c a b left₀ left n → Late-done c a b r left₀
+  pub late-end : (a b : Contents) (r : Ran) (left₀ left n : ℕ) → n ≤ 0 → (r .left ≡ left) × (r .stop ≡ over (next-in (b .lists))) → Lately c a b left₀ left n → Late-done c a b r left₀
   unfolding late-pass
   late-end a b r left₀ left n z e g =
       let l = b .lists in (

@@ -12,7 +12,7 @@ use Rattle.states.specs.View.{Delays}
 use Rattle.units.specs.declared.Place.{Place}
 use Rattle.units.specs.View.{Lists, Units}
 use Rattle.units.specs.Raising.{with-lists, activate}
-use Rattle.areas.specs.Areas.{Areas, together}
+use Rattle.areas.specs.Areas.{Contents, together}
 use Rattle.chain.specs.declared.Ran.{Ran}
 use Rattle.unit.specs.Unit.{ran}
 use Rattle.passes.specs.Waiting.{bare, waiting}
@@ -22,7 +22,7 @@ use Rattle.passes.proofs.Filing.{through}
 use Rattle.passes.proofs.Going.{Going, going-on, going-none, going-over, going-stop}
 
 module _ (c : Circuit) (limit : ℕ) {Q : Type 0} (h : Lists → Q) (next : Q → Took (Activation (bare c limit)) Q) (act : Activation (bare c limit) → Activation (bare c limit) → Q → Filed Q) (to : Unit-act → Place) (files : (u a : Unit-act) (l : Lists) → act (waiting c limit u) (waiting c limit a) (h l) ≡ through h (activate c (to u) a l)) where
-  module _ (vs : Values) (U U₁ : Units) (D : Delays) (a b₁ : Areas) (r : Ran) (w : World) (left : ℕ) (x : Unit-act) (rest : Lists) (e : U₁ ≡ with-lists U rest) (t : next (h (U .lists)) ≡ took (waiting c limit x) (h rest)) (q : Works b₁ r (one-begun (together vs U₁ D .kept) x) (ran c (to x) left x (together vs U₁ D .state) (U₁ .lists))) where
+  module _ (vs : Values) (U U₁ : Units) (D : Delays) (a b₁ : Contents) (r : Ran) (w : World) (left : ℕ) (x : Unit-act) (rest : Lists) (e : U₁ ≡ with-lists U rest) (t : next (h (U .lists)) ≡ took (waiting c limit x) (h rest)) (q : Works b₁ r (one-begun (together vs U₁ D .kept) x) (ran c (to x) left x (together vs U₁ D .state) (U₁ .lists))) where
     -- with the lists after what was taken
     works : Works b₁ r (one-begun (together vs U D .kept) x) (ran c (to x) left x (together vs U D .state) rest)
     works = subst (λ (u : Units). Works b₁ r (one-begun (together vs u D .kept) x) (ran c (to x) left x (together vs u D .state) (u .lists))) e q
@@ -43,7 +43,7 @@ module _ (c : Circuit) (limit : ℕ) {Q : Type 0} (h : Lists → Q) (next : Q �
 
   -- nothing waits
   pub turn-none :
-      (vs : Values) (U U₁ : Units) (D : Delays) (a : Areas) (r : Ran) (w : World) (left n : ℕ) → U₁ ≡ U → next (h (U .lists)) ≡ empty → r .left ≡ left → r .stop ≡ 0 →
+      (vs : Values) (U U₁ : Units) (D : Delays) (a : Contents) (r : Ran) (w : World) (left n : ℕ) → U₁ ≡ U → next (h (U .lists)) ≡ empty → r .left ≡ left → r .stop ≡ 0 →
       Going c limit h next act to files a (together vs U D) w left n → Passes c limit h a (together vs U₁ D) r w (pass (bare c limit) next act (units-left a) tt (h (a .lists)) w 0)
   turn-none vs U U₁ D a r w left n e t f o g =
       subst (λ (u : Units). Passes c limit h a (together vs u D) r w (pass (bare c limit) next act (units-left a) tt (h (a .lists)) w 0)) (sym e)
@@ -51,7 +51,7 @@ module _ (c : Circuit) (limit : ℕ) {Q : Type 0} (h : Lists → Q) (next : Q �
 
   -- none may begin any more
   pub turn-over :
-      (a b : Areas) (r : Ran) (w : World) (left n : ℕ) (o : Option Unit-act) → (none ≡ o → next (h (b .lists)) ≡ empty) → (rest : Lists) → ((x : Unit-act) → some x ≡ o → next (h (b .lists)) ≡ took (waiting c limit x) (h rest)) →
+      (a b : Contents) (r : Ran) (w : World) (left n : ℕ) (o : Option Unit-act) → (none ≡ o → next (h (b .lists)) ≡ empty) → (rest : Lists) → ((x : Unit-act) → some x ≡ o → next (h (b .lists)) ≡ took (waiting c limit x) (h rest)) →
       r .left ≡ left → r .stop ≡ over o → n ≤ 0 → Going c limit h next act to files a b w left n → Passes c limit h a b r w (pass (bare c limit) next act (units-left a) tt (h (a .lists)) w 0)
   unfolding over
   turn-over a b r w left zero none i rest j f o z g = going-none c limit h next act to files a b r w left 0 (i refl) f o g

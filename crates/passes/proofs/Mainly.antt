@@ -18,7 +18,7 @@ use Rattle.units.specs.declared.Place.the-variants.{After}
 use Rattle.units.specs.View.{gate-of, act-of, Lists, Units}
 use Rattle.units.specs.Raising.{pending≔, with-lists}
 use Rattle.units.specs.Calls.{first-of, act-taken}
-use Rattle.areas.specs.Areas.{Areas, together}
+use Rattle.areas.specs.Areas.{Contents, together}
 use Rattle.chain.specs.declared.Ran.{Ran}
 use Rattle.unit.specs.declared.Act.the-variants.{Waiting}
 use Rattle.unit.specs.Unit.{act-in, ran}
@@ -51,30 +51,30 @@ module _ (c : Circuit) (limit : ℕ) where
   abbrev pub after : Unit-act → Place
   after u = After (rank-of-gate c (u .gate))
 
-  abbrev pub Going-main : Areas → Areas → World → ℕ → ℕ → Type 0
+  abbrev pub Going-main : Contents → Contents → World → ℕ → ℕ → Type 0
   Going-main a b w left n = Going c limit (for-main c limit) (next-main (bare c limit)) (activate-main (bare c limit)) after (λ u x l. main-files c limit (waiting c limit u) x l) a b w left n
 
 -- The main pass under way since the areas a, with so many steps that the tick might make: b are the areas now, n units may still begin, and the tick may make so many steps more.
-pub record Mainly (c : Circuit) (a b : Areas) (left₀ left n : ℕ) : Type 0 where
+pub record Mainly (c : Circuit) (a b : Contents) (left₀ left n : ℕ) : Type 0 where
   pub going : (limit : ℕ) (w : World) → w .state ≡ a .state → w .left ≡ left₀ → Going-main c limit a b w left n
 
 -- how many units may still begin
-going-rest : {c : Circuit} {a b : Areas} {left₀ left n : ℕ} → Mainly c a b left₀ left n → n ≡ units-left b
+going-rest : {c : Circuit} {a b : Contents} {left₀ left n : ℕ} → Mainly c a b left₀ left n → n ≡ units-left b
 going-rest {c} {a} {b} {left₀} {left} {n} g = g .going 0 (record { state = a .state; left = left₀; room = 0; logged = [] }) refl refl .rest
 
 -- it came to this
-abbrev pub Main-done : Circuit → Areas → Areas → Ran → ℕ → Type 0
+abbrev pub Main-done : Circuit → Contents → Contents → Ran → ℕ → Type 0
 Main-done c a b r left₀ =
     (limit : ℕ) (w : World) → w .state ≡ a .state → w .left ≡ left₀ → Passes c limit (for-main c limit) a b r w (main-pass (bare c limit) (units-left a) tt (for-main c limit (a .lists)) w 0)
 
 module _ (c : Circuit) where
-  pub main-first : (a : Areas) (left n : ℕ) → n ≡ units-left a → Mainly c a a left left n
+  pub main-first : (a : Contents) (left n : ℕ) → n ≡ units-left a → Mainly c a a left left n
   main-first a left n e =
       record {
         going = λ limit w s f. subst (λ (m : ℕ). Going-main c limit a a w left m) (sym e) (going-first c limit (for-main c limit) (next-main (bare c limit)) (activate-main (bare c limit)) (after c limit) (λ u x l. main-files c limit (waiting c limit u) x l) a w left s f);
       }
 
-  module _ (vs : Values) (U U₁ : Units) (D : Delays) (a : Areas) (left₀ left n : ℕ) (m : Taken) (t : (act-taken (act-of c) m ≡ first-of (U .lists .pending)) × (U₁ ≡ with-lists U (rest-main (U .lists)))) (z : 0 < n) (g : Mainly c a (together vs U D) left₀ left n) where
+  module _ (vs : Values) (U U₁ : Units) (D : Delays) (a : Contents) (left₀ left n : ℕ) (m : Taken) (t : (act-taken (act-of c) m ≡ first-of (U .lists .pending)) × (U₁ ≡ with-lists U (rest-main (U .lists)))) (z : 0 < n) (g : Mainly c a (together vs U D) left₀ left n) where
     -- there is room for one more
     pub main-room : length (U₁ .begun) < 1024
     main-room = let p : length (U₁ .begun) ≡ length (U .begun) = ap (λ (u : Units). length (u .begun)) (t .1) in let q = going-rest g in omega arith
@@ -87,7 +87,7 @@ module _ (c : Circuit) where
         let same : U₁ ≡ U = t .1 ∙ ap (λ (k : List Unit-act). with-lists U (pending≔ (U .lists) k)) (drop-none (U .lists .pending) p) in
         turn-none c limit (for-main c limit) (next-main (bare c limit)) (activate-main (bare c limit)) (after c limit) (λ u x l. main-files c limit (waiting c limit u) x l) vs U U₁ D a r w left n same (empty-main c limit (U .lists .pending) (U .lists .carried) p) f o (g .going limit w i j)
 
-    module _ (b₁ : Areas) (r : Ran) (y v reached : ℕ) (h : m ≡ Entry y) (ev : (v ≡ gate-of y) × (v < 65536)) (er : reached ≡ rank-of-gate c v) (q : Works b₁ r (one-begun (together vs U₁ D .kept) (act-in c (U₁ .events) (Waiting y))) (ran c (After reached) left (act-in c (U₁ .events) (Waiting y)) (together vs U₁ D .state) (U₁ .lists))) where
+    module _ (b₁ : Contents) (r : Ran) (y v reached : ℕ) (h : m ≡ Entry y) (ev : (v ≡ gate-of y) × (v < 65536)) (er : reached ≡ rank-of-gate c v) (q : Works b₁ r (one-begun (together vs U₁ D .kept) (act-in c (U₁ .events) (Waiting y))) (ran c (After reached) left (act-in c (U₁ .events) (Waiting y)) (together vs U₁ D .state) (U₁ .lists))) where
       taken-here : some (act-of c y) ≡ first-of (U .lists .pending)
       unfolding act-taken
       taken-here = ap (act-taken (act-of c)) (sym h) ∙ t .0
@@ -114,7 +114,7 @@ module _ (c : Circuit) where
           turn-stop c limit (for-main c limit) (next-main (bare c limit)) (activate-main (bare c limit)) (after c limit) (λ u x l. main-files c limit (waiting c limit u) x l) vs U U₁ D a b₁ r w left (act-of c y) (rest-main (U .lists)) (t .1) (took-main c limit (U .lists .pending) (U .lists .carried) (act-of c y) taken-here) works-here n s z (g .going limit w i j)
 
   -- none may begin any more
-  pub main-end : (a b : Areas) (r : Ran) (left₀ left n : ℕ) → n ≤ 0 → (r .left ≡ left) × (r .stop ≡ over (first-of (b .lists .pending))) → Mainly c a b left₀ left n → Main-done c a b r left₀
+  pub main-end : (a b : Contents) (r : Ran) (left₀ left n : ℕ) → n ≤ 0 → (r .left ≡ left) × (r .stop ≡ over (first-of (b .lists .pending))) → Mainly c a b left₀ left n → Main-done c a b r left₀
   unfolding main-pass
   main-end a b r left₀ left n z e g limit w i j =
       let l = b .lists in

@@ -5,7 +5,7 @@ use Rattle.schedule.specs.Schedule.{late-pass, main-pass}
 use Rattle.model.specs.Circuit.{Circuit}
 use Rattle.model.specs.Unit.{World}
 use Rattle.units.specs.declared.Place.{Place}
-use Rattle.areas.specs.Areas.{Areas}
+use Rattle.areas.specs.Areas.{Contents}
 use Rattle.chain.specs.declared.Ran.{Ran}
 use Rattle.unit.specs.declared.Act.{Act as Entered}
 use Rattle.unit.specs.Unit.{act-in, ran}
@@ -13,22 +13,22 @@ use Rattle.passes.specs.Waiting.{bare, for-late, for-main}
 use Rattle.passes.specs.Passes.{units-left, Passes}
 use Rattle.passes.specs.Taking.{one-begun, Works}
 
-abbrev pub Passes-late : Circuit → Areas → Areas → ℕ → Ran → Type 0
+abbrev pub Passes-late : Circuit → Contents → Contents → ℕ → Ran → Type 0
 Passes-late c a b left r =
     (limit : ℕ) (w : World) → w .state ≡ a .state → w .left ≡ left
     → Passes c limit (for-late c limit) a b r w (late-pass (bare c limit) (units-left a) tt (for-late c limit (a .lists)) w 0)
 
-abbrev pub Passes-main : Circuit → Areas → Areas → ℕ → Ran → Type 0
+abbrev pub Passes-main : Circuit → Contents → Contents → ℕ → Ran → Type 0
 Passes-main c a b left r =
     (limit : ℕ) (w : World) → w .state ≡ a .state → w .left ≡ left
     → Passes c limit (for-main c limit) a b r w (main-pass (bare c limit) (units-left a) tt (for-main c limit (a .lists)) w 0)
 
 -- the late pass leaves what is pending and what is carried
-abbrev pub Leaves-main : Areas → Areas → Type 0
+abbrev pub Leaves-main : Contents → Contents → Type 0
 Leaves-main a b = (b .lists .pending ≡ a .lists .pending) × (b .lists .carried ≡ a .lists .carried)
 
 -- one more unit, x, was listed and ran
-abbrev pub Begins-unit : Circuit → Areas → Areas → Entered → ℕ → Place → Ran → Type 0
+abbrev pub Begins-unit : Circuit → Contents → Contents → Entered → ℕ → Place → Ran → Type 0
 Begins-unit c a b x left to r =
     Works
     b

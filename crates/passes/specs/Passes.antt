@@ -8,7 +8,7 @@ use Rattle.model.specs.Circuit.{Circuit}
 use Rattle.model.specs.State.{Act}
 use Rattle.model.specs.Unit.{World, state≔}
 use Rattle.units.specs.View.{Lists, Begun}
-use Rattle.areas.specs.Areas.{Areas, Kept}
+use Rattle.areas.specs.Areas.{Contents, Kept}
 use Rattle.chain.specs.declared.Ran.{Ran}
 use Rattle.passes.specs.Waiting.{bare}
 
@@ -22,11 +22,11 @@ with-begun k b =
     record { begun = b; events = k .events; parts = k .parts; behind-values = k .behind-values; behind-units = k .behind-units; behind-delays = k .behind-delays }
 
 -- the units that a tick may still begin
-abbrev pub units-left : Areas → ℕ
+abbrev pub units-left : Contents → ℕ
 units-left a = most-units - length (a .kept .begun)
 
 -- The areas a became b, with the answer r, as the pass p, from the world w on; h is what waits for it.
-pub record Passes (c : Circuit) (limit : ℕ) {Q : Type 0} (h : Lists → Q) (a b : Areas) (r : Ran) (w : World) (p : Passed (bare c limit) Q) : Type 0 where
+pub record Passes (c : Circuit) (limit : ℕ) {Q : Type 0} (h : Lists → Q) (a b : Contents) (r : Ran) (w : World) (p : Passed (bare c limit) Q) : Type 0 where
   pub world : p .world ≡ state≔ w (r .left) (b .state)
   pub queue : p .queue ≡ h (b .lists)
   pub stop : p .stop ≡ r .stop

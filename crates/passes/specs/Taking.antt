@@ -10,7 +10,7 @@ use Rattle.model.specs.Circuit.{Circuit}
 use Rattle.model.specs.State.{Act, Send}
 use Rattle.units.specs.View.{Lists, Units}
 use Rattle.units.specs.Raising.{late≔, delivered≔, with-lists}
-use Rattle.areas.specs.Areas.{Areas, Kept}
+use Rattle.areas.specs.Areas.{Contents, Kept}
 use Rattle.chain.specs.declared.Ran.{Ran}
 use Rattle.unit.specs.Unit.{act-in, Result}
 use Rattle.passes.specs.declared.Next.{Next}
@@ -54,7 +54,7 @@ abbrev pub one-begun : Kept → Act → Kept
 one-begun k a = with-begun k (snoc (k .begun) (begun-as a))
 
 -- The areas became b, with the answer r, as a unit that came to z and keeps k.
-pub record Works (b : Areas) (r : Ran) (k : Kept) (z : Result) : Type 0 where
+pub record Works (b : Contents) (r : Ran) (k : Kept) (z : Result) : Type 0 where
   pub state : b .state ≡ z .state
   pub lists : b .lists ≡ z .lists
   pub kept : b .kept ≡ k

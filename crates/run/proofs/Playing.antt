@@ -17,7 +17,7 @@ use Rattle.model.specs.Run.{seen, world-at-start}
 use Rattle.wires.specs.View.{Values}
 use Rattle.units.specs.View.{Units}
 use Rattle.units.specs.Calls.{empty}
-use Rattle.areas.specs.Areas.{Areas}
+use Rattle.areas.specs.Areas.{Contents}
 use Rattle.opening.specs.Opening.{stimuli-of}
 use Rattle.passes.specs.Waiting.{bare, waiting}
 use Rattle.ticks.specs.Ticks.{Ticks}
@@ -37,7 +37,7 @@ started c v u ds r s e f g = (rw (e, f, g) refl, rw f refl)
 -- ---- a run under way
 
 -- After k ticks, with so many stimuli used and so many words of records: the run so far, the number of the last tick, and that the records are in the log.
-pub record Playing (c : Circuit) (limit : ℕ) (ws : List ℕ) (k taken at : ℕ) (a : Areas) (before log : List ℕ) : Type 0 where
+pub record Playing (c : Circuit) (limit : ℕ) (ws : List ℕ) (k taken at : ℕ) (a : Contents) (before log : List ℕ) : Type 0 where
   pub running : Running c limit (givens c ws) (world-at-start c limit (length before)) k a before log at
   pub number : a .state .wires .tick ≡ k
   pub taken-is : taken ≡ used (part ws (2 + word-at ws 0) (word-at ws 0)) k
@@ -48,7 +48,7 @@ unfolding sum
 none-used ns = refl
 
 pub playing-first :
-    (c : Circuit) (limit : ℕ) (ws : List ℕ) (a : Areas) (log : List ℕ) → a .state ≡ start c → a .lists .carried ≡ [] → Playing c limit ws 0 0 0 a log log
+    (c : Circuit) (limit : ℕ) (ws : List ℕ) (a : Contents) (log : List ℕ) → a .state ≡ start c → a .lists .carried ≡ [] → Playing c limit ws 0 0 0 a log log
 unfolding world-at-start
 playing-first c limit ws a log e f =
     record {
@@ -75,12 +75,12 @@ few-ticks c bs T good eT = let e = good .ticks in omega arith
 
 module _ (c : Circuit) (limit : ℕ) (ws : List ℕ) (good : Good-script c ws) (before : List ℕ) (T S : ℕ) (eT : T ≡ getD ws 0 0) (eS : S ≡ getD ws 1 0) where
   -- what a tick's contract says of its areas and its log
-  abbrev pub Plays : ℕ → ℕ → ℕ → ℕ → ℕ → ℕ → ℕ → Areas → Areas → List ℕ → List ℕ → Type 0
+  abbrev pub Plays : ℕ → ℕ → ℕ → ℕ → ℕ → ℕ → ℕ → Contents → Contents → List ℕ → List ℕ → Type 0
   Plays gates constants n dt at size stop a b log after =
       (w : World) → w .state ≡ a .state → w .room ≡ length log - 8 * at →
       Ticks c limit a b log after at size stop w (tick (bare c limit) w (record { dt = dt; stimuli = stimuli-of c ws gates constants n }) (map (waiting c limit) (a .lists .carried)) tt)
 
-  module _ (k taken at : ℕ) (a : Areas) (log : List ℕ) (p : Playing c limit ws k taken at a before log) (same : length log ≡ length before) (h : k < T) where
+  module _ (k taken at : ℕ) (a : Contents) (log : List ℕ) (p : Playing c limit ws k taken at a before log) (same : length log ≡ length before) (h : k < T) where
     at-word : k < word-at ws 0
     unfolding word-at
     at-word = omega arith
@@ -94,7 +94,7 @@ module _ (c : Circuit) (limit : ℕ) (ws : List ℕ) (good : Good-script c ws) (
         let z : n ≡ getD ws (2 + getD ws 0 0 + k) 0 = e ∙ ap (λ (m : ℕ). getD ws (2 + m + k) 0) eT in
         omega arith
 
-    module _ (n dt : ℕ) (en : n ≡ getD ws (2 + T + k) 0) (ed : dt ≡ getD ws (2 + k) 0) (size stop : ℕ) (b : Areas) (after : List ℕ)
+    module _ (n dt : ℕ) (en : n ≡ getD ws (2 + T + k) 0) (ed : dt ≡ getD ws (2 + k) 0) (size stop : ℕ) (b : Contents) (after : List ℕ)
         (t : Plays (2 + 2 * T + taken) (2 + 2 * T + S + taken) n dt at size stop a b log after) where
       abbrev given : Given
       given = record { dt = dt; stimuli = stimuli-of c ws (2 + 2 * T + taken) (2 + 2 * T + S + taken) n }
@@ -127,7 +127,7 @@ module _ (c : Circuit) (limit : ℕ) (ws : List ℕ) (good : Good-script c ws) (
 
   -- the script's end
   pub playing-end :
-      (k taken at : ℕ) (a : Areas) (log : List ℕ) → Playing c limit ws k taken at a before log → T ≤ k → k ≤ T →
+      (k taken at : ℕ) (a : Contents) (log : List ℕ) → Playing c limit ws k taken at a before log → T ≤ k → k ≤ T →
       Logged (seen c limit (run (bare c limit) (givens c ws) (world-at-start c limit (length before)))) before log at 0 T × (at * 8 ≤ length before)
   unfolding word-at
   playing-end k taken at a log p h g =

@@ -14,7 +14,7 @@ use Rattle.model.specs.Circuit.{Circuit}
 use Rattle.model.specs.Script.{Given}
 use Rattle.model.specs.Unit.{World}
 use Rattle.model.specs.Run.{Played, last-stop, seen}
-use Rattle.areas.specs.Areas.{Areas}
+use Rattle.areas.specs.Areas.{Contents}
 use Rattle.passes.specs.Waiting.{bare, waiting}
 use Rattle.ticks.specs.Ticks.{Ticks}
 use Rattle.run.specs.Running.{more, Running, Logged}
@@ -58,7 +58,7 @@ module _ (c : Circuit) (limit : ℕ) where
   -- ---- a run under way
   module _ (givens : List Given) (w : World) (before : List ℕ) where
     -- its start
-    pub running-first : (a : Areas) (log : List ℕ) → log ≡ before → w .state ≡ a .state → w .room ≡ length before → a .lists .carried ≡ [] → Running c limit givens w 0 a before log 0
+    pub running-first : (a : Contents) (log : List ℕ) → log ≡ before → w .state ≡ a .state → w .room ≡ length before → a .lists .carried ≡ [] → Running c limit givens w 0 a before log 0
     unfolding more run
     running-first a log same e f g =
         record {
@@ -72,7 +72,7 @@ module _ (c : Circuit) (limit : ℕ) where
           seen = rw g (sym (nothing-before (seen c limit (run S givens w))));
         }
 
-    module _ (k : ℕ) (a : Areas) (log : List ℕ) (at : ℕ) (r : Running c limit givens w k a before log at) where
+    module _ (k : ℕ) (a : Contents) (log : List ℕ) (at : ℕ) (r : Running c limit givens w k a before log at) where
       -- the next tick
       abbrev pub ticked : Given → Tick S
       ticked i = tick S (r .world) i (map (waiting c limit) (a .lists .carried)) tt
@@ -86,7 +86,7 @@ module _ (c : Circuit) (limit : ℕ) where
 
       -- it came to no stop
       pub running-on :
-          (i : Given) (b : Areas) (after : List ℕ) (size : ℕ) → drop k givens ≡ i ∷ drop (k + 1) givens → Ticks c limit a b log after at size 0 (r .world) (ticked i) →
+          (i : Given) (b : Contents) (after : List ℕ) (size : ℕ) → drop k givens ≡ i ∷ drop (k + 1) givens → Ticks c limit a b log after at size 0 (r .world) (ticked i) →
           Running c limit givens w (k + 1) b before after (at + size)
       running-on i b after size e t =
           record {
@@ -102,7 +102,7 @@ module _ (c : Circuit) (limit : ℕ) where
 
       -- it came to a stop, which ends the run
       pub running-stop :
-          (i : Given) (b : Areas) (after : List ℕ) (size stop : ℕ) → drop k givens ≡ i ∷ drop (k + 1) givens → (stop ≡ 0 → ⊥) → Ticks c limit a b log after at size stop (r .world) (ticked i) →
+          (i : Given) (b : Contents) (after : List ℕ) (size stop : ℕ) → drop k givens ≡ i ∷ drop (k + 1) givens → (stop ≡ 0 → ⊥) → Ticks c limit a b log after at size stop (r .world) (ticked i) →
           Logged (seen c limit (run S givens w)) before after (at + size) stop k
       unfolding more
       running-stop i b after size stop e f t =

@@ -17,7 +17,7 @@ use Rattle.model.specs.Unit.{World}
 use Rattle.model.specs.Run.{Played, seen, world-at-start}
 use Rattle.links.specs.Links.{net}
 use Rattle.links.specs.Lent.{net-of}
-use Rattle.areas.specs.Areas.{Areas, areas}
+use Rattle.areas.specs.Areas.{Contents, areas}
 use Rattle.passes.specs.Waiting.{bare, waiting}
 use Rattle.run.specs.declared.Outcome.{Outcome}
 
@@ -26,7 +26,7 @@ unfoldable pub more : List ℕ → ℕ → Played → Played
 more log k p = record { log = log ++ p .log; stop = p .stop; ticks = k + p .ticks }
 
 -- After k ticks of a run from the world w on: the areas are a, and the log, which held `before`, has so many words of records.
-pub record Running (c : Circuit) (limit : ℕ) (gs : List Given) (w : World) (k : ℕ) (a : Areas) (before log : List ℕ) (at : ℕ) : Type 0 where
+pub record Running (c : Circuit) (limit : ℕ) (gs : List Given) (w : World) (k : ℕ) (a : Contents) (before log : List ℕ) (at : ℕ) : Type 0 where
   pub world : World
   pub state : world .state ≡ a .state
   pub room : world .room ≡ length before - 8 * at

@@ -45,7 +45,7 @@ fn start(links: &[usize], values: &mut [u8], units: &mut [u8], delays: &mut [u8]
 {
     wires::start::start(links, values);
     units::raising::start(links, units);
-    parts::start(links, delays);
+    queues::start(links, delays);
 }
 
 // All ticks of a script, up to a stop.

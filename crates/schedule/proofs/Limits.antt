@@ -1,4 +1,4 @@
--- Every tick keeps to the limits that `Limited` names.
+-- Every tick keeps to the limits that `Few-units` names.
 use mathlib.Core.Path.{_≡_, ap}
 use mathlib.Core.List.{List, [], _∷_}
 use mathlib.Core.Logic.{_⊎_, inl, inr}
@@ -7,7 +7,7 @@ use native.Mathlib.Omega.{arith}
 use lib.ListN.{length, length-append}
 use Rattle.schedule.specs.Schedule.{Setup, Machine, Took, took, Filed, filed, most-waiting, MainQ, OpenQ, Place, Activation, push, activate-main, activate-open, next-main, Turn, Tick, run}
 use Rattle.schedule.specs.Promise.{All}
-use Rattle.schedule.specs.Limits.{Limited}
+use Rattle.schedule.specs.Limits.{Few-units}
 use Rattle.schedule.proofs.Steps.{next-main-is, To-main, at-carried, at-pending, activate-main-is, activate-open-is, Raises, none, one, Passes, broke, done, turn}
 use Rattle.schedule.proofs.Weigh.{total-one, push-weigh}
 use Rattle.schedule.proofs.Ticks.{Ticked, ticked}
@@ -55,12 +55,12 @@ module _ (S : Setup) where
       go (inr h) = omega (arith, ap length (h .0), push-length e (q .pending))
 
   -- ---- a tick, and a run
-  tick-limited : {c : List (Activation S)} {t : Tag} {k : Tick S} → Ticked S c t k → Limited S k
+  tick-limited : {c : List (Activation S)} {t : Tag} {k : Tick S} → Ticked S c t k → Few-units S k
   tick-limited {k = k} T =
       let f : Fits (T .m) =
       passes-keep (next-main S) (activate-main S) Fits next-fits activate-fits (T .main)
       (raises-keep (activate-open S) (λ q. length (q .pending) ≤ 256) open-fits (T .opened) (omega arith), omega arith) in
       record { units = T .units; carried = omega (arith, ap length (T .carried)); waiting = omega (arith, ap length (T .waiting)) }
 
-  pub limited : (is : List In) (w : W) → All (Limited S) (run S is w)
-  limited is w = every S (Limited S) (λ w i c t. tick-limited (ticked S w i c t)) is w
+  pub limited : (is : List In) (w : W) → All (Few-units S) (run S is w)
+  limited is w = every S (Few-units S) (λ w i c t. tick-limited (ticked S w i c t)) is w

@@ -1,11 +1,11 @@
--- The theorems of the scheduler. What they say is defined in specs/: the runs in Schedule, `Order` and `Follows` in Promise, `bare-tick` in Erasure, `Limited` in Limits,
+-- The theorems of the scheduler. What they say is defined in specs/: the runs in Schedule, `Order` and `Follows` in Promise, `bare-tick` in Erasure, `Few-units` in Limits,
 -- `Tick-keeps` in Keeping.
 use mathlib.Core.Path.{_≡_}
 use mathlib.Core.List.{List, map}
 use Rattle.schedule.specs.Schedule.{Machine, Outcome, Setup, numbered, plain, Tick, run}
 use Rattle.schedule.specs.Promise.{All, Order, Follows, Ran-as-told}
 use Rattle.schedule.specs.Erasure.{bare-tick}
-use Rattle.schedule.specs.Limits.{Limited}
+use Rattle.schedule.specs.Limits.{Few-units}
 use Rattle.schedule.specs.Keeping.{Did-keep, Tick-keeps}
 use Rattle.schedule.proofs.Whole.{order as run-order}
 use Rattle.schedule.proofs.Erase.{erasure as run-erasure}
@@ -27,7 +27,7 @@ pub erasure : (S : Setup) (is : List (S .machine .In)) (w : S .machine .W) → r
 erasure = run-erasure
 
 -- Every tick of a run keeps to three of the limits.
-pub limited : (S : Setup) (is : List (S .machine .In)) (w : S .machine .W) → All (Limited S) (run S is w)
+pub limited : (S : Setup) (is : List (S .machine .In)) (w : S .machine .W) → All (Few-units S) (run S is w)
 limited = run-limited
 
 -- A unit that is said to have run is one whose body came to no stop of its own.

@@ -4,7 +4,7 @@ use lib.ListN.{length}
 use Rattle.schedule.specs.Schedule.{most-units, most-waiting, Setup, Tick}
 
 module _ (S : Setup) where
-  pub record Limited (t : Tick S) : Type 0 where
+  pub record Few-units (t : Tick S) : Type 0 where
     -- the units begun
     pub units : length (t .late) + length (t .main) ≤ most-units
     -- what it carries, and what is still pending after a stop

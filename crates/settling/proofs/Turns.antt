@@ -22,7 +22,7 @@ use Rattle.states.specs.View.{Delays}
 use Rattle.units.specs.declared.Place.{Place}
 use Rattle.units.specs.View.{act-of, Lists, Units}
 use Rattle.units.specs.Raising.{with-lists, activate, answer, lists-after, Went, raise-into}
-use Rattle.areas.specs.Areas.{Areas, together, with-went}
+use Rattle.areas.specs.Areas.{Contents, together, with-went}
 use Rattle.settling.specs.declared.Raised.{Raised}
 use Rattle.settling.specs.declared.Raised.the-variants.{Nothing as NoRaise, Entry}
 use Rattle.settling.specs.declared.Round.{Round}
@@ -152,10 +152,10 @@ idle-not-full h = let z : _≡_ {A = ℕ} 0 1 = cc in absurd (omega (arith, z))
 done-not-full : {A : Type 0} → _≡_ {A = Round} Done Full → A
 done-not-full h = let z : _≡_ {A = ℕ} 0 1 = cc in absurd (omega (arith, z))
 
-module _ (c : Circuit) (to : Place) (a b : Areas) (x : Round)
+module _ (c : Circuit) (to : Place) (a b : Contents) (x : Round)
     (ex : (x ≡ round-answer (round-of c to (a .state) (a .lists))) × (b ≡ after-round a (round-of c to (a .state) (a .lists)))) where
   -- what is left of an area's rounds
-  abbrev left : ℕ → Areas → Went
+  abbrev left : ℕ → Contents → Went
   left k y = goes-on c to k (y .state) (y .lists)
 
   -- of which this round is the first
@@ -202,8 +202,8 @@ module _ (c : Circuit) (to : Place) (a b : Areas) (x : Round)
           (with-went b (left (k - 1) b) ≡ with-went a (left k a)) × (left (k - 1) b .answer ≡ left k a .answer)
       by w NoRoom m f g p = done-not-full f
       by w Room m f g p = (
-        ap (λ (y : Areas). with-went y (left (k - 1) y)) g ∙ ap (with-went a) (sym p),
-        ap (λ (y : Areas). left (k - 1) y .answer) g ∙ ap (λ (w : Went). w .answer) (sym p),
+        ap (λ (y : Contents). with-went y (left (k - 1) y)) g ∙ ap (with-went a) (sym p),
+        ap (λ (y : Contents). left (k - 1) y .answer) g ∙ ap (λ (w : Went). w .answer) (sym p),
       )
 
       go :
@@ -215,12 +215,12 @@ module _ (c : Circuit) (to : Place) (a b : Areas) (x : Round)
 -- ---- the loop
 
 -- what is left of the rounds leads to what all of them lead to
-abbrev pub Left : Circuit → Place → ℕ → Areas → ℕ → Areas → Type 0
+abbrev pub Left : Circuit → Place → ℕ → Contents → ℕ → Contents → Type 0
 Left c to k a n b =
     (with-went a (goes-on c to k (a .state) (a .lists)) ≡ with-went b (goes-on c to n (b .state) (b .lists)))
     × (goes-on c to k (a .state) (a .lists) .answer ≡ goes-on c to n (b .state) (b .lists) .answer)
 
-module _ (c : Circuit) (to : Place) (a b z : Areas) (x : Round) (k n : ℕ) (h : 0 < k) (i : Left c to k a n z)
+module _ (c : Circuit) (to : Place) (a b z : Contents) (x : Round) (k n : ℕ) (h : 0 < k) (i : Left c to k a n z)
     (ex : (x ≡ round-answer (round-of c to (a .state) (a .lists))) × (b ≡ after-round a (round-of c to (a .state) (a .lists)))) where
   pub left-idle : x ≡ Idle → (b ≡ with-went z (goes-on c to n (z .state) (z .lists))) × (Room ≡ goes-on c to n (z .state) (z .lists) .answer)
   left-idle e = let t = turn-idle c to a b x ex k h e in (t .0 ∙ i .0, t .1 ∙ i .1)
@@ -232,7 +232,7 @@ module _ (c : Circuit) (to : Place) (a b z : Areas) (x : Round) (k n : ℕ) (h :
   left-next e = let t = turn-done c to a b x ex k h e in (t .0 ∙ i .0, t .1 ∙ i .1)
 
 pub left-none :
-    (c : Circuit) (to : Place) (a z : Areas) (k n : ℕ) → k ≤ 0 → Left c to k a n z →
+    (c : Circuit) (to : Place) (a z : Contents) (k n : ℕ) → k ≤ 0 → Left c to k a n z →
     (a ≡ with-went z (goes-on c to n (z .state) (z .lists))) × (Room ≡ goes-on c to n (z .state) (z .lists) .answer)
 unfolding goes-on filed-into check-on raise-into calm
 left-none c to a z zero n h i = i
@@ -245,7 +245,7 @@ pub rounds-few : (i o : ℕ) → i ≤ 640 → o ≤ 576 → (i + 1) * (o + 1) �
 rounds-few i o h k = let a : i + 1 ≤ 641 = omega arith in let b : o + 1 ≤ 577 = omega arith in mul-le-mul a b
 
 pub settled-all :
-    (c : Circuit) (to : Place) (v v₁ : Values) (u : Units) (d : Delays) (b : Areas) (r : Answer) (i o : ℕ) → v₁ ≡ with-wires v (refresh-all c (v .wires)) →
+    (c : Circuit) (to : Place) (v v₁ : Values) (u : Units) (d : Delays) (b : Contents) (r : Answer) (i o : ℕ) → v₁ ≡ with-wires v (refresh-all c (v .wires)) →
     (i ≡ length (c .pins)) × (i ≤ 640) → (o ≡ length (c .outputs)) × (o ≤ 576) →
     (b ≡ with-went (together v₁ u d) (goes-on c to ((i + 1) * (o + 1)) (together v₁ u d .state) (u .lists)))
     × (r ≡ goes-on c to ((i + 1) * (o + 1)) (together v₁ u d .state) (u .lists) .answer) →

@@ -12,7 +12,7 @@ use Rattle.wires.specs.Lent.{values-in, values-out}
 use Rattle.states.specs.View.{Delays, delays}
 use Rattle.units.specs.View.{Lists, Units}
 use Rattle.units.specs.Raising.{answer, lists-after, with-lists, Went}
-use Rattle.areas.specs.Areas.{Areas, with-state}
+use Rattle.areas.specs.Areas.{Contents, with-state}
 use Rattle.settling.specs.declared.Raised.{Raised}
 use Rattle.settling.specs.declared.Round.{Round}
 use Rattle.settling.specs.Settling.{settled}
@@ -34,7 +34,7 @@ Acts-in-both links vs ds f r =
     r
 
 -- a became b, and r is what z raises
-abbrev pub Settles : Circuit → Areas → Areas → Raised → Settled → Type 0
+abbrev pub Settles : Circuit → Contents → Contents → Raised → Settled → Type 0
 Settles c a b r z = (b ≡ with-state a (z .state)) × (settled c (z .state) r ≡ z)
 
 -- u became v, and r is a round's answer, as filing came to x
@@ -42,5 +42,5 @@ abbrev pub Files-in-round : Units → Units → Round → Filed Lists → Type 0
 Files-in-round u v r x = (r ≡ answer-of (answer x)) × (v ≡ with-lists u (lists-after (u .lists) x))
 
 -- a became b, with the answer r, as a round came to w
-abbrev pub Goes-round : Areas → Areas → Round → Option Went → Type 0
+abbrev pub Goes-round : Contents → Contents → Round → Option Went → Type 0
 Goes-round a b r w = (r ≡ round-answer w) × (b ≡ after-round a w)

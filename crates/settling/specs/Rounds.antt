@@ -14,7 +14,7 @@ use Rattle.states.specs.View.{Delays}
 use Rattle.units.specs.declared.Place.{Place}
 use Rattle.units.specs.View.{Lists, Units}
 use Rattle.units.specs.Raising.{Went}
-use Rattle.areas.specs.Areas.{Areas, together, with-state, with-went}
+use Rattle.areas.specs.Areas.{Contents, together, with-state, with-went}
 use Rattle.settling.specs.declared.Raised.{Raised}
 use Rattle.settling.specs.declared.Edge.{Edge}
 use Rattle.settling.specs.declared.Edge.the-variants.{Rising, Falling, Level}
@@ -57,6 +57,6 @@ round-answer none = Idle
 round-answer (some w) = answer-of (w .answer)
 
 -- what it leaves
-unfoldable pub after-round : Areas → Option Went → Areas
+unfoldable pub after-round : Contents → Option Went → Contents
 after-round a none = a
 after-round a (some w) = with-went a w

@@ -19,7 +19,7 @@ use Rattle.model.specs.Circuit.{Circuit, part, kind-of-gate, setting}
 use Rattle.model.specs.State.{Countdown, Flight, Queued, Delay, flight≔, elapsed≔}
 use Rattle.model.specs.Delays.{Moved, moved, launch, buffer-input, relaunch, flown, advance-flight, tick-down, due, advance-elapsed, advance-time, pressed}
 use Rattle.model.specs.Exec.{countdown}
-use Rattle.values.proofs.Laws.{made-again}
+use Rattle.value.proofs.Laws.{made-again}
 use Rattle.delays.specs.declared.countdown.Countdown.{Countdown as Counting}
 use Rattle.delays.specs.declared.buffer.Buffer.{Buffer}
 use Rattle.delays.specs.declared.buffer.Flight.{Flight as Flying}

@@ -15,7 +15,7 @@ use Rattle.model.specs.Questions.{within}
 use Rattle.model.specs.State.{State}
 use Rattle.model.specs.Exec.{Stepped, exec-Buffer, exec-Stopwatch, exec-Queue, exec-VarGet, exec-VarSet, exec-Branch, exec-Union, exec-Toggle, exec-Cycle, exec-SendEvent, exec-kind, exec-gate}
 use Rattle.states.specs.View.{is-queue, queue-countdown, Lent}
-use Rattle.areas.specs.Areas.{Areas, areas, with-state}
+use Rattle.areas.specs.Areas.{Contents, areas, with-state}
 use Rattle.steps.specs.declared.Step.{Step}
 use Rattle.steps.specs.declared.Step.the-variants.{Fires, Ends}
 use Rattle.steps.specs.Steps.{Makes, near}
@@ -59,7 +59,7 @@ pub lent-kept : (c : Circuit) (vs us ds vs₁ us₁ ds₁ : List ℕ) (s : State
 lent-kept c vs us ds vs₁ us₁ ds₁ s h l e =
     record {
       room = omega (arith, h .room, l);
-      parted = λ g q. ap (λ (a : Areas). getD (a .kept .parts) g 0) e ∙ h .parted g q;
+      parted = λ g q. ap (λ (a : Contents). getD (a .kept .parts) g 0) e ∙ h .parted g q;
     }
 
 -- kinds 16 and 17 are Queues
@@ -67,7 +67,7 @@ pub queue-kind : (c : Circuit) (g k : ℕ) → k ≡ kind-of-gate c g → OneOf 
 unfolding is-queue within
 queue-kind c g k e h = rw (← e) (⊎-elim (λ (z : k ≡ 16). rw z) (λ (z : k ≡ 17). rw z) h)
 
-module _ (c : Circuit) (i j g k p : ℕ) (a b : Areas) (r : Step) (ej : (j ≡ near i) × (j ≤ 2 ^ 63)) (eg : g ≡ gate-at-input c j) (ep : p ≡ j - input c g 0) (ek : k ≡ kind-of-gate c g) where
+module _ (c : Circuit) (i j g k p : ℕ) (a b : Contents) (r : Step) (ej : (j ≡ near i) × (j ≤ 2 ^ 63)) (eg : g ≡ gate-at-input c j) (ep : p ≡ j - input c g 0) (ek : k ≡ kind-of-gate c g) where
   by-kind : (d : Stepped) → exec-kind c k (a .state) g p ≡ d → Makes a b r d → Makes a b r (exec-gate c (a .state) (near i))
   unfolding exec-gate
   by-kind d h m = makes-as a b r d _ (rw (← ej .0, ← eg, ← ek, ← ep) h) m
@@ -112,7 +112,7 @@ module _ (c : Circuit) (i j g k p : ℕ) (a b : Areas) (r : Step) (ej : (j ≡ n
   unfolding exec-kind if_then_else_
   on-send h m = by-kind _ (⊎-elim (λ (z : k ≡ 24). rw z) (λ (z : k ≡ 25). rw z) h) m
 
-module _ (c : Circuit) (i j g k p : ℕ) (a : Areas) (ej : (j ≡ near i) × (j ≤ 2 ^ 63)) (eg : g ≡ gate-at-input c j) (ep : p ≡ j - input c g 0) (ek : k ≡ kind-of-gate c g) where
+module _ (c : Circuit) (i j g k p : ℕ) (a : Contents) (ej : (j ≡ near i) × (j ≤ 2 ^ 63)) (eg : g ≡ gate-at-input c j) (ep : p ≡ j - input c g 0) (ek : k ≡ kind-of-gate c g) where
   pub on-reroute : (o : ℕ) → k ≡ 2 → (o ≡ output c g 0) × (o < 131072) → Makes a a (Fires o) (exec-gate c (a .state) (near i))
   unfolding exec-kind if_then_else_
   on-reroute o h e = by-kind c i j g k p a a (Fires o) ej eg ep ek _ (rw h) (makes-passes a o (output c g 0) (e .0))

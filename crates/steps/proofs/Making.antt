@@ -12,7 +12,7 @@ use Rattle.wires.specs.View.{Values, with-wires}
 use Rattle.states.specs.View.{Delays}
 use Rattle.units.specs.View.{Units}
 use Rattle.units.specs.Calls.{with-outbox}
-use Rattle.areas.specs.Areas.{Areas, together}
+use Rattle.areas.specs.Areas.{Contents, together}
 use Rattle.steps.specs.declared.Step.{Step}
 use Rattle.steps.specs.declared.Step.the-variants.{Fires, Ends, Full}
 use Rattle.steps.specs.Steps.{stepped, Makes}
@@ -28,7 +28,7 @@ module _ {A : Type 0} (b : Bool) (x y : A) where
   if-false e = rw e
 
 -- the same step, by another name
-pub makes-as : (a b : Areas) (r : Step) (d e : Stepped) → e ≡ d → Makes a b r d → Makes a b r e
+pub makes-as : (a b : Contents) (r : Step) (d e : Stepped) → e ≡ d → Makes a b r d → Makes a b r e
 makes-as a b r d e p m = subst (λ (x : Stepped). Makes a b r x) (sym p) m
 
 -- the wires became w, and the chain goes on from output o
@@ -39,12 +39,12 @@ makes-fires v v₁ w o o₁ e f u d =
     record { state = ap (λ (x : Values). together x u d) e; answer = ap (fires-next (wires≔ (together v u d .state) w)) f }
 
 -- nothing changed, and the chain goes on from output o
-pub makes-passes : (a : Areas) (o o₁ : ℕ) → o ≡ o₁ → Makes a a (Fires o) (fires-next (a .state) o₁)
+pub makes-passes : (a : Contents) (o o₁ : ℕ) → o ≡ o₁ → Makes a a (Fires o) (fires-next (a .state) o₁)
 unfolding fires-next stepped
 makes-passes a o o₁ f = record { state = refl; answer = ap (fires-next (a .state)) f }
 
 -- nothing changed, and the chain ends
-pub makes-ends : (a : Areas) → Makes a a Ends (ends (a .state))
+pub makes-ends : (a : Contents) → Makes a a Ends (ends (a .state))
 unfolding ends stepped
 makes-ends a = record { state = refl; answer = refl }
 

@@ -10,7 +10,7 @@ use Rattle.model.specs.Base.{both, from}
 use Rattle.model.specs.Value.{value-of, kind-of, content-of}
 use Rattle.model.specs.Circuit.{Circuit}
 use Rattle.model.specs.Wires.{set-out, set-outs}
-use Rattle.values.proofs.Laws.{made-again}
+use Rattle.value.proofs.Laws.{made-again}
 use Rattle.wires.specs.View.{Values, with-wires}
 
 -- ---- eight values by their words

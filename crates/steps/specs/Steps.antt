@@ -5,7 +5,7 @@ use mathlib.Core.Bool.{true, false}
 use mathlib.Core.Option.{none, some}
 use Rattle.model.specs.State.{State}
 use Rattle.model.specs.Exec.{Stepped}
-use Rattle.areas.specs.Areas.{Areas, with-state}
+use Rattle.areas.specs.Areas.{Contents, with-state}
 use Rattle.steps.specs.declared.Step.{Step}
 use Rattle.steps.specs.declared.Step.the-variants.{Fires, Ends, Full}
 
@@ -16,7 +16,7 @@ stepped s Ends = record { state = s; next = none; full = false }
 stepped s Full = record { state = s; next = none; full = true }
 
 -- the areas a became b, with the answer r, as the definition's step d
-pub record Makes (a b : Areas) (r : Step) (d : Stepped) : Type 0 where
+pub record Makes (a b : Contents) (r : Step) (d : Stepped) : Type 0 where
   pub state : b ≡ with-state a (d .state)
   pub answer : stepped (d .state) r ≡ d
 

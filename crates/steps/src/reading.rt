@@ -8,8 +8,8 @@ ghost use Rattle.model.specs.Wires.{look, ready};
 ghost use Rattle.links.specs.Lent.{Linked, net-of, Room};
 ghost use Rattle.wires.specs.Lent.{wires-in, Turns};
 use model::Value;
-use values::content_of;
-use values::kind_of;
+use value::content_of;
+use value::kind_of;
 use wires::reading::look;
 use wires::refreshing::ready;
 

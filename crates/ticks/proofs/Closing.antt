@@ -18,7 +18,7 @@ use Rattle.model.specs.Unit.{World, state≔}
 use Rattle.model.specs.Record.{steps, log-record, write, close, read-outputs}
 use Rattle.model.specs.Run.{closing}
 use Rattle.units.specs.View.{Begun}
-use Rattle.areas.specs.Areas.{Areas, Kept, with-state, with-went}
+use Rattle.areas.specs.Areas.{Contents, Kept, with-state, with-went}
 use Rattle.chain.specs.declared.Ran.{Ran}
 use Rattle.opening.specs.Opening.{opened-into, reopened, opened}
 use Rattle.passes.specs.Waiting.{stop-of, bare, waiting, for-late, for-main, for-both}
@@ -46,11 +46,11 @@ module _ (c : Circuit) (limit : ℕ) where
   S = bare c limit
 
   -- nothing is carried as the passes begin
-  pub carries-nothing : (a : Areas) (given : Given) → opened c a given .lists .carried ≡ []
+  pub carries-nothing : (a : Contents) (given : Given) → opened c a given .lists .carried ≡ []
   unfolding opened opened-into reopened
   carries-nothing a given = opening-carries c _ _ _
 
-  module _ (w : World) (given : Given) (a a₁ a₂ a₃ : Areas) (r₁ r₂ : Ran) (came : a₁ ≡ with-went (reopened c a) (opened c a given)) where
+  module _ (w : World) (given : Given) (a a₁ a₂ a₃ : Contents) (r₁ r₂ : Ran) (came : a₁ ≡ with-went (reopened c a) (opened c a given)) where
     abbrev q : OpenQ (Activation S)
     q = for-both c limit (a₁ .lists)
 
@@ -65,7 +65,7 @@ module _ (c : Circuit) (limit : ℕ) where
         Passes c limit (for-late c limit) a₁ a₂ r₁ v (late-from c limit q v s) → a₂ .lists .pending ≡ a₁ .lists .pending → a₂ .lists .carried ≡ a₁ .lists .carried →
         main-from c limit q v s ≡ main-pass S (units-left a₂) tt (for-main c limit (a₂ .lists)) (state≔ v (r₁ .left) (a₂ .state)) (r₁ .stop)
     main-is p e f =
-        let none : a₂ .lists .carried ≡ [] = f ∙ ap (λ (x : Areas). x .lists .carried) came ∙ carries-nothing a given in
+        let none : a₂ .lists .carried ≡ [] = f ∙ ap (λ (x : Contents). x .lists .carried) came ∙ carries-nothing a given in
         rw (p .left, p .world, p .stop, e, none) refl
 
     -- ---- the record
@@ -81,7 +81,7 @@ module _ (c : Circuit) (limit : ℕ) where
 
       begun₂ : a₂ .kept .begun ≡ map begun-as (acts S (l .turns))
       unfolding reopened
-      begun₂ = ap (λ (k : Kept). k .begun) (late .kept) ∙ ap (λ (x : Areas). x .kept .begun ++ map begun-as (acts S (l .turns))) came
+      begun₂ = ap (λ (k : Kept). k .begun) (late .kept) ∙ ap (λ (x : Contents). x .kept .begun ++ map begun-as (acts S (l .turns))) came
 
       begun₃ : a₃ .kept .begun ≡ map begun-as (acts S (l .turns)) ++ map begun-as (acts S (m .turns))
       begun₃ = ap (λ (k : Kept). k .begun) (main .kept) ∙ ap (λ (b : List Begun). b ++ map begun-as (acts S (m .turns))) begun₂
@@ -114,14 +114,14 @@ module _ (c : Circuit) (limit : ℕ) where
         abbrev rs : List ℕ
         rs = record-of h (a₃ .kept .begun) (ended .wires .outs)
 
-        abbrev b : Areas
+        abbrev b : Contents
         b = with-state a₃ ended
 
         t-of : Tick-of c limit (tick S w given (map (waiting c limit) (a .lists .carried)) tt) q v s
         t-of =
             let i = tick-is c limit w given a same in
             let o = opened c a given in
-            subst (λ (x : Areas). Tick-of c limit (tick S w given (map (waiting c limit) (a .lists .carried)) tt) (for-both c limit (x .lists)) (state≔ w limit (x .state)) s) (sym came) i
+            subst (λ (x : Contents). Tick-of c limit (tick S w given (map (waiting c limit) (a .lists .carried)) tt) (for-both c limit (x .lists)) (state≔ w limit (x .state)) s) (sym came) i
 
         same-fit : leb (8 * length rs) (u .room) ≡ fits before at rs
         unfolding fits state≔

@@ -14,7 +14,7 @@ use Rattle.model.specs.Unit.{World, state≔, raises-in}
 use Rattle.model.specs.Record.{steps, head, units-begun, outputs-shown, log-record}
 use Rattle.model.specs.Run.{opening, closing}
 use Rattle.units.specs.View.{Begun}
-use Rattle.areas.specs.Areas.{Areas}
+use Rattle.areas.specs.Areas.{Contents}
 use Rattle.opening.specs.Opening.{put-to, opened-into, reopened, opened}
 use Rattle.passes.specs.Waiting.{stop-of, bare, waiting, for-both}
 use Rattle.passes.specs.Passes.{begun-as}
@@ -36,7 +36,7 @@ module _ (c : Circuit) (limit : ℕ) where
       let d = opening c limit w given in raise-all S (activate-open S) (d .raises) tt (queue-at-start came) (d .world) (d .stop)
 
   opening-raises :
-      (w : World) (given : Given) (a : Areas) → w .state ≡ a .state →
+      (w : World) (given : Given) (a : Contents) → w .state ≡ a .state →
       Raised c limit (for-both c limit) (activate-open S) (put-to c) (open-files c limit) w limit (opens w given (a .lists .carried)) (opened c a given)
   unfolding opening opened opened-into reopened
   opening-raises w given a e =
@@ -76,7 +76,7 @@ module _ (c : Circuit) (limit : ℕ) where
   tick-opens w given came = record { carried = refl; world = refl; stop = refl }
 
   pub tick-is :
-      (w : World) (given : Given) (a : Areas) → w .state ≡ a .state →
+      (w : World) (given : Given) (a : Contents) → w .state ≡ a .state →
       let o = opened c a given in
       Tick-of (tick S w given (map (waiting c limit) (a .lists .carried)) tt) (for-both c limit (o .lists)) (state≔ w limit (o .state)) (stop-of (o .answer))
   tick-is w given a e =

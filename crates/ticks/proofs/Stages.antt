@@ -16,7 +16,7 @@ use Rattle.model.specs.Unit.{World, state≔}
 use Rattle.wires.specs.View.{Values, with-wires}
 use Rattle.units.specs.declared.Place.the-variants.{Late, After}
 use Rattle.units.specs.View.{Lists, Units}
-use Rattle.areas.specs.Areas.{Areas}
+use Rattle.areas.specs.Areas.{Contents}
 use Rattle.chain.specs.declared.Ran.{Ran}
 use Rattle.passes.specs.Waiting.{stop-of, bare, waiting, for-late, for-main}
 use Rattle.passes.specs.Passes.{with-begun, units-left, Passes}
@@ -33,7 +33,7 @@ use Rattle.ticks.specs.Stages.{Ran-late, Ran-main, steps-made, outputs-r
 
 -- no turn is made after a stop
 no-turns :
-    (c : Circuit) (k : ℕ) {Q : Type 0} (h : Lists → Q) (a : Areas) (left stop : ℕ) (w : World) → w .state ≡ a .state → w .left ≡ left →
+    (c : Circuit) (k : ℕ) {Q : Type 0} (h : Lists → Q) (a : Contents) (left stop : ℕ) (w : World) → w .state ≡ a .state → w .left ≡ left →
     Passes c k h a a (record { left = left; stop = stop }) w (no-turn (bare c k) (units-left a) tt (h (a .lists)) w stop)
 unfolding state≔
 no-turns c k {Q} h a left stop w e f =
@@ -46,7 +46,7 @@ no-turns c k {Q} h a left stop w e f =
     }
 
 -- a list was full
-pub late-stopped : (c : Circuit) (a : Areas) (left : ℕ) (o : Answer) → o ≡ Full → Ran-late c a a left (stop-of o) (record { left = left; stop = 12 })
+pub late-stopped : (c : Circuit) (a : Contents) (left : ℕ) (o : Answer) → o ≡ Full → Ran-late c a a left (stop-of o) (record { left = left; stop = 12 })
 unfolding stop-of late-pass
 late-stopped c a left o h =
     rw h
@@ -59,7 +59,7 @@ late-stopped c a left o h =
     })
 
 pub late-ran :
-    (c : Circuit) (a b : Areas) (left : ℕ) (o : Answer) (r : Ran) → o ≡ Done →
+    (c : Circuit) (a b : Contents) (left : ℕ) (o : Answer) (r : Ran) → o ≡ Done →
     ((k : ℕ) (w : World) → w .state ≡ a .state → w .left ≡ left → Passes c k (for-late c k) a b r w (late-pass (bare c k) (units-left a) tt (for-late c k (a .lists)) w 0)) →
     (b .lists .pending ≡ a .lists .pending) × (b .lists .carried ≡ a .lists .carried) →
     Ran-late c a b left (stop-of o) r
@@ -67,7 +67,7 @@ unfolding stop-of
 late-ran c a b left o r e p h = rw e (record { passes = p; pending = h .0; carried = h .1 })
 
 -- the late pass stopped
-pub main-stopped : (c : Circuit) (a : Areas) (r : Ran) → (r .stop ≡ 0 → ⊥) → Ran-main c a a (r .left) (r .stop) r
+pub main-stopped : (c : Circuit) (a : Contents) (r : Ran) → (r .stop ≡ 0 → ⊥) → Ran-main c a a (r .left) (r .stop) r
 unfolding main-pass
 main-stopped c a r h =
     record {
@@ -77,7 +77,7 @@ main-stopped c a r h =
     }
 
 pub main-ran :
-    (c : Circuit) (a b : Areas) (l r : Ran) → l .stop ≡ 0 →
+    (c : Circuit) (a b : Contents) (l r : Ran) → l .stop ≡ 0 →
     ((k : ℕ) (w : World) → w .state ≡ a .state → w .left ≡ l .left → Passes c k (for-main c k) a b r w (main-pass (bare c k) (units-left a) tt (for-main c k (a .lists)) w 0)) →
     Ran-main c a b (l .left) (l .stop) r
 main-ran c a b l r z p = rw z (record { passes = p })

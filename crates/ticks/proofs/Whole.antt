@@ -17,7 +17,7 @@ use Rattle.model.specs.Record.{read-outputs}
 use Rattle.wires.specs.View.{Values, with-wires}
 use Rattle.units.specs.View.{Units}
 use Rattle.states.specs.View.{Delays}
-use Rattle.areas.specs.Areas.{Areas, together, with-state, with-went}
+use Rattle.areas.specs.Areas.{Contents, together, with-state, with-went}
 use Rattle.chain.specs.declared.Ran.{Ran}
 use Rattle.opening.specs.Opening.{reopened, opened}
 use Rattle.passes.specs.Waiting.{stop-of, bare, waiting, for-late, for-main, for-both}
@@ -30,12 +30,12 @@ use Rattle.ticks.proofs.Parts.{late-from}
 use Rattle.ticks.proofs.Closing.{ticks-fit, ticks-full}
 
 -- nothing has begun as the late pass begins
-all-left : (c : Circuit) (a a₁ : Areas) (given : Given) → a₁ ≡ with-went (reopened c a) (opened c a given) → units-left a₁ ≡ most-units
+all-left : (c : Circuit) (a a₁ : Contents) (given : Given) → a₁ ≡ with-went (reopened c a) (opened c a given) → units-left a₁ ≡ most-units
 unfolding reopened
-all-left c a a₁ given e = ap (λ (x : Areas). units-left x) e
+all-left c a a₁ given e = ap (λ (x : Contents). units-left x) e
 
-module _ (c : Circuit) (limit : ℕ) (given : Given) (a a₁ a₂ : Areas) (v b : Values) (u : Units) (d : Delays) (r₁ r₂ : Ran) (late : ℕ) (before after : List ℕ) (at : ℕ) where
-  abbrev a₃ : Areas
+module _ (c : Circuit) (limit : ℕ) (given : Given) (a a₁ a₂ : Contents) (v b : Values) (u : Units) (d : Delays) (r₁ r₂ : Ran) (late : ℕ) (before after : List ℕ) (at : ℕ) where
+  abbrev a₃ : Contents
   a₃ = together v u d
 
   -- the state after the outputs are read
@@ -79,13 +79,13 @@ module _ (c : Circuit) (limit : ℕ) (given : Given) (a a₁ a₂ : Areas) (v b 
     tick-fits : fits before at rs ≡ true → Ticks c limit a (together b u d) before after at (length rs) (r₂ .stop) w (tick (bare c limit) w given (map (waiting c limit) (a .lists .carried)) tt)
     unfolding words-of head-of steps-made
     tick-fits y =
-        subst (λ (x : Areas). Ticks c limit a x before after at (length rs) (r₂ .stop) w (tick (bare c limit) w given (map (waiting c limit) (a .lists .carried)) tt)) areas-are
+        subst (λ (x : Contents). Ticks c limit a x before after at (length rs) (r₂ .stop) w (tick (bare c limit) w given (map (waiting c limit) (a .lists .carried)) tt)) areas-are
         (ticks-fit c limit w given a a₁ a₂ a₃ r₁ r₂ came same late-is (l .pending) (l .carried) main-is₁ (head-of limit late (r₂ .left) (r₂ .stop) b u) ended reads refl refl n (ap (λ (x : ℕ). length (u .begun) - x) n) refl refl before after at room (omega arith) kept y)
 
     tick-full : fits before at rs ≡ false → Ticks c limit a (together b u d) before after at 0 log-full w (tick (bare c limit) w given (map (waiting c limit) (a .lists .carried)) tt)
     unfolding words-of head-of steps-made
     tick-full y =
-        subst (λ (x : Areas). Ticks c limit a x before after at 0 log-full w (tick (bare c limit) w given (map (waiting c limit) (a .lists .carried)) tt)) areas-are
+        subst (λ (x : Contents). Ticks c limit a x before after at 0 log-full w (tick (bare c limit) w given (map (waiting c limit) (a .lists .carried)) tt)) areas-are
         (ticks-full c limit w given a a₁ a₂ a₃ r₁ r₂ came same late-is (l .pending) (l .carried) main-is₁ (head-of limit late (r₂ .left) (r₂ .stop) b u) ended reads refl refl n (ap (λ (x : ℕ). length (u .begun) - x) n) refl refl before after at room (omega arith) kept y)
 
     pub tick-answers :
@@ -100,7 +100,7 @@ module _ (c : Circuit) (limit : ℕ) (given : Given) (a a₁ a₂ : Areas) (v b 
 
 -- the opening, the passes and the record make a tick
 pub ticks-through :
-    (c : Circuit) (limit : ℕ) (given : Given) (a a₁ a₂ : Areas) (v b : Values) (u : Units) (d : Delays) (o : Filed) (r₁ r₂ : Ran) (late : ℕ) (before after : List ℕ) (at : ℕ) (t : Ticked) → at * 8 ≤ length before →
+    (c : Circuit) (limit : ℕ) (given : Given) (a a₁ a₂ : Contents) (v b : Values) (u : Units) (d : Delays) (o : Filed) (r₁ r₂ : Ran) (late : ℕ) (before after : List ℕ) (at : ℕ) (t : Ticked) → at * 8 ≤ length before →
     (a₁ ≡ with-went (reopened c a) (opened c a given)) × (o ≡ opened c a given .answer) → Ran-late c a₁ a₂ limit (stop-of o) r₁ → late ≡ length (a₂ .kept .begun) → Ran-main c a₂ (together v u d) (r₁ .left) (r₁ .stop) r₂ →
     Closes c limit late r₂ v b u before after at t →
     (w : World) → w .state ≡ a .state → w .room ≡ length before - 8 * at →

@@ -14,7 +14,7 @@ use Rattle.model.specs.Chain.{runaway}
 use Rattle.model.specs.Unit.{World}
 use Rattle.wires.specs.View.{Values, with-wires}
 use Rattle.units.specs.View.{Units}
-use Rattle.areas.specs.Areas.{Areas}
+use Rattle.areas.specs.Areas.{Contents}
 use Rattle.chain.specs.declared.Ran.{Ran}
 use Rattle.passes.specs.Waiting.{bare, for-late, for-main}
 use Rattle.passes.specs.Passes.{units-left, Passes}
@@ -23,13 +23,13 @@ use Rattle.log.specs.Log.{record-of, fits, Writes}
 use Rattle.ticks.specs.declared.Ticked.{Ticked}
 
 -- The areas a became b, with the answer r, as the late pass, with so many steps left and this stop.
-pub record Ran-late (c : Circuit) (a b : Areas) (left stop : ℕ) (r : Ran) : Type 0 where
+pub record Ran-late (c : Circuit) (a b : Contents) (left stop : ℕ) (r : Ran) : Type 0 where
   pub passes : (k : ℕ) (w : World) → w .state ≡ a .state → w .left ≡ left → Passes c k (for-late c k) a b r w (late-pass (bare c k) (units-left a) tt (for-late c k (a .lists)) w stop)
   pub pending : b .lists .pending ≡ a .lists .pending
   pub carried : b .lists .carried ≡ a .lists .carried
 
 -- The areas a became b, with the answer r, as the main pass, with so many steps left and this stop.
-pub record Ran-main (c : Circuit) (a b : Areas) (left stop : ℕ) (r : Ran) : Type 0 where
+pub record Ran-main (c : Circuit) (a b : Contents) (left stop : ℕ) (r : Ran) : Type 0 where
   pub passes : (k : ℕ) (w : World) → w .state ≡ a .state → w .left ≡ left → Passes c k (for-main c k) a b r w (main-pass (bare c k) (units-left a) tt (for-main c k (a .lists)) w stop)
 
 -- the steps made of a tick that may make `limit`; those of one stopped by 11 include the one not made

@@ -7,11 +7,11 @@ use Rattle.words.specs.Words.{words, tail}
 use Rattle.schedule.specs.Schedule.{Tick}
 use Rattle.model.specs.Circuit.{Circuit}
 use Rattle.model.specs.Unit.{World}
-use Rattle.areas.specs.Areas.{Areas}
+use Rattle.areas.specs.Areas.{Contents}
 use Rattle.passes.specs.Waiting.{bare, waiting}
 
 -- The areas a became b, and the log `after`, as the tick t did from the world w on: it has a record of so many words behind the first `at` words, and this stop.
-pub record Ticks (c : Circuit) (limit : ℕ) (a b : Areas) (before after : List ℕ) (at size stop : ℕ) (w : World) (t : Tick (bare c limit)) : Type 0 where
+pub record Ticks (c : Circuit) (limit : ℕ) (a b : Contents) (before after : List ℕ) (at size stop : ℕ) (w : World) (t : Tick (bare c limit)) : Type 0 where
   pub stopped : t .stop ≡ stop
   pub carried : t .carried ≡ map (waiting c limit) (b .lists .carried)
   pub state : t .world .state ≡ b .state

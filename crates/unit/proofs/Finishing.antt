@@ -20,7 +20,7 @@ use Rattle.units.specs.View.{Lists, Units, units}
 use Rattle.units.specs.Calls as on-units
 use Rattle.units.specs.Raising.{Went}
 use Rattle.states.specs.View.{Delays, delays}
-use Rattle.areas.specs.Areas.{Kept, Areas, together, areas, with-state, with-calls, with-went}
+use Rattle.areas.specs.Areas.{Kept, Contents, together, areas, with-state, with-calls, with-went}
 use Rattle.settling.specs.Settling.{filed-into}
 use Rattle.chain.specs.declared.Ran.{Ran}
 use Rattle.chain.specs.Chain.{Runs}
@@ -39,11 +39,11 @@ stop-none r e = rw e
 -- ---- the end
 
 -- what is raised, filed
-abbrev filed-of : Circuit → Place → Areas → Went
+abbrev filed-of : Circuit → Place → Contents → Went
 filed-of c to a = filed-into c to (settle c (a .state)) (a .lists)
 
 module _ (c : Circuit) (to : Place) (left stop : ℕ) where
-  pub finish-stopped : (a : Areas) → (stop ≡ 0 → ⊥) → Finishes a a stop (finished c to (a .state) left stop (a .lists))
+  pub finish-stopped : (a : Contents) → (stop ≡ 0 → ⊥) → Finishes a a stop (finished c to (a .state) left stop (a .lists))
   unfolding finished if_then_else_
   finish-stopped a h = rw (ne-eqb stop 0 h) record { areas = refl; stop = refl }
 
@@ -59,8 +59,8 @@ module _ (c : Circuit) (to : Place) (left stop : ℕ) where
       in
       rw (eq-eqb stop 0 z)
       record {
-        areas = e .0 ∙ ap (λ (a : Areas). with-went a (filed-of c to a)) p;
-        stop = es ∙ ap stop-of (e .1 ∙ ap (λ (a : Areas). filed-of c to a .answer) p);
+        areas = e .0 ∙ ap (λ (a : Contents). with-went a (filed-of c to a)) p;
+        stop = es ∙ ap stop-of (e .1 ∙ ap (λ (a : Contents). filed-of c to a .answer) p);
       }
 
 -- ---- the whole
@@ -73,22 +73,22 @@ finished-left c to s left stop l = go (eqb stop 0)
     go true = unfold if_then_else_ in refl
     go false = unfold if_then_else_ in refl
 
-module _ (c : Circuit) (to : Place) (left : ℕ) (α : Act) (a b d : Areas) (k : Ran) (st : ℕ) where
+module _ (c : Circuit) (to : Place) (left : ℕ) (α : Act) (a b d : Contents) (k : Ran) (st : ℕ) where
   chain-ran :
       Runs (with-calls (with-state a (enter c (a .state) α)) (begin c α)) b k (run-chain c left (begin c α) (enter c (a .state) α)) →
       Finishes b d st (finished c to (b .state) (k .left) (k .stop) (b .lists)) → Ran-as a d (record { left = k .left; stop = st }) (ran c to left α (a .state) (a .lists))
   unfolding ran finished-chain
   chain-ran e f =
       let h : Chained = run-chain c left (begin c α) (enter c (a .state) α) in
-      let s : b .state ≡ h .state = ap (λ (x : Areas). x .state) (e .state) in
-      let l : b .lists ≡ a .lists = ap (λ (x : Areas). x .lists) (e .state) in
-      let n : b .kept ≡ a .kept = ap (λ (x : Areas). x .kept) (e .state) in
+      let s : b .state ≡ h .state = ap (λ (x : Contents). x .state) (e .state) in
+      let l : b .lists ≡ a .lists = ap (λ (x : Contents). x .lists) (e .state) in
+      let n : b .kept ≡ a .kept = ap (λ (x : Contents). x .kept) (e .state) in
       let z : finished c to (b .state) (k .left) (k .stop) (b .lists) ≡ finished c to (h .state) (h .left) (h .stop) (a .lists) =
       λ j. finished c to (s j) (e .left j) (e .stop j) (l j)
       in
       record {
         areas =
-            ap (λ (x : Areas). with-calls x no-calls) (f .areas)
+            ap (λ (x : Contents). with-calls x no-calls) (f .areas)
             ∙ ap₂ (λ (x : Result) (y : Kept). record { state = x .state; lists = x .lists; calls = no-calls; kept = y }) z n;
         left = e .left ∙ finished-left c to (h .state) (h .left) (h .stop) (a .lists);
         stop = f .stop ∙ ap (λ (x : Result). x .stop) z;
@@ -104,5 +104,5 @@ unfolding enter wires≔
 unit-ran c to left α vs us ds vs₁ us₁ vs₂ us₂ ds₂ vs₃ us₃ ds₃ k st ev eu e f =
     let p : areas c vs₁ us₁ ds ≡ with-calls (with-state (areas c vs us ds) (enter c (areas c vs us ds .state) α)) (begin c α) = ap₂ (λ (v : Values) (u : Units). together v u (delays c ds)) ev eu in
     chain-ran c to left α (areas c vs us ds) (areas c vs₂ us₂ ds₂) (areas c vs₃ us₃ ds₃) k st
-    (subst (λ (x : Areas). Runs x (areas c vs₂ us₂ ds₂) k (run-chain c left (x .calls) (x .state))) p e)
+    (subst (λ (x : Contents). Runs x (areas c vs₂ us₂ ds₂) k (run-chain c left (x .calls) (x .state))) p e)
     f

@@ -16,7 +16,7 @@ use Rattle.model.specs.Unit.{begin, enter}
 use Rattle.units.specs.declared.Place.{Place}
 use Rattle.units.specs.View.{act-of, event-of, Lists}
 use Rattle.units.specs.Raising.{Went}
-use Rattle.areas.specs.Areas.{Areas, with-calls}
+use Rattle.areas.specs.Areas.{Contents, with-calls}
 use Rattle.settling.specs.Settling.{filed-into}
 use Rattle.chain.specs.declared.Ran.{Ran}
 use Rattle.unit.specs.declared.Act.{Act as Entered}
@@ -63,12 +63,12 @@ module _ (c : Circuit) (to : Place) where
   ran left a s l = finished-chain (run-chain c left (begin c a) (enter c s a)) l
 
 -- the areas a became b, with the answer r, as the result z says; the calls that are left stay open
-pub record Ran-as (a b : Areas) (r : Ran) (z : Result) : Type 0 where
+pub record Ran-as (a b : Contents) (r : Ran) (z : Result) : Type 0 where
   pub areas : with-calls b no-calls ≡ record { state = z .state; lists = z .lists; calls = no-calls; kept = a .kept }
   pub left : r .left ≡ z .left
   pub stop : r .stop ≡ z .stop
 
 -- the end of a unit alone, which leaves the calls as they are and answers its stop r
-pub record Finishes (a b : Areas) (r : ℕ) (z : Result) : Type 0 where
+pub record Finishes (a b : Contents) (r : ℕ) (z : Result) : Type 0 where
   pub areas : b ≡ record { state = z .state; lists = z .lists; calls = a .calls; kept = a .kept }
   pub stop : r ≡ z .stop

@@ -20,7 +20,7 @@ use crate::layout::ROW;
 use crate::layout::ROWS;
 use crate::layout::SENDERS;
 use model::Value;
-use values::value_of;
+use value::value_of;
 use words::get;
 use words::put;
 use words::rows::put_row;

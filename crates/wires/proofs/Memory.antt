@@ -26,7 +26,7 @@ use Rattle.model.specs.Settle.{publish-writes}
 use Rattle.model.specs.Opening.{next-tick}
 use Rattle.model.proofs.Lists.{if-both}
 use Rattle.model.proofs.Sized.{mark-readers-keeps}
-use Rattle.values.proofs.Laws.{made-again}
+use Rattle.value.proofs.Laws.{made-again}
 use Rattle.wires.specs.declared.Remembered.the-variants.{Read, Nothing as NoRead}
 use Rattle.wires.specs.View.{cut, last-of, Values, with-wires, values}
 use Rattle.wires.specs.Checks.{remembered}

@@ -20,9 +20,9 @@ use crate::layout::SLOTS;
 use links::inputs;
 use links::layout::MOST_INPUTS;
 use model::Value;
-use values::content_of;
-use values::kind_of;
-use values::value_of;
+use value::content_of;
+use value::kind_of;
+use value::value_of;
 use words::get;
 use words::put;
 

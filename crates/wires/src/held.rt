@@ -5,7 +5,7 @@ ghost use Rattle.model.specs.Value.{kind-of, content-of};
 ghost use Rattle.wires.specs.Held.{held, tag-of};
 use model::Value;
 use std::num::wrapping_sub_u64;
-use values::kind_of;
+use value::kind_of;
 
 // The tag of a value.
 pub fn tag_of(v: Value) -> u64

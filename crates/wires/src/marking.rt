@@ -21,7 +21,7 @@ use links::reader_count;
 use links::time_sources;
 use links::watching;
 use model::Value;
-use values::same;
+use value::same;
 use words::get;
 use words::put;
 

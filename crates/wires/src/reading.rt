@@ -12,7 +12,7 @@ use links::outputs;
 use links::source;
 use links::stored_in;
 use model::Value;
-use values::content_of;
+use value::content_of;
 use words::get;
 use words::put;
 

@@ -24,7 +24,7 @@ use links::kind_of_gate;
 use links::output;
 use links::source;
 use model::Value;
-use values::truthy;
+use value::truthy;
 use words::get;
 
 // What pure gate g gives.
