@@ -15,7 +15,8 @@ use Rattle.units.specs.declared.Place.the-variants.{Late, After}
 use Rattle.units.specs.View.{Lists}
 use Rattle.units.specs.Raising.{late≔, delivered≔, pending≔, carried≔, by-rank, all-by-rank, activate, deliver, Went, raise-into}
 use Rattle.opening.specs.Opening.{put-to}
-use Rattle.passes.specs.Waiting.{stop-of, bare, waiting, for-late, for-main, for-both}
+use Rattle.unit.specs.Unit.{stop-of}
+use Rattle.passes.specs.Waiting.{bare, waiting, for-late, for-main, for-both}
 
 -- what is filed, seen through h
 abbrev pub through : {Q R : Type 0} → (Q → R) → Filed Q → Filed R

@@ -6,8 +6,6 @@ use mathlib.Core.List.{List, [], _∷_, _++_, append-assoc}
 use mathlib.Core.Option.{none}
 use lib.Dec.{eqb}
 use Rattle.schedule.specs.Schedule.{Filed, Setup, Activation, list-full, Took, empty, took, Raising, raise-all, Passed, no-turn, pass, acts}
-use Rattle.lists.specs.declared.Filed.{Filed as Answer}
-use Rattle.lists.specs.declared.Filed.the-variants.{Full, Done}
 use Rattle.model.specs.Base.{if_then_else_}
 use Rattle.model.specs.Circuit.{Circuit}
 use Rattle.model.specs.State.{Act, wires≔}
@@ -19,15 +17,9 @@ use Rattle.units.specs.declared.Place.{Place}
 use Rattle.units.specs.View.{Lists}
 use Rattle.units.specs.Raising.{activate}
 use Rattle.settling.specs.Settling.{filed-into}
-use Rattle.unit.specs.Unit.{Result, stop-of as stop-as, with-left, finished, finished-chain, ran}
-use Rattle.passes.specs.Waiting.{stop-of, bare, waiting}
+use Rattle.unit.specs.Unit.{Result, with-left, finished, finished-chain, ran}
+use Rattle.passes.specs.Waiting.{bare, waiting}
 use Rattle.passes.proofs.Filing.{through, raised-as}
-
--- a full list is the same stop
-same-stop : (f : Answer) → stop-of f ≡ stop-as f
-unfolding stop-of stop-as
-same-stop Full = refl
-same-stop Done = refl
 
 module _ (c : Circuit) (limit : ℕ) where
   abbrev S : Setup
@@ -58,7 +50,7 @@ module _ (c : Circuit) (limit : ℕ) where
         go true e =
             let z = settle c (wires≔ (r .state) (publish-writes c (r .state .wires))) in
             let i = raised-as c limit h (λ _. there) (λ _. activate c to) (λ _. files) v (r .left) (z .raises) l (z .state) in
-            rw e (record { queue = i .queue; world = i .world; stop = i .stop ∙ same-stop _ })
+            rw e (record { queue = i .queue; world = i .world; stop = i .stop })
         go false e = rw e (record { queue = refl; world = refl; stop = refl })
 
   -- ---- a pass, turn by turn

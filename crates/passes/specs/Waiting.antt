@@ -1,18 +1,11 @@
 -- What waits in the areas, as the scheduler has it: activations without identities.
 use Prim.Native.Nat.{ℕ}
 use mathlib.Core.List.{map}
-use Rattle.schedule.specs.Schedule.{Setup, plain, Activation, LateQ, MainQ, OpenQ, list-full}
-use Rattle.lists.specs.declared.Filed.{Filed}
-use Rattle.lists.specs.declared.Filed.the-variants.{Full, Done}
+use Rattle.schedule.specs.Schedule.{Setup, plain, Activation, LateQ, MainQ, OpenQ}
 use Rattle.model.specs.Circuit.{Circuit}
 use Rattle.model.specs.State.{Act}
 use Rattle.model.specs.Run.{machine}
 use Rattle.units.specs.View.{Lists}
-
--- the stop of an answer
-unfoldable pub stop-of : Filed → ℕ
-stop-of Full = list-full
-stop-of Done = 0
 
 module _ (c : Circuit) (limit : ℕ) where
   -- the machine of a circuit, scheduled without identities

@@ -21,7 +21,8 @@ use Rattle.units.specs.View.{Begun}
 use Rattle.areas.specs.Areas.{Contents, Kept, with-state, with-went}
 use Rattle.chain.specs.declared.Ran.{Ran}
 use Rattle.opening.specs.Opening.{opened-into, reopened, opened}
-use Rattle.passes.specs.Waiting.{stop-of, bare, waiting, for-late, for-main, for-both}
+use Rattle.unit.specs.Unit.{stop-of}
+use Rattle.passes.specs.Waiting.{bare, waiting, for-late, for-main, for-both}
 use Rattle.passes.specs.Passes.{begun-as, units-left, Passes}
 use Rattle.passes.proofs.Kept.{opening-carries}
 use Rattle.log.specs.declared.Head.{Head}

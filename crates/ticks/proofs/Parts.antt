@@ -16,7 +16,8 @@ use Rattle.model.specs.Run.{opening, closing}
 use Rattle.units.specs.View.{Begun}
 use Rattle.areas.specs.Areas.{Contents}
 use Rattle.opening.specs.Opening.{put-to, opened-into, reopened, opened}
-use Rattle.passes.specs.Waiting.{stop-of, bare, waiting, for-both}
+use Rattle.unit.specs.Unit.{stop-of}
+use Rattle.passes.specs.Waiting.{bare, waiting, for-both}
 use Rattle.passes.specs.Passes.{begun-as}
 use Rattle.passes.proofs.Filing.{push-all-by-rank, open-files, Raised, raised-as}
 use Rattle.log.specs.declared.Head.{Head}

@@ -18,7 +18,8 @@ use Rattle.units.specs.declared.Place.the-variants.{Late, After}
 use Rattle.units.specs.View.{Lists, Units}
 use Rattle.areas.specs.Areas.{Contents}
 use Rattle.chain.specs.declared.Ran.{Ran}
-use Rattle.passes.specs.Waiting.{stop-of, bare, waiting, for-late, for-main}
+use Rattle.unit.specs.Unit.{stop-of}
+use Rattle.passes.specs.Waiting.{bare, waiting, for-late, for-main}
 use Rattle.passes.specs.Passes.{with-begun, units-left, Passes}
 use Rattle.passes.proofs.Filing.{late-files, main-files}
 use Rattle.passes.proofs.Turns.{stopped}

@@ -20,7 +20,8 @@ use Rattle.states.specs.View.{Delays}
 use Rattle.areas.specs.Areas.{Contents, together, with-state, with-went}
 use Rattle.chain.specs.declared.Ran.{Ran}
 use Rattle.opening.specs.Opening.{reopened, opened}
-use Rattle.passes.specs.Waiting.{stop-of, bare, waiting, for-late, for-main, for-both}
+use Rattle.unit.specs.Unit.{stop-of}
+use Rattle.passes.specs.Waiting.{bare, waiting, for-late, for-main, for-both}
 use Rattle.passes.specs.Passes.{units-left, Passes}
 use Rattle.log.specs.Log.{fits, Writes}
 use Rattle.ticks.specs.declared.Ticked.{Ticked}
