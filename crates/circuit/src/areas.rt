@@ -9,6 +9,7 @@ ghost use Rattle.words.specs.Slices.{was};
 ghost use Rattle.model.specs.Base.{keep};
 ghost use Rattle.model.specs.Circuit.{part, circuit as circuit-of};
 ghost use Rattle.model.specs.Questions.{question-1, within, queues};
+ghost use Rattle.links.specs.Lent.{least-area};
 use words::get;
 
 // The least bytes of an area; of the delays, for each Queue.
@@ -56,7 +57,7 @@ fn at_least_one(queues: usize) -> usize
 
 // Whether these are few enough Queues, and areas of these lengths large enough for them.
 pub fn enough(queues: usize, values: usize, units: usize, delays: usize) -> bool
-    ensures { λ r. ⌜ r ≡ (leb queues 8 && leb 65536 values && leb 65536 units && leb (65536 * max 1 queues) delays) ⌝ }
+    ensures { λ r. ⌜ r ≡ (leb queues 8 && leb least-area values && leb least-area units && leb (least-area * max 1 queues) delays) ⌝ }
 {
     if few_queues(queues) {
         (AREA <= values) & (AREA <= units) & (AREA * at_least_one(queues) <= delays)

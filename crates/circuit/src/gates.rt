@@ -9,7 +9,7 @@ ghost use Rattle.words.specs.Words.{words};
 ghost use Rattle.words.specs.Slices.{was};
 ghost use Rattle.model.specs.Base.{all, sum};
 ghost use Rattle.model.specs.Kinds.{kind-at};
-ghost use Rattle.model.specs.Circuit.{part, circuit as circuit-of};
+ghost use Rattle.model.specs.Circuit.{part, circuit as circuit-of, most-gates};
 ghost use Rattle.model.specs.Questions.{question-1, question-3, within};
 use super::columns::all_within;
 use super::columns::within;
@@ -19,7 +19,7 @@ use words::get;
 
 // Whether the `count` kinds from word `first` on are each 1 to 28, and have as many inputs together as there are.
 fn good_kinds(circuit: &[u8], first: usize, count: usize, inputs: u64) -> bool
-    requires { ⌜ (count ≤ 64) × ((first + count) * 8 ≤ length (now circuit)) ⌝ }
+    requires { ⌜ (count ≤ most-gates) × ((first + count) * 8 ≤ length (now circuit)) ⌝ }
     ensures { λ r. ⌜ r ≡ (all (within 1 28) (part (was circuit) first count) && eqb (sum (map (λ k. length (kind-at k .ins)) (part (was circuit) first count))) inputs) ⌝ }
 {
     let mut total: usize = 0;

@@ -6,7 +6,7 @@ ghost use lib.ListN.{length, getD};
 ghost use Rattle.words.specs.Slices.{before, after};
 ghost use Rattle.model.specs.Value.{bit};
 ghost use Rattle.model.specs.Kinds.{pure};
-ghost use Rattle.model.specs.Circuit.{kind-of-gate};
+ghost use Rattle.model.specs.Circuit.{kind-of-gate, most-gates};
 ghost use Rattle.model.specs.Questions.{question-6};
 ghost use Rattle.links.specs.Lent.{Linked, net-of};
 ghost use Rattle.circuit.specs.Gates.{gates-where, gate-bit, source-bit, awaited, waits};
@@ -73,7 +73,7 @@ fn with_bit(word: u64, b: bool) -> u64
 
 // The pure ones of n gates.
 fn pure_gates(links: &[usize], n: usize) -> u64
-    requires { ⌜ Linked links × (n ≤ 64) ⌝ }
+    requires { ⌜ Linked links × (n ≤ most-gates) ⌝ }
     ensures { λ r. ⌜ r ≡ gates-where (λ g. pure (kind-of-gate (net-of links) g)) n ⌝ }
 {
     let mut word: u64 = 0;
@@ -87,7 +87,7 @@ fn pure_gates(links: &[usize], n: usize) -> u64
 
 // One round: of n gates those that wait for one of `unplaced`, where `words` has what each waits for.
 fn round(words: &[u64], n: usize, unplaced: u64) -> u64
-    requires { ⌜ (n ≤ 64) × (n ≤ length (now words)) ⌝ }
+    requires { ⌜ (n ≤ most-gates) × (n ≤ length (now words)) ⌝ }
     ensures { λ r. ⌜ r ≡ gates-where (waits (before words) unplaced) n ⌝ }
 {
     let mut word: u64 = 0;

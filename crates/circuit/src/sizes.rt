@@ -3,12 +3,15 @@ ghost use mathlib.Core.Path.{_≡_};
 ghost use Prim.Native.Nat.{_+_, _*_, _≤_};
 ghost use Rattle.words.specs.Slices.{before, was};
 ghost use Rattle.model.specs.Questions.{question-1};
+ghost use Rattle.model.specs.Circuit.{most-gates, most-inputs};
+ghost use Rattle.model.specs.Chain.{most-calls};
+ghost use Rattle.links.specs.Links.{most-constants};
 use super::columns::within;
 use words::get;
 
 // The number of a circuit's words.
 fn words_of(gates: u64, constants: u64, inputs: u64, calls: u64) -> u64
-    requires { ⌜ (gates ≤ 64) × (constants ≤ 64) × (inputs ≤ 640) × (calls ≤ 256) ⌝ }
+    requires { ⌜ (gates ≤ most-gates) × (constants ≤ most-constants) × (inputs ≤ most-inputs) × (calls ≤ most-calls) ⌝ }
     ensures { λ r. ⌜ r ≡ 4 + 2 * (gates + constants + inputs + calls) ⌝ }
 {
     4 + 2 * (gates + constants + inputs + calls)

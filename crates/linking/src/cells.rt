@@ -1,10 +1,12 @@
 // Words of a circuit and cells of the links: reading one, writing one, writing several in a row.
 ghost use mathlib.Core.Path.{_≡_};
-ghost use Prim.Native.Nat.{_+_, _<_, _≤_};
+ghost use Prim.Native.Nat.{_+_};
 ghost use lib.ListN.{getD, set};
 ghost use Rattle.words.specs.Slices.{before, after, was};
 ghost use Rattle.links.specs.Links.{packed};
+ghost use Rattle.links.specs.Lent.{Short};
 ghost use Rattle.linking.specs.Building.{written};
+ghost use Rattle.linking.specs.Lent.{Near};
 
 // Word i of the circuit, and 0 past the end.
 pub fn word(circuit: &[u8], i: usize) -> usize
@@ -24,8 +26,8 @@ pub fn put(cells: &mut [usize], i: usize, v: usize)
 
 // n cells, from cell `base` on, become v.
 pub fn fill(cells: &mut [usize], base: usize, n: usize, v: usize)
-    requires { ⌜ base ≤ 65536 ⌝ }
-    requires { ⌜ n ≤ 65536 ⌝ }
+    requires { ⌜ Near base ⌝ }
+    requires { ⌜ Near n ⌝ }
     ensures { λ _. ⌜ after cells ≡ written (before cells) base n (λ k. v) ⌝ }
 {
     let mut k: usize = 0;
@@ -37,9 +39,9 @@ pub fn fill(cells: &mut [usize], base: usize, n: usize, v: usize)
 
 // n cells, from cell `base` on, become the words of the circuit from word `first` on.
 pub fn copy(circuit: &[u8], first: usize, n: usize, cells: &mut [usize], base: usize)
-    requires { ⌜ first ≤ 65536 ⌝ }
-    requires { ⌜ n ≤ 65536 ⌝ }
-    requires { ⌜ base ≤ 65536 ⌝ }
+    requires { ⌜ Near first ⌝ }
+    requires { ⌜ Near n ⌝ }
+    requires { ⌜ Near base ⌝ }
     ensures { λ _. ⌜ after cells ≡ written (before cells) base n (λ k. getD (was circuit) (first + k) 0) ⌝ }
 {
     let mut k: usize = 0;
@@ -52,10 +54,10 @@ pub fn copy(circuit: &[u8], first: usize, n: usize, cells: &mut [usize], base: u
 
 // Four numbers below 65,536 in one cell, the first one lowest.
 pub fn pack(a: usize, b: usize, c: usize, d: usize) -> usize
-    requires { ⌜ a < 65536 ⌝ }
-    requires { ⌜ b < 65536 ⌝ }
-    requires { ⌜ c < 65536 ⌝ }
-    requires { ⌜ d < 65536 ⌝ }
+    requires { ⌜ Short a ⌝ }
+    requires { ⌜ Short b ⌝ }
+    requires { ⌜ Short c ⌝ }
+    requires { ⌜ Short d ⌝ }
     ensures { λ r. ⌜ r ≡ packed a b c d ⌝ }
 {
     a + 65536 * (b + 65536 * (c + 65536 * d))

@@ -8,6 +8,7 @@ ghost use Rattle.words.specs.Slices.{before, after, was};
 ghost use Rattle.model.specs.Base.{joined};
 ghost use Rattle.links.specs.Links.{listed};
 ghost use Rattle.linking.specs.Building.{chains, chained, all-chained, chain-at, size-at, target};
+ghost use Rattle.linking.specs.Lent.{Near};
 use crate::cells::put;
 use crate::cells::word;
 use links::layout::MOST_INPUTS;
@@ -20,8 +21,8 @@ pub const END: usize = MOST_INPUTS;
 
 // The numbers below n, from the last down, each in the chain of its key. The keys are the words of the circuit from word `keys` on.
 pub fn chain_all(circuit: &[u8], keys: usize, n: usize, heads: &mut [usize], next: &mut [usize])
-    requires { ⌜ keys ≤ 65536 ⌝ }
-    requires { ⌜ n ≤ 65536 ⌝ }
+    requires { ⌜ Near keys ⌝ }
+    requires { ⌜ Near n ⌝ }
     ensures { λ _. ⌜ chains (after heads) (after next) ≡ all-chained (λ i. getD (was circuit) (keys + i) 0) n (chains (before heads) (before next)) ⌝ }
 {
     let mut i = n;
@@ -67,10 +68,10 @@ pub fn write_chains(
     cells: &mut [usize],
     base: usize,
 )
-    requires { ⌜ targets ≤ 65536 ⌝ }
-    requires { ⌜ length (now next) ≤ 65536 ⌝ }
-    requires { ⌜ n ≤ 65536 ⌝ }
-    requires { ⌜ base ≤ 65536 ⌝ }
+    requires { ⌜ Near targets ⌝ }
+    requires { ⌜ Near (length (now next)) ⌝ }
+    requires { ⌜ Near n ⌝ }
+    requires { ⌜ Near base ⌝ }
     ensures { λ _. ⌜ after cells ≡ sets (before cells) base (joined (listed n (λ o. map (target (was circuit) targets) (chain-at (chains (before heads) (before next)) o)))) ⌝ }
 {
     let mut done: usize = 0;
@@ -93,8 +94,8 @@ fn write_chain(
     cells: &mut [usize],
     base: usize,
 )
-    requires { ⌜ targets ≤ 65536 ⌝ }
-    requires { ⌜ length (now next) ≤ 65536 ⌝ }
+    requires { ⌜ Near targets ⌝ }
+    requires { ⌜ Near (length (now next)) ⌝ }
     requires { ⌜ base ≤ 4294967296 ⌝ }
     ensures { λ _. ⌜ after cells ≡ sets (before cells) base (map (target (was circuit) targets) (chain-at (chains (before heads) (before next)) o)) ⌝ }
 {
@@ -113,8 +114,8 @@ fn write_chain(
 
 // What is written of member i: word `targets` + i, or i itself where `targets` is 0.
 fn target(circuit: &[u8], targets: usize, i: usize) -> usize
-    requires { ⌜ targets ≤ 65536 ⌝ }
-    requires { ⌜ i ≤ 65536 ⌝ }
+    requires { ⌜ Near targets ⌝ }
+    requires { ⌜ Near i ⌝ }
     ensures { λ r. ⌜ r ≡ target (was circuit) targets i ⌝ }
 {
     if targets == 0 {

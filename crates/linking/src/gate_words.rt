@@ -4,15 +4,17 @@ ghost use Prim.Native.Nat.{_+_, _<_, _≤_};
 ghost use lib.ListN.{set};
 ghost use lib.Seq.{sets};
 ghost use Rattle.words.specs.Slices.{before, after, was};
+ghost use Rattle.model.specs.Circuit.{most-gates};
 ghost use Rattle.linking.specs.Building.{gate-bit, bits-of, word-cells};
+ghost use Rattle.linking.specs.Lent.{Near};
 use crate::cells::put;
 use kinds::numbers::*;
 use links::layout::*;
 
 // The words of gates: DeltaTime and ServerUptime, buffers and Queues, Clocks, Stopwatches, receivers of events.
 pub fn write_words(circuit: &[u8], kinds: usize, n: usize, cells: &mut [usize])
-    requires { ⌜ kinds ≤ 65536 ⌝ }
-    requires { ⌜ n ≤ 64 ⌝ }
+    requires { ⌜ Near kinds ⌝ }
+    requires { ⌜ n ≤ most-gates ⌝ }
     ensures { λ _. ⌜ after cells ≡ sets (before cells) 4 (word-cells (was circuit) kinds n) ⌝ }
 {
     put_gates(
@@ -40,8 +42,8 @@ pub fn write_words(circuit: &[u8], kinds: usize, n: usize, cells: &mut [usize])
 
 // Cell i becomes the word of the buffers and Queues.
 fn put_buffers(circuit: &[u8], kinds: usize, n: usize, cells: &mut [usize], i: usize)
-    requires { ⌜ kinds ≤ 65536 ⌝ }
-    requires { ⌜ n ≤ 64 ⌝ }
+    requires { ⌜ Near kinds ⌝ }
+    requires { ⌜ n ≤ most-gates ⌝ }
     ensures { λ _. ⌜ after cells ≡ set (before cells) i (bits-of (was circuit) kinds n 10 13 + bits-of (was circuit) kinds n 16 17) ⌝ }
 {
     let buffers = gates_within(circuit, kinds, n, BUFFER_TICKS, BUFFER_SECONDS_EXEC);
@@ -59,8 +61,8 @@ fn put_gates(
     cells: &mut [usize],
     i: usize,
 )
-    requires { ⌜ kinds ≤ 65536 ⌝ }
-    requires { ⌜ n ≤ 64 ⌝ }
+    requires { ⌜ Near kinds ⌝ }
+    requires { ⌜ n ≤ most-gates ⌝ }
     ensures { λ _. ⌜ after cells ≡ set (before cells) i (bits-of (was circuit) kinds n low high) ⌝ }
 {
     let gates = gates_within(circuit, kinds, n, low, high);
@@ -69,8 +71,8 @@ fn put_gates(
 
 // A word of n gates, whose kinds are the words from word `kinds` on: bit g is set where the kind of gate g is one of low to high.
 fn gates_within(circuit: &[u8], kinds: usize, n: usize, low: u64, high: u64) -> usize
-    requires { ⌜ kinds ≤ 65536 ⌝ }
-    requires { ⌜ n ≤ 64 ⌝ }
+    requires { ⌜ Near kinds ⌝ }
+    requires { ⌜ n ≤ most-gates ⌝ }
     ensures { λ r. ⌜ r ≡ bits-of (was circuit) kinds n low high ⌝ }
 {
     let mut gates: usize = 0;

@@ -6,8 +6,10 @@ ghost use lib.Seq.{sets};
 ghost use Rattle.words.specs.Words.{words};
 ghost use Rattle.words.specs.Slices.{before, after, was};
 ghost use Rattle.model.specs.Base.{joined};
+ghost use Rattle.model.specs.Circuit.{most-gates};
 ghost use Rattle.links.specs.Links.{listed};
 ghost use Rattle.linking.specs.Building.{written, below, Small, ins-at, outs-at, gate-cell, output-cells, gates-written};
+ghost use Rattle.linking.specs.Lent.{Near};
 use crate::cells::fill;
 use crate::cells::pack;
 use crate::cells::put;
@@ -25,8 +27,8 @@ pub fn link_gates(
     outputs: usize,
     cells: &mut [usize],
 )
-    requires { ⌜ kinds ≤ 65536 ⌝ }
-    requires { ⌜ gates ≤ 64 ⌝ }
+    requires { ⌜ Near kinds ⌝ }
+    requires { ⌜ gates ≤ most-gates ⌝ }
     requires { ⌜ Small (words (now circuit)) kinds (2 * gates) ⌝ }
     ensures { λ _. ⌜ after cells ≡ gates-written (was circuit) kinds gates constants inputs outputs (before cells) ⌝ }
 {
@@ -48,9 +50,9 @@ fn write_counts(gates: usize, constants: usize, inputs: usize, outputs: usize, c
 
 // n cells, from cell `base` on, become those of n gates: kind, rank, first input, first output. The ranks stand behind the kinds.
 fn write_gates(circuit: &[u8], kinds: usize, n: usize, cells: &mut [usize], base: usize)
-    requires { ⌜ kinds ≤ 65536 ⌝ }
-    requires { ⌜ n ≤ 64 ⌝ }
-    requires { ⌜ base ≤ 65536 ⌝ }
+    requires { ⌜ Near kinds ⌝ }
+    requires { ⌜ n ≤ most-gates ⌝ }
+    requires { ⌜ Near base ⌝ }
     requires { ⌜ Small (words (now circuit)) kinds (2 * n) ⌝ }
     ensures { λ _. ⌜ after cells ≡ written (before cells) base n (gate-cell (was circuit) kinds n) ⌝ }
 {
@@ -69,8 +71,8 @@ fn write_gates(circuit: &[u8], kinds: usize, n: usize, cells: &mut [usize], base
 
 // The cells from cell `base` on become those of the outputs of n gates: each output's gate.
 fn write_outputs(circuit: &[u8], kinds: usize, n: usize, cells: &mut [usize], base: usize)
-    requires { ⌜ kinds ≤ 65536 ⌝ }
-    requires { ⌜ n ≤ 64 ⌝ }
+    requires { ⌜ Near kinds ⌝ }
+    requires { ⌜ n ≤ most-gates ⌝ }
     requires { ⌜ base ≤ 32768 ⌝ }
     ensures { λ _. ⌜ after cells ≡ sets (before cells) base (joined (listed n (output-cells (was circuit) kinds))) ⌝ }
 {
@@ -86,8 +88,8 @@ fn write_outputs(circuit: &[u8], kinds: usize, n: usize, cells: &mut [usize], ba
 
 // How many outputs n gates have.
 pub fn count_outputs(circuit: &[u8], kinds: usize, n: usize) -> usize
-    requires { ⌜ kinds ≤ 65536 ⌝ }
-    requires { ⌜ n ≤ 64 ⌝ }
+    requires { ⌜ Near kinds ⌝ }
+    requires { ⌜ n ≤ most-gates ⌝ }
     ensures { λ r. ⌜ r ≡ below (outs-at (was circuit) kinds) n ⌝ }
 {
     let mut outputs: usize = 0;
@@ -101,8 +103,8 @@ pub fn count_outputs(circuit: &[u8], kinds: usize, n: usize) -> usize
 
 // How many inputs gate g has; the kinds of the gates are the words from word `kinds` on.
 pub fn inputs_of(circuit: &[u8], kinds: usize, g: usize) -> usize
-    requires { ⌜ kinds ≤ 65536 ⌝ }
-    requires { ⌜ g ≤ 65536 ⌝ }
+    requires { ⌜ Near kinds ⌝ }
+    requires { ⌜ Near g ⌝ }
     ensures { λ r. ⌜ r ≡ ins-at (was circuit) kinds g ⌝ }
 {
     kinds::inputs(words::read(circuit, kinds + g))
@@ -110,8 +112,8 @@ pub fn inputs_of(circuit: &[u8], kinds: usize, g: usize) -> usize
 
 // How many outputs gate g has, likewise.
 fn outputs_of(circuit: &[u8], kinds: usize, g: usize) -> usize
-    requires { ⌜ kinds ≤ 65536 ⌝ }
-    requires { ⌜ g ≤ 65536 ⌝ }
+    requires { ⌜ Near kinds ⌝ }
+    requires { ⌜ Near g ⌝ }
     ensures { λ r. ⌜ r ≡ outs-at (was circuit) kinds g ⌝ }
 {
     kinds::outputs(words::read(circuit, kinds + g))

@@ -1,14 +1,16 @@
 // What is written of the inputs: the source, the stored value, the gate, and whether it is watched.
 ghost use mathlib.Core.Path.{_≡_};
-ghost use Prim.Native.Nat.{_+_, _<_, _≤_};
+ghost use Prim.Native.Nat.{_+_, _≤_};
 ghost use lib.ListN.{length, getD};
 ghost use lib.Seq.{sets};
 ghost use Rattle.words.specs.Slices.{before, after, was};
 ghost use Rattle.model.specs.Base.{joined};
 ghost use Rattle.model.specs.Kinds.{kind-at, value};
-ghost use Rattle.model.specs.Circuit.{is-watched, source-of};
-ghost use Rattle.links.specs.Links.{listed};
+ghost use Rattle.model.specs.Circuit.{is-watched, source-of, most-gates, most-inputs};
+ghost use Rattle.links.specs.Links.{listed, most-constants};
+ghost use Rattle.links.specs.Lent.{Short};
 ghost use Rattle.linking.specs.Building.{written, named-word, input-cell, input-cells, inputs-written};
+ghost use Rattle.linking.specs.Lent.{Near};
 use crate::CONSTANTS;
 use crate::cells::copy;
 use crate::cells::pack;
@@ -29,11 +31,11 @@ pub fn link_inputs(
     constants: usize,
     cells: &mut [usize],
 )
-    requires { ⌜ kinds ≤ 65536 ⌝ }
-    requires { ⌜ gates ≤ 64 ⌝ }
+    requires { ⌜ Near kinds ⌝ }
+    requires { ⌜ gates ≤ most-gates ⌝ }
     requires { ⌜ sources ≤ 32768 ⌝ }
-    requires { ⌜ inputs ≤ 640 ⌝ }
-    requires { ⌜ constants ≤ 64 ⌝ }
+    requires { ⌜ inputs ≤ most-inputs ⌝ }
+    requires { ⌜ constants ≤ most-constants ⌝ }
     ensures { λ _. ⌜ after cells ≡ inputs-written (was circuit) kinds gates sources inputs constants (before cells) ⌝ }
 {
     let stored = sources + inputs;
@@ -69,11 +71,11 @@ fn copy_named(
     cells: &mut [usize],
     base: usize,
 )
-    requires { ⌜ first ≤ 65536 ⌝ }
-    requires { ⌜ n ≤ 65536 ⌝ }
-    requires { ⌜ named ≤ 65536 ⌝ }
-    requires { ⌜ count ≤ 65536 ⌝ }
-    requires { ⌜ base ≤ 65536 ⌝ }
+    requires { ⌜ Near first ⌝ }
+    requires { ⌜ Near n ⌝ }
+    requires { ⌜ Near named ⌝ }
+    requires { ⌜ Near count ⌝ }
+    requires { ⌜ Near base ⌝ }
     ensures { λ _. ⌜ after cells ≡ written (before cells) base n (λ k. named-word (was circuit) named count (getD (was circuit) (first + k) 0)) ⌝ }
 {
     let mut k: usize = 0;
@@ -87,8 +89,8 @@ fn copy_named(
 
 // The word of name k, where `count` words from word `named` on are named from 1 on. No other name has one.
 fn word_named(circuit: &[u8], named: usize, count: usize, k: usize) -> usize
-    requires { ⌜ named ≤ 65536 ⌝ }
-    requires { ⌜ count ≤ 65536 ⌝ }
+    requires { ⌜ Near named ⌝ }
+    requires { ⌜ Near count ⌝ }
     ensures { λ r. ⌜ r ≡ named-word (was circuit) named count k ⌝ }
 {
     if k == 0 {
@@ -109,8 +111,8 @@ fn write_inputs(
     cells: &mut [usize],
     base: usize,
 )
-    requires { ⌜ kinds ≤ 65536 ⌝ }
-    requires { ⌜ n ≤ 64 ⌝ }
+    requires { ⌜ Near kinds ⌝ }
+    requires { ⌜ n ≤ most-gates ⌝ }
     requires { ⌜ sources ≤ 32768 ⌝ }
     requires { ⌜ base ≤ 32768 ⌝ }
     ensures { λ _. ⌜ after cells ≡ sets (before cells) base (joined (listed n (input-cells (was circuit) kinds sources))) ⌝ }
@@ -134,9 +136,9 @@ fn write_inputs_of(
     cells: &mut [usize],
     base: usize,
 )
-    requires { ⌜ sources ≤ 65536 ⌝ }
-    requires { ⌜ g < 65536 ⌝ }
-    requires { ⌜ base ≤ 65536 ⌝ }
+    requires { ⌜ Near sources ⌝ }
+    requires { ⌜ Short g ⌝ }
+    requires { ⌜ Near base ⌝ }
     ensures { λ _. ⌜ after cells ≡ written (before cells) base (length (kind-at kind .ins)) (λ p. input-cell kind g (getD (was circuit) (sources + p) 0) p) ⌝ }
 {
     let n = kinds::inputs(kind);
@@ -150,7 +152,7 @@ fn write_inputs_of(
 
 // The cell of input p of gate g, of this kind: the gate, and whether the input is watched.
 fn input_cell(kind: u64, g: usize, source: u64, p: usize) -> usize
-    requires { ⌜ g < 65536 ⌝ }
+    requires { ⌜ Short g ⌝ }
     ensures { λ r. ⌜ r ≡ input-cell kind g source p ⌝ }
 {
     if watched(kind, source, p) {

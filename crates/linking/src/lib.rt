@@ -4,9 +4,10 @@ ghost use mathlib.Core.Bool.{true};
 ghost use Prim.Native.Nat.{_+_, _*_, _≤_};
 ghost use Rattle.words.specs.Words.{words};
 ghost use Rattle.words.specs.Slices.{before, after, was};
-ghost use Rattle.model.specs.Circuit.{circuit as circuit-of};
+ghost use Rattle.model.specs.Circuit.{circuit as circuit-of, most-gates, most-inputs};
 ghost use Rattle.model.specs.Questions.{question-1, question-2, question-3};
-ghost use Rattle.links.specs.Links.{cells};
+ghost use Rattle.model.specs.Chain.{most-calls};
+ghost use Rattle.links.specs.Links.{cells, most-constants};
 ghost use Rattle.links.specs.Lent.{Linked};
 ghost use Rattle.linking.specs.Building.{Small, constants-written, all-written};
 use crate::cells::copy;
@@ -52,10 +53,10 @@ fn link_all(
     calls: usize,
     cells: &mut [usize],
 )
-    requires { ⌜ gates ≤ 64 ⌝ }
-    requires { ⌜ constants ≤ 64 ⌝ }
-    requires { ⌜ inputs ≤ 640 ⌝ }
-    requires { ⌜ calls ≤ 256 ⌝ }
+    requires { ⌜ gates ≤ most-gates ⌝ }
+    requires { ⌜ constants ≤ most-constants ⌝ }
+    requires { ⌜ inputs ≤ most-inputs ⌝ }
+    requires { ⌜ calls ≤ most-calls ⌝ }
     requires { ⌜ Small (words (now circuit)) (4 + 2 * constants) (2 * gates) ⌝ }
     ensures { λ _. ⌜ after cells ≡ all-written (was circuit) gates constants inputs calls (before cells) ⌝ }
 {
@@ -72,7 +73,7 @@ fn link_all(
 
 // The tables of the constants.
 fn link_constants(circuit: &[u8], constants: usize, cells: &mut [usize])
-    requires { ⌜ constants ≤ 64 ⌝ }
+    requires { ⌜ constants ≤ most-constants ⌝ }
     ensures { λ _. ⌜ after cells ≡ constants-written (was circuit) constants (before cells) ⌝ }
 {
     copy(circuit, CONSTANTS, constants, cells, CONSTANT_KINDS);

@@ -2,8 +2,11 @@
 ghost use mathlib.Core.Path.{_≡_};
 ghost use Prim.Native.Nat.{_<_, _≤_};
 ghost use Rattle.words.specs.Slices.{before, after, was};
+ghost use Rattle.model.specs.Circuit.{most-inputs};
+ghost use Rattle.links.specs.Lent.{Short};
+ghost use Rattle.links.specs.Links.{most-outputs};
 ghost use Rattle.linking.specs.Building.{written, below, chains, size-at, row-of, lists-written};
-ghost use Rattle.linking.specs.Lent.{sizes-in};
+ghost use Rattle.linking.specs.Lent.{sizes-in, Near};
 use crate::cells::pack;
 use crate::cells::put;
 use crate::chains::END;
@@ -23,11 +26,11 @@ pub fn link_lists(
     cells: &mut [usize],
 )
     requires { ⌜ sources ≤ 32768 ⌝ }
-    requires { ⌜ inputs ≤ 640 ⌝ }
+    requires { ⌜ inputs ≤ most-inputs ⌝ }
     requires { ⌜ 0 < calls ⌝ }
     requires { ⌜ calls ≤ 32768 ⌝ }
-    requires { ⌜ count ≤ 640 ⌝ }
-    requires { ⌜ outputs ≤ 576 ⌝ }
+    requires { ⌜ count ≤ most-inputs ⌝ }
+    requires { ⌜ outputs ≤ most-outputs ⌝ }
     ensures { λ _. ⌜ after cells ≡ lists-written (was circuit) sources inputs calls count outputs (before cells) ⌝ }
 {
     let mut reader_heads = [END; MOST_OUTPUTS];
@@ -81,10 +84,10 @@ fn write_rows(
     cells: &mut [usize],
     base: usize,
 )
-    requires { ⌜ n ≤ 65536 ⌝ }
-    requires { ⌜ base ≤ 65536 ⌝ }
-    requires { ⌜ below (size-at (chains (now «reader_heads») (now «reader_next»))) n < 65536 ⌝ }
-    requires { ⌜ below (size-at (chains (now «call_heads») (now «call_next»))) n < 65536 ⌝ }
+    requires { ⌜ Near n ⌝ }
+    requires { ⌜ Near base ⌝ }
+    requires { ⌜ Short (below (size-at (chains (now «reader_heads») (now «reader_next»))) n) ⌝ }
+    requires { ⌜ Short (below (size-at (chains (now «call_heads») (now «call_next»))) n) ⌝ }
     ensures { λ _. ⌜ after cells ≡ written (before cells) base n (row-of (sizes-in «reader_heads» «reader_next») (sizes-in «call_heads» «call_next»)) ⌝ }
 {
     let mut readers: usize = 0;

@@ -12,7 +12,17 @@ use Rattle.links.specs.declared.Read.the-variants.{Output, Nothing as No
 use Rattle.model.specs.Base.{keep, joined, both, from, starts}
 use Rattle.model.specs.Value.{value-of, kind-of, content-of, bit}
 use Rattle.model.specs.Kinds.{value, fires, Kind, kind-at}
-use Rattle.model.specs.Circuit.{Call, Circuit, minus-one, source-of}
+use Rattle.model.specs.Circuit.{most-gates, most-inputs, Call, Circuit, minus-one, source-of}
+use Rattle.model.specs.Chain.{most-calls}
+
+-- ---- how many there can be, beside what the definition names
+
+-- a kind has at most nine outputs
+abbrev pub most-outputs : ℕ
+most-outputs = 9 * most-gates
+
+abbrev pub most-constants : ℕ
+most-constants = 64
 
 -- ---- the tables, one behind the other
 
@@ -27,47 +37,47 @@ gates-at = counts-at + 16
 
 -- 640 inputs: the source
 abbrev pub sources-at : ℕ
-sources-at = gates-at + 64
+sources-at = gates-at + most-gates
 
 -- the kind of the stored value
 abbrev pub stored-kinds-at : ℕ
-stored-kinds-at = sources-at + 640
+stored-kinds-at = sources-at + most-inputs
 
 -- its content
 abbrev pub stored-contents-at : ℕ
-stored-contents-at = stored-kinds-at + 640
+stored-contents-at = stored-kinds-at + most-inputs
 
 -- the gate, and whether it is watched
 abbrev pub inputs-at : ℕ
-inputs-at = stored-contents-at + 640
+inputs-at = stored-contents-at + most-inputs
 
 -- 576 outputs: the gate
 abbrev pub outputs-at : ℕ
-outputs-at = inputs-at + 640
+outputs-at = inputs-at + most-inputs
 
 -- where its readers begin and how many they are, and the same of its calls
 abbrev pub rows-at : ℕ
-rows-at = outputs-at + 576
+rows-at = outputs-at + most-outputs
 
 -- 640 readers: inputs
 abbrev pub readers-at : ℕ
-readers-at = rows-at + 576
+readers-at = rows-at + most-outputs
 
 -- 256 calls: targets
 abbrev pub calls-at : ℕ
-calls-at = readers-at + 640
+calls-at = readers-at + most-inputs
 
 -- 64 constants, of which the first is named 1: the kind
 abbrev pub constant-kinds-at : ℕ
-constant-kinds-at = calls-at + 256
+constant-kinds-at = calls-at + most-calls
 
 -- the content
 abbrev pub constant-contents-at : ℕ
-constant-contents-at = constant-kinds-at + 64
+constant-contents-at = constant-kinds-at + most-constants
 
 -- the cells in all
 abbrev pub total : ℕ
-total = constant-contents-at + 64
+total = constant-contents-at + most-constants
 
 -- four numbers below 65,536 in one cell, the first one lowest
 unfoldable pub packed : ℕ → ℕ → ℕ → ℕ → ℕ
@@ -128,17 +138,17 @@ unfoldable pub cells : Circuit → List ℕ
 cells c =
     joined (
     table-of 16 (count-cells c)
-    ∷ table-of 64 (gate-cells (c .kinds) (c .ranks) (c .first-input) (c .first-output))
-    ∷ table-of 640 (map source-cell (c .sources))
-    ∷ table-of 640 (map kind-of (c .stored))
-    ∷ table-of 640 (map content-of (c .stored))
-    ∷ table-of 640 (both (λ g w. packed g (bit w) 0 0) (c .gate-of-input) (c .watched))
-    ∷ table-of 576 (c .gate-of-output)
-    ∷ table-of 576 (row-cells (c .readers) (c .calls))
-    ∷ table-of 640 (joined (c .readers))
-    ∷ table-of 256 (map call-cell (joined (c .calls)))
-    ∷ table-of 64 (map kind-of (named (c .constants)))
-    ∷ table-of 64 (map content-of (named (c .constants)))
+    ∷ table-of most-gates (gate-cells (c .kinds) (c .ranks) (c .first-input) (c .first-output))
+    ∷ table-of most-inputs (map source-cell (c .sources))
+    ∷ table-of most-inputs (map kind-of (c .stored))
+    ∷ table-of most-inputs (map content-of (c .stored))
+    ∷ table-of most-inputs (both (λ g w. packed g (bit w) 0 0) (c .gate-of-input) (c .watched))
+    ∷ table-of most-outputs (c .gate-of-output)
+    ∷ table-of most-outputs (row-cells (c .readers) (c .calls))
+    ∷ table-of most-inputs (joined (c .readers))
+    ∷ table-of most-calls (map call-cell (joined (c .calls)))
+    ∷ table-of most-constants (map kind-of (named (c .constants)))
+    ∷ table-of most-constants (map content-of (named (c .constants)))
     ∷ [])
 
 -- ---- reading one back
@@ -177,10 +187,10 @@ module _ (l : List ℕ) where
   -- the circuit that the links show
   unfoldable pub net : Circuit
   net =
-      let G = min (cell counts-at) 64 in
-      let K = min (cell (counts-at + 1)) 64 in
-      let I = min (cell (counts-at + 2)) 640 in
-      let O = min (cell (counts-at + 3)) 576 in
+      let G = min (cell counts-at) most-gates in
+      let K = min (cell (counts-at + 1)) most-constants in
+      let I = min (cell (counts-at + 2)) most-inputs in
+      let O = min (cell (counts-at + 3)) most-outputs in
       record {
         constants = Nothing ∷ listed K (λ k. value-of (cell (constant-kinds-at + k)) (cell (constant-contents-at + k)));
         kinds = listed G (gate-digit 0);
@@ -213,7 +223,7 @@ output-read NoOutput = none
 module _ (l : List ℕ) where
   -- digit n of the row of output o; a row that is missing is 0
   unfoldable pub row-at : ℕ → ℕ → ℕ
-  row-at n o = getD (listed (min (cell l (counts-at + 3)) 576) (row-digit l n)) o 0
+  row-at n o = getD (listed (min (cell l (counts-at + 3)) most-outputs) (row-digit l n)) o 0
 
   -- where the readers of output o begin in their table, and how many they are
   unfoldable pub first-reader : ℕ → ℕ

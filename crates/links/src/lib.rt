@@ -3,11 +3,11 @@ ghost use mathlib.Core.Path.{_≡_};
 ghost use Prim.Native.Nat.{_+_, _<_, _≤_, min};
 ghost use lib.ListN.{length, getD, drop};
 ghost use Rattle.words.specs.Slices.{before};
-ghost use Rattle.model.specs.Circuit.{kind-of-gate, rank-of-gate, input, output, gate-at-input, gate-at-output, watching, source, stored-in, setting};
+ghost use Rattle.model.specs.Circuit.{kind-of-gate, rank-of-gate, input, output, gate-at-input, gate-at-output, watching, source, stored-in, setting, most-gates, most-inputs};
 ghost use Rattle.model.specs.declared.Value.the-variants.{Nothing};
 ghost use Rattle.model.specs.Kinds.{value, fires};
 ghost use Rattle.kinds.specs.Pins.{in-of, out-of};
-ghost use Rattle.links.specs.Links.{gates-at, inputs-at, rows-at, entries, call-of, cell, first-reader, reader-count, reader-at, first-call, call-count, target, output-read, gates-of-word};
+ghost use Rattle.links.specs.Links.{gates-at, inputs-at, rows-at, entries, call-of, cell, first-reader, reader-count, reader-at, first-call, call-count, target, output-read, gates-of-word, most-outputs};
 ghost use Rattle.links.specs.Lent.{Linked, net-of, Short};
 use crate::layout::*;
 use model::Value;
@@ -74,7 +74,7 @@ fn entry(links: &[usize], n: usize, most: usize, at: usize, i: usize, missing: u
 // How many gates there are.
 pub fn gates(links: &[usize]) -> usize
     requires { ⌜ Linked links ⌝ }
-    ensures { λ r. ⌜ (r ≡ length (net-of links .kinds)) × (r ≤ 64) ⌝ }
+    ensures { λ r. ⌜ (r ≡ length (net-of links .kinds)) × (r ≤ most-gates) ⌝ }
 {
     counted(links, GATE_COUNT, MOST_GATES)
 }
@@ -82,7 +82,7 @@ pub fn gates(links: &[usize]) -> usize
 // How many inputs there are.
 pub fn inputs(links: &[usize]) -> usize
     requires { ⌜ Linked links ⌝ }
-    ensures { λ r. ⌜ (r ≡ length (net-of links .pins)) × (r ≤ 640) ⌝ }
+    ensures { λ r. ⌜ (r ≡ length (net-of links .pins)) × (r ≤ most-inputs) ⌝ }
 {
     counted(links, INPUT_COUNT, MOST_INPUTS)
 }
@@ -90,7 +90,7 @@ pub fn inputs(links: &[usize]) -> usize
 // How many outputs there are.
 pub fn outputs(links: &[usize]) -> usize
     requires { ⌜ Linked links ⌝ }
-    ensures { λ r. ⌜ (r ≡ length (net-of links .outputs)) × (r ≤ 576) ⌝ }
+    ensures { λ r. ⌜ (r ≡ length (net-of links .outputs)) × (r ≤ most-outputs) ⌝ }
 {
     counted(links, OUTPUT_COUNT, MOST_OUTPUTS)
 }
@@ -135,7 +135,7 @@ pub fn constant(links: &[usize], k: usize) -> Value
 // What is written of gate g.
 fn gate_entry(links: &[usize], g: usize) -> usize
     requires { ⌜ Linked links ⌝ }
-    ensures { λ r. ⌜ r ≡ getD (entries (before links) 0 64 gates-at) g 0 ⌝ }
+    ensures { λ r. ⌜ r ≡ getD (entries (before links) 0 most-gates gates-at) g 0 ⌝ }
 {
     entry(links, GATE_COUNT, MOST_GATES, GATES, g, 0)
 }
@@ -177,7 +177,7 @@ pub fn output(links: &[usize], g: usize, p: usize) -> usize
 // What is written of input i.
 fn input_entry(links: &[usize], i: usize) -> usize
     requires { ⌜ Linked links ⌝ }
-    ensures { λ r. ⌜ r ≡ getD (entries (before links) 2 640 inputs-at) i 0 ⌝ }
+    ensures { λ r. ⌜ r ≡ getD (entries (before links) 2 most-inputs inputs-at) i 0 ⌝ }
 {
     entry(links, INPUT_COUNT, MOST_INPUTS, INPUTS, i, 0)
 }
@@ -269,7 +269,7 @@ pub fn out_at(links: &[usize], o: usize) -> kinds::Out
 // The row of output o.
 fn row(links: &[usize], o: usize) -> usize
     requires { ⌜ Linked links ⌝ }
-    ensures { λ r. ⌜ r ≡ getD (entries (before links) 3 576 rows-at) o 0 ⌝ }
+    ensures { λ r. ⌜ r ≡ getD (entries (before links) 3 most-outputs rows-at) o 0 ⌝ }
 {
     entry(links, OUTPUT_COUNT, MOST_OUTPUTS, ROWS, o, 0)
 }

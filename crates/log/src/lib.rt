@@ -10,6 +10,7 @@ ghost use Rattle.model.specs.Base.{if_then_else_};
 // The definitions `values` and `units` are named for what they hold, beside the slices of their names.
 ghost use Rattle.model.specs.Value.{kind-of, content-of};
 ghost use Rattle.links.specs.Lent.{Linked, net-of, Room};
+ghost use Rattle.links.specs.Links.{most-outputs};
 ghost use Rattle.wires.specs.Held.{held};
 ghost use Rattle.wires.specs.View.{out-tags-at, out-contents-at};
 ghost use Rattle.log.specs.Log.{fits, written-as, Writes};
@@ -106,14 +107,14 @@ fn write_units(units: &[u8], log: &mut [u8], p: usize, n: usize)
 // How many outputs the record of a tick with this stop shows: all, or none where there is a stop.
 fn outputs_shown(links: &[usize], stop: u64) -> usize
     requires { ⌜ Linked links ⌝ }
-    ensures { λ r. ⌜ (r ≡ (if eqb stop 0 then length (net-of links .outputs) else 0)) × (r ≤ 576) ⌝ }
+    ensures { λ r. ⌜ (r ≡ (if eqb stop 0 then length (net-of links .outputs) else 0)) × (r ≤ most-outputs) ⌝ }
 {
     if stop == 0 { outputs(links) } else { 0 }
 }
 
 // The kind of what output o shows.
 fn kind_at(values: &[u8], o: usize) -> u64
-    requires { ⌜ Room values × (o < 576) ⌝ }
+    requires { ⌜ Room values × (o < most-outputs) ⌝ }
     ensures { λ r. ⌜ r ≡ kind-of (held (getD (was values) (out-tags-at + o) 0) (getD (was values) (out-contents-at + o) 0)) ⌝ }
 {
     kind_held(get(values, OUT_TAGS + o))
@@ -121,7 +122,7 @@ fn kind_at(values: &[u8], o: usize) -> u64
 
 // The content of what output o shows.
 fn content_at(values: &[u8], o: usize) -> u64
-    requires { ⌜ Room values × (o < 576) ⌝ }
+    requires { ⌜ Room values × (o < most-outputs) ⌝ }
     ensures { λ r. ⌜ r ≡ content-of (held (getD (was values) (out-tags-at + o) 0) (getD (was values) (out-contents-at + o) 0)) ⌝ }
 {
     content_held(get(values, OUT_TAGS + o), get(values, OUT_CONTENTS + o))
@@ -129,7 +130,7 @@ fn content_at(values: &[u8], o: usize) -> u64
 
 // The kinds of the first n outputs become the words from word p on.
 fn write_kinds(values: &[u8], log: &mut [u8], p: usize, n: usize)
-    requires { ⌜ Room values × (n ≤ 576) × Has-words log p n ⌝ }
+    requires { ⌜ Room values × (n ≤ most-outputs) × Has-words log p n ⌝ }
     ensures { λ _. ⌜ Filled (before log) (after log) p (map kind-of (outs-in n (before values))) ⌝ }
 {
     let mut i = 0;
@@ -141,7 +142,7 @@ fn write_kinds(values: &[u8], log: &mut [u8], p: usize, n: usize)
 
 // Their contents become the words from word p on.
 fn write_contents(values: &[u8], log: &mut [u8], p: usize, n: usize)
-    requires { ⌜ Room values × (n ≤ 576) × Has-words log p n ⌝ }
+    requires { ⌜ Room values × (n ≤ most-outputs) × Has-words log p n ⌝ }
     ensures { λ _. ⌜ Filled (before log) (after log) p (map content-of (outs-in n (before values))) ⌝ }
 {
     let mut i = 0;
@@ -153,7 +154,7 @@ fn write_contents(values: &[u8], log: &mut [u8], p: usize, n: usize)
 
 // The kinds and then the contents of the first n outputs become the words from word p on.
 fn write_outputs(values: &[u8], log: &mut [u8], p: usize, n: usize)
-    requires { ⌜ Room values × (n ≤ 576) × Has-words log p (2 * n) ⌝ }
+    requires { ⌜ Room values × (n ≤ most-outputs) × Has-words log p (2 * n) ⌝ }
     ensures { λ _. ⌜ Filled (before log) (after log) p (outputs-row (outs-in n (before values))) ⌝ }
 {
     write_kinds(values, log, p, n);

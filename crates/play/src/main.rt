@@ -2,6 +2,7 @@
 ghost use Prim.Native.Nat.{_^_, _≤_, _<_};
 ghost use Rattle.words.specs.Slices.{after};
 ghost use Rattle.io.specs.Counts.{Counts};
+ghost use Rattle.play.specs.Records.{longest-record};
 
 mod records;
 mod text;
@@ -27,7 +28,7 @@ fn print_word(word: u64, last: u8) {
 
 // Prints n words from word `at` on as a line.
 fn print_record(log: &[u8], at: usize, n: usize)
-    requires { ⌜ (at < 2 ^ 62) × (n ≤ 5254) ⌝ }
+    requires { ⌜ (at < 2 ^ 62) × (n ≤ longest-record) ⌝ }
 {
     let mut i = 0;
     while i + 1 < n {

@@ -2,7 +2,8 @@
 ghost use mathlib.Core.Path.{_≡_};
 ghost use Prim.Native.Nat.{_^_, _≤_, _<_, min};
 ghost use Rattle.words.specs.Slices.{was};
-ghost use Rattle.play.specs.Records.{outputs-of, record-words};
+ghost use Rattle.links.specs.Links.{most-outputs};
+ghost use Rattle.play.specs.Records.{outputs-of, record-words, longest-record};
 use links::layout::MOST_CONSTANTS;
 use links::layout::MOST_GATES;
 use log::HEAD;
@@ -20,7 +21,7 @@ fn least(n: u64, most: usize) -> usize
 // How many outputs the circuit has.
 pub fn outputs(circuit: &[u8]) -> usize
     ensures { λ r. ⌜ r ≡ outputs-of (was circuit) ⌝ }
-    ensures { λ r. ⌜ r ≤ 576 ⌝ }
+    ensures { λ r. ⌜ r ≤ most-outputs ⌝ }
 {
     let gates = least(read(circuit, 0), MOST_GATES);
     let constants = least(read(circuit, 1), MOST_CONSTANTS);
@@ -36,9 +37,9 @@ pub fn outputs(circuit: &[u8]) -> usize
 
 // How many words the record has that begins at word `at`.
 pub fn record_words(log: &[u8], at: usize, outputs: usize) -> usize
-    requires { ⌜ (at < 2 ^ 62) × (outputs ≤ 576) ⌝ }
+    requires { ⌜ (at < 2 ^ 62) × (outputs ≤ most-outputs) ⌝ }
     ensures { λ r. ⌜ r ≡ record-words (was log) outputs at ⌝ }
-    ensures { λ r. ⌜ (6 ≤ r) × (r ≤ 5254) ⌝ }
+    ensures { λ r. ⌜ (6 ≤ r) × (r ≤ longest-record) ⌝ }
 {
     let late = least(read(log, at + 2), MOST_UNITS);
     let main = least(read(log, at + 3), MOST_UNITS);

@@ -6,7 +6,7 @@ ghost use Prim.Native.Nat.{_%_, _<_, min};
 ghost use lib.ListN.{getD, take, drop};
 ghost use Rattle.words.specs.Slices.{was, is, Has-words};
 ghost use Rattle.model.specs.State.{idle, records≔};
-ghost use Rattle.model.specs.Delays.{queue-record, hand-out, advance-records};
+ghost use Rattle.model.specs.Delays.{queue-record, hand-out, advance-records, most-records};
 ghost use Rattle.queue.specs.Queue.{queued, released, blank, front-if-due, ticked, slot, records, Placed};
 ghost use Rattle.queue.specs.Lent.{Part, Holds-part, in-seconds};
 use delays::countdown::Countdown;
@@ -57,7 +57,7 @@ pub const PART_BYTES: usize = PART * 8;
 // The slot of the front record.
 fn first_of(queue: &[u8]) -> usize
     requires { ⌜ Holds-part queue ⌝ }
-    ensures { λ r. ⌜ r ≡ getD (was queue) 0 0 % 256 ⌝ }
+    ensures { λ r. ⌜ r ≡ getD (was queue) 0 0 % most-records ⌝ }
 {
     get(queue, FIRST) as usize % SLOTS
 }
@@ -65,7 +65,7 @@ fn first_of(queue: &[u8]) -> usize
 // How many records there are.
 fn count_of(queue: &[u8]) -> usize
     requires { ⌜ Holds-part queue ⌝ }
-    ensures { λ r. ⌜ r ≡ min (getD (was queue) 1 0) 256 ⌝ }
+    ensures { λ r. ⌜ r ≡ min (getD (was queue) 1 0) most-records ⌝ }
 {
     let n = get(queue, COUNT) as usize;
     if n < SLOTS { n } else { SLOTS }
@@ -90,7 +90,7 @@ fn get_eight(queue: &[u8], p: usize) -> [u64; 8]
 
 // The record in slot s.
 fn load(queue: &[u8], seconds: bool, s: usize) -> Record
-    requires { ⌜ Holds-part queue × (s < 256) ⌝ }
+    requires { ⌜ Holds-part queue × (s < most-records) ⌝ }
     ensures { λ r. ⌜ queued r ≡ slot seconds (was queue) s ⌝ }
 {
     let kinds = get_eight(queue, KINDS + s * ROW);
@@ -105,7 +105,7 @@ fn load(queue: &[u8], seconds: bool, s: usize) -> Record
 
 // A record goes to slot s.
 fn store(queue: &mut [u8], s: usize, r: Record)
-    requires { ⌜ Holds-part queue × (s < 256) ⌝ }
+    requires { ⌜ Holds-part queue × (s < most-records) ⌝ }
     ensures { λ _. ⌜ Placed (in-seconds (r .left)) (was queue) (is queue) s (queued r) ⌝ }
 {
     let kinds = r.kinds;
@@ -118,7 +118,7 @@ fn store(queue: &mut [u8], s: usize, r: Record)
 
 // The record in slot s counts down.
 fn count_slot(queue: &mut [u8], seconds: bool, dt: u32, s: usize)
-    requires { ⌜ Holds-part queue × (s < 256) ⌝ }
+    requires { ⌜ Holds-part queue × (s < most-records) ⌝ }
     ensures { λ _. ⌜ Placed seconds (was queue) (is queue) s (ticked dt (slot seconds (was queue) s)) ⌝ }
 {
     let left = of_word(seconds, get(queue, COUNTDOWNS + s));

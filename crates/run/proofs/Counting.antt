@@ -6,9 +6,10 @@ use mathlib.Core.Option.{Option, none, some}
 use Prim.Native.Nat.{ℕ, zero, suc}
 use lib.Dec.{eqb}
 use lib.ListN.{length, set}
-use Rattle.schedule.specs.Schedule.{Raise, Outcome, Closed, Place, to-late, to-delivered, Machine, Setup, plain, Took, empty, took, Filed, full, filed, MainQ, OpenQ, Activation, raise-on, raise-all, Passed, turning, no-turn, pass-on, pass, push-all, activate-open, next-late, activate-late, next-main, activate-main, late-pass, main-pass, most-units, outcome, tick, list-full}
+use Rattle.schedule.specs.Schedule.{Raise, Outcome, Closed, Place, to-late, to-delivered, Machine, Setup, plain, MainQ, OpenQ, Activation, raise-all, pass, push-all, activate-open, next-late, activate-late, next-main, activate-main, late-pass, main-pass, most-units, outcome, tick, list-full}
 use Rattle.schedule.specs.Promise.{All, [·], _∷·_}
 use Rattle.schedule.specs.Keeping.{Did-keep}
+use Rattle.schedule.proofs.Keeps.{raise-all-keeps, pass-keeps}
 use Rattle.model.specs.declared.Value.{Value}
 use Rattle.model.specs.Base.{each, from}
 use Rattle.model.specs.Circuit.{Circuit, output, gate-at-input, inputs-of, gates}
@@ -30,54 +31,10 @@ use Rattle.model.proofs.Sized.{behind-keeps, mark-readers-keeps}
 -- ---- the scheduler: what holds when a tick has opened, and is kept by each unit and by the record, holds after the tick
 
 module _ (S : Setup) where
-  open Setup S using (Tag, after)
+  open Setup S using (Tag)
   open Machine (S .machine) using (W, In, Act, opening as opens, body as runs, closing as closes)
 
   module _ (P : W → Type 0) (ran : (w : W) (a : Act) → P w → Did-keep P (runs w a)) where
-    raise-all-keeps :
-        {Pl Q : Type 0} (activate : Pl → Activation S → Q → Filed Q) (rs : List (Raise W Act Pl)) (t : Tag) (q : Q) (w : W) (s : ℕ) →
-        P w → All (λ r. P (r .at)) rs → P (raise-all S activate rs t q w s .world)
-    unfolding raise-all
-    raise-all-keeps activate [] t q w s p a = p
-    raise-all-keeps activate (r ∷ rs) t q w s p (_∷·_ h a) =
-        go (activate (r .place) (record { act = r .act; tag = t }) q) (λ q₁. raise-all-keeps activate rs (after t) q₁ w s p a)
-      where
-        go :
-            (x : Filed _) → ((q₁ : _) → P (raise-all S activate rs (after t) q₁ w s .world)) →
-            P (raise-on S x (record { act = r .act; tag = t })
-            (record { raised = []; queue = q; next = t; world = r .at; stop = list-full })
-            (λ q₁. raise-all S activate rs (after t) q₁ w s) .world)
-        go full rec = h
-        go (filed q₁) rec = rec q₁
-
-    module _ {Q : Type 0} (next : Q → Took (Activation S) Q) (activate : Activation S → Activation S → Q → Filed Q) where
-      -- one unit, and the pass after it
-      turn : ℕ → Tag → W → Activation S → Q → Passed S Q
-      turn n t w u q =
-          let d = runs w (u .act) in
-          let k = raise-all S (λ (p : Unit {0}). activate u) (d .raises) t q (d .world) (d .stop) in
-          turning S u w (k .raised) (eqb (d .stop) 0) (pass S next activate n (k .next) (k .queue) (k .world) (k .stop))
-
-      pass-keeps : (n : ℕ) (t : Tag) (q : Q) (w : W) (s : ℕ) → P w → P (pass S next activate n t q w s .world)
-      unfolding pass turn
-      pass-keeps zero t q w zero p = go (next q)
-        where
-          go : (x : Took (Activation S) Q) → P (pass-on S x (no-turn S zero t q w 0) (λ u q′. no-turn S zero t q w list-full) .world)
-          go empty = p
-          go (took u q′) = p
-      pass-keeps zero t q w (suc s) p = p
-      pass-keeps (suc n) t q w zero p = go (next q) (λ t₁ q₁ w₁ s₁ p₁. pass-keeps n t₁ q₁ w₁ s₁ p₁)
-        where
-          go :
-              (x : Took (Activation S) Q) →
-              ((t₁ : Tag) (q₁ : Q) (w₁ : W) (s₁ : ℕ) → P w₁ → P (pass S next activate n t₁ q₁ w₁ s₁ .world)) →
-              P (pass-on S x (no-turn S (suc n) t q w 0) (turn n t w) .world)
-          go empty rec = p
-          go (took u q′) rec =
-              let d = ran w (u .act) p in
-              rec _ _ _ _ (raise-all-keeps (λ (p : Unit {0}). activate u) _ t q′ _ _ (d .world) (d .raises))
-      pass-keeps (suc n) t q w (suc s) p = p
-
     pub tick-ends :
         ((w : W) (o : Outcome Act) → P w → P (closes w o .world)) →
         (w : W) (i : In) (came : List (Activation S)) (t : Tag) → Did-keep P (opens w i) → P (tick S w i came t .world)
@@ -86,13 +43,13 @@ module _ (S : Setup) where
         let d = opens w i in
         let q₀ : OpenQ (Activation S) = record { lateq = record { late = push-all S came []; delivered = [] }; pending = [] } in
         let o = raise-all S (activate-open S) (d .raises) t q₀ (d .world) (d .stop) in
-        let a = raise-all-keeps (activate-open S) (d .raises) t q₀ (d .world) (d .stop) (h .world) (h .raises) in
+        let a = raise-all-keeps S P (activate-open S) (d .raises) t q₀ (d .world) (d .stop) (h .world) (h .raises) in
         let l = pass S (next-late S) (activate-late S) most-units (o .next) (o .queue .lateq) (o .world) (o .stop) in
-        let b = pass-keeps (next-late S) (activate-late S) most-units (o .next) (o .queue .lateq) (o .world) (o .stop) a in
+        let b = pass-keeps S P ran (next-late S) (activate-late S) most-units (o .next) (o .queue .lateq) (o .world) (o .stop) a in
         let q : MainQ (Activation S) = record { pending = o .queue .pending; carried = [] } in
         let m = pass S (next-main S) (activate-main S) (l .left) (l .next) q (l .world) (l .stop) in
-        let e = pass-keeps (next-main S) (activate-main S) (l .left) (l .next) q (l .world) (l .stop) b in
-        closed (m .world) (outcome S (l .turns) (m .turns) (m .queue .carried) (m .stop)) e
+        let e = pass-keeps S P ran (next-main S) (activate-main S) (l .left) (l .next) q (l .world) (l .stop) (b .world) in
+        closed (m .world) (outcome S (l .turns) (m .turns) (m .queue .carried) (m .stop)) (e .world)
 
 -- ---- the number of the tick
 

@@ -12,9 +12,9 @@ module _ (S : Setup) where
   open Machine (S .machine) using (W, In, Act, opening as opens, body as runs, closing as closes)
 
   -- the same of a pass, with the world after it
-  record Pass-keeps {Q : Type 0} (P : W → Type 0) (k : Passed S Q) : Type 0 where
-    turns : All (λ (u : Turn S). P (u .from)) (k .turns)
-    world : P (k .world)
+  pub record Pass-keeps {Q : Type 0} (P : W → Type 0) (k : Passed S Q) : Type 0 where
+    pub turns : All (λ (u : Turn S). P (u .from)) (k .turns)
+    pub world : P (k .world)
 
   -- P holds wherever a unit of the tick k began, and in the world before it was closed
   pub record Tick-closes (P : W → Type 0) (k : Tick S) : Type 0 where
@@ -25,9 +25,9 @@ module _ (S : Setup) where
     pub done : Outcome Act
     pub world : k .world ≡ closes before done .world
 
-  -- what opening and body keep
-  module _ (P : W → Type 0) (opened : (w : W) (i : In) → P w → Did-keep P (opens w i)) (ran : (w : W) (a : Act) → P w → Did-keep P (runs w a)) where
-    raise-all-keeps :
+  -- what was raised in worlds that keep it
+  module _ (P : W → Type 0) where
+    pub raise-all-keeps :
         {Pl Q : Type 0} (activate : Pl → Activation S → Q → Filed Q) (rs : List (Raise W Act Pl)) (t : Tag) (q : Q) (w : W) (s : ℕ) →
         P w → All (λ r. P (r .at)) rs → P (raise-all S activate rs t q w s .world)
     unfolding raise-all
@@ -43,7 +43,8 @@ module _ (S : Setup) where
         go full rec = h
         go (filed q₁) rec = rec q₁
 
-    module _ {Q : Type 0} (next : Q → Took (Activation S) Q) (activate : Activation S → Activation S → Q → Filed Q) where
+    -- what body keeps
+    module _ (ran : (w : W) (a : Act) → P w → Did-keep P (runs w a)) {Q : Type 0} (next : Q → Took (Activation S) Q) (activate : Activation S → Activation S → Q → Filed Q) where
       -- one unit, and the pass after it
       turn : ℕ → Tag → W → Activation S → Q → Passed S Q
       turn n t w u q =
@@ -51,7 +52,7 @@ module _ (S : Setup) where
           let k = raise-all S (λ (p : Unit {0}). activate u) (d .raises) t q (d .world) (d .stop) in
           turning S u w (k .raised) (eqb (d .stop) 0) (pass S next activate n (k .next) (k .queue) (k .world) (k .stop))
 
-      pass-keeps : (n : ℕ) (t : Tag) (q : Q) (w : W) (s : ℕ) → P w → Pass-keeps P (pass S next activate n t q w s)
+      pub pass-keeps : (n : ℕ) (t : Tag) (q : Q) (w : W) (s : ℕ) → P w → Pass-keeps P (pass S next activate n t q w s)
       unfolding pass turn
       pass-keeps zero t q w zero p = go (next q)
         where
@@ -72,6 +73,8 @@ module _ (S : Setup) where
               record { turns = _∷·_ p (r .turns); world = r .world }
       pass-keeps (suc n) t q w (suc s) p = record { turns = [·]; world = p }
 
+  -- what opening and body keep
+  module _ (P : W → Type 0) (opened : (w : W) (i : In) → P w → Did-keep P (opens w i)) (ran : (w : W) (a : Act) → P w → Did-keep P (runs w a)) where
     pub tick-closes : (w : W) (i : In) (came : List (Activation S)) (t : Tag) → P w → Tick-closes P (tick S w i came t)
     unfolding tick late-pass main-pass
     tick-closes w i came t p =
@@ -79,12 +82,12 @@ module _ (S : Setup) where
         let h = opened w i p in
         let q₀ : OpenQ (Activation S) = record { lateq = record { late = push-all S came []; delivered = [] }; pending = [] } in
         let o = raise-all S (activate-open S) (d .raises) t q₀ (d .world) (d .stop) in
-        let a = raise-all-keeps (activate-open S) (d .raises) t q₀ (d .world) (d .stop) (h .world) (h .raises) in
+        let a = raise-all-keeps P (activate-open S) (d .raises) t q₀ (d .world) (d .stop) (h .world) (h .raises) in
         let l = pass S (next-late S) (activate-late S) most-units (o .next) (o .queue .lateq) (o .world) (o .stop) in
-        let b = pass-keeps (next-late S) (activate-late S) most-units (o .next) (o .queue .lateq) (o .world) (o .stop) a in
+        let b = pass-keeps P ran (next-late S) (activate-late S) most-units (o .next) (o .queue .lateq) (o .world) (o .stop) a in
         let q : MainQ (Activation S) = record { pending = o .queue .pending; carried = [] } in
         let m = pass S (next-main S) (activate-main S) (l .left) (l .next) q (l .world) (l .stop) in
-        let e = pass-keeps (next-main S) (activate-main S) (l .left) (l .next) q (l .world) (l .stop) (b .world) in
+        let e = pass-keeps P ran (next-main S) (activate-main S) (l .left) (l .next) q (l .world) (l .stop) (b .world) in
         record {
           late = b .turns;
           main = e .turns;

@@ -5,7 +5,7 @@ use mathlib.Core.List.{List, [], _∷_, _++_, map}
 use lib.Dec.{eqb}
 use lib.ListN.{length, getD, take, drop}
 use Rattle.words.specs.Words.{words, tail}
-use Rattle.words.specs.Tables.{tables, marked}
+use Rattle.words.specs.Tables.{base, tables, marked}
 use Rattle.lists.specs.Lists.{stacked, appended, ranked, queued}
 use Rattle.model.specs.declared.Value.{Value}
 use Rattle.model.specs.declared.Value.the-variants.{Nothing}
@@ -35,6 +35,13 @@ pub record Tables : Type 0 where
 -- their sizes
 abbrev pub sizes : List ℕ
 sizes = 257 ∷ 258 ∷ 257 ∷ 257 ∷ 257 ∷ 66 ∷ 1025 ∷ 1 ∷ 2 ∷ 128 ∷ 2048 ∷ []
+
+-- where the counts of the events begin, and their senders, in words
+abbrev pub counts-at : ℕ
+counts-at = base sizes 8
+
+abbrev pub senders-at : ℕ
+senders-at = base sizes 9
 
 -- by their numbers
 abbrev pub of : List (List ℕ) → Tables

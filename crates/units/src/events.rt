@@ -10,7 +10,7 @@ ghost use Rattle.model.specs.Base.{among, both, from};
 ghost use Rattle.model.specs.Value.{value-of};
 ghost use Rattle.model.specs.Circuit.{most-gates};
 ghost use Rattle.links.specs.Lent.{Room};
-ghost use Rattle.units.specs.View.{cut, second-half};
+ghost use Rattle.units.specs.View.{cut, second-half, counts-at, senders-at};
 ghost use Rattle.units.specs.Calls.{with-outbox, sent};
 ghost use Rattle.units.specs.Lent.{Reads, Changes};
 use crate::layout::COUNTS;
@@ -36,7 +36,7 @@ fn outbox(units: &[u8]) -> usize
 // How many events half h holds.
 fn held(units: &[u8], h: usize) -> usize
     requires { ⌜ Room units × (h < 2) ⌝ }
-    ensures { λ r. ⌜ (r ≡ min (getD (was units) (2378 + h) 0) 64) × (r ≤ most-gates) ⌝ }
+    ensures { λ r. ⌜ (r ≡ min (getD (was units) (counts-at + h) 0) most-gates) × (r ≤ most-gates) ⌝ }
 {
     let n = get(units, COUNTS + h) as usize;
     if n < MOST_EVENTS { n } else { MOST_EVENTS }
@@ -45,7 +45,7 @@ fn held(units: &[u8], h: usize) -> usize
 // Whether gate g sent one of the n events from place a on.
 fn sent_by(units: &[u8], a: usize, n: usize, g: usize) -> bool
     requires { ⌜ Room units × (a + n ≤ 128) ⌝ }
-    ensures { λ r. ⌜ r ≡ among g (map (λ k. getD (was units) (2380 + k) 0) (from a n)) ⌝ }
+    ensures { λ r. ⌜ r ≡ among g (map (λ k. getD (was units) (senders-at + k) 0) (from a n)) ⌝ }
 {
     let mut i = 0;
     while i < n {

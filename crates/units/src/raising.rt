@@ -66,7 +66,7 @@ fn place(links: &[usize], list: &mut [u8], n: usize, x: u64, rank: u64)
 
 // x, of that rank, joins a list by rank, behind all whose rank is not above its own, if there is room.
 fn file(links: &[usize], list: &mut [u8], x: u64, rank: u64) -> Filed
-    requires { ⌜ Linked links × (length (now list) ≡ 2056) × (rank ≡ rank-of-gate (net (now links)) (gate-of x)) ⌝ }
+    requires { ⌜ Linked links × (length (now list) ≡ (most-waiting + 1) * 8) × (rank ≡ rank-of-gate (net (now links)) (gate-of x)) ⌝ }
     ensures { λ r. ⌜ Files-by-rank (net-of links) (was list) (is list) r x ⌝ }
 {
     let n = lists::count(list, MOST_WAITING);
