@@ -1,5 +1,5 @@
 -- What contracts say of the areas together: over the circuit of the links, of what the areas held at the call and hold at the return. A function that is lent
--- some of them holds whatever the others do.
+-- some of them leaves the others, whatever they hold.
 use mathlib.Core.Path.{_≡_}
 use Rattle.words.specs.Slices.{Ref, Slice, before, after}
 use Rattle.lists.specs.declared.Filed.{Filed}
@@ -16,14 +16,12 @@ use Rattle.areas.specs.Areas.{Contents, together, areas, with-went}
 abbrev pub Of-areas : Type 1
 Of-areas = Circuit → Contents → Contents → Type 0
 
+-- of all three
 abbrev pub Over-all : Slice → Slice → Slice → Slice → Of-areas → Type 0
 Over-all links vs us ds P = P (net-of links) (areas (net-of links) (before vs) (before us) (before ds)) (areas (net-of links) (after vs) (after us) (after ds))
 
--- the areas at the call
-abbrev pub areas-in : Slice → Slice → Slice → Slice → Contents
-areas-in links vs us ds = areas (net-of links) (before vs) (before us) (before ds)
-
 module _ (links : Slice) where
+  -- what each holds
   abbrev values-before : Slice → Values
   values-before vs = values (net-of links) (before vs)
 
@@ -42,6 +40,7 @@ module _ (links : Slice) where
   abbrev units-after : Slice → Units
   units-after us = units (net-of links) (after us)
 
+  -- of one or two, whatever the others hold
   abbrev pub Over-values : Slice → Of-areas → Type 0
   Over-values vs P = (u : Units) → (d : Delays) → P (net-of links) (together (values-before vs) u d) (together (values-after vs) u d)
 
