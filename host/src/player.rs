@@ -105,6 +105,8 @@ pub fn run(
             told.len(),
         )
     };
+    // The contract of `hazhirun_run` says which numbers there are: 1 to 10 for a
+    // refusal, 0 and 11 to 13 for a run (`numbers`, crates/run/specs/Call.antt).
     match number {
         1..=10 => Answer::Refused(number),
         stop => Answer::Played { stop, ticks: told[0], bytes: told[1] as usize },
