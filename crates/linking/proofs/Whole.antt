@@ -231,7 +231,7 @@ module _ {bytes : List ℕ} (ws : List ℕ) (z : Sizes bytes ws) where
 
   -- ---- all tables, one after the other
 
-  module _ (good : (k : ℕ) → k < K → good-constant (constant-kind k) (constant-content k) ≡ true) (full : length (circuit ws .pins) ≡ I) (l : List ℕ) (long : length l ≡ 4816) where
+  module _ (good : (k : ℕ) → k < K → good-constant (constant-kind k) (constant-content k) ≡ true) (full : length (circuit ws .pins) ≡ I) (l : List ℕ) (long : length l ≡ total) where
     all-tables : all-written ws G K I C l ≡ cells (circuit ws)
     unfolding all-written constants-written lists-written inputs-written gates-written word-cells sum table-sizes tables cells joined both
     all-tables =
@@ -305,7 +305,7 @@ module _ (bytes ws : List ℕ) (q₁ : question-1 bytes ws ≡ true) (q₃ : que
           omega arith
 
   -- what the builder writes is `cells` of the circuit
-  pub built : (l l₁ : List ℕ) (g k i n : ℕ) → question-2 ws ≡ true → length l ≡ 4816 → g ≡ getD ws 0 0 → k ≡ getD ws 1 0 → i ≡ getD ws 2 0 → n ≡ getD ws 3 0 →
+  pub built : (l l₁ : List ℕ) (g k i n : ℕ) → question-2 ws ≡ true → length l ≡ total → g ≡ getD ws 0 0 → k ≡ getD ws 1 0 → i ≡ getD ws 2 0 → n ≡ getD ws 3 0 →
       l₁ ≡ all-written ws g k i n l → l₁ ≡ cells (circuit ws)
   unfolding question-2 yes-all word-at
   built l l₁ g k i n q₂ long eg ek ei en e =

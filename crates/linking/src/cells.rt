@@ -7,6 +7,7 @@ ghost use Rattle.links.specs.Links.{packed};
 ghost use Rattle.links.specs.Lent.{Short};
 ghost use Rattle.linking.specs.Building.{written};
 ghost use Rattle.linking.specs.Lent.{Near};
+use links::layout::DIGIT;
 
 // Word i of the circuit, and 0 past the end.
 pub fn word(circuit: &[u8], i: usize) -> usize
@@ -60,5 +61,5 @@ pub fn pack(a: usize, b: usize, c: usize, d: usize) -> usize
     requires { ⌜ Short d ⌝ }
     ensures { λ r. ⌜ r ≡ packed a b c d ⌝ }
 {
-    a + 65536 * (b + 65536 * (c + 65536 * d))
+    a + DIGIT * (b + DIGIT * (c + DIGIT * d))
 }

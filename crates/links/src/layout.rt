@@ -60,3 +60,12 @@ pub const CELLS: usize = CONSTANT_CONTENTS + MOST_CONSTANTS;
 pub const MINUS_ONE: u64 = 0xFFFF_FFFF_FFFF_FFFF;
 
 pub const NO_SOURCE: usize = MINUS_ONE as usize;
+
+// Four numbers to the base DIGIT stand in a cell; the second, third and fourth begin here.
+pub const DIGIT: usize = 0x1_0000;
+
+pub const SECOND: usize = DIGIT;
+
+pub const THIRD: usize = SECOND * DIGIT;
+
+pub const FOURTH: usize = THIRD * DIGIT;

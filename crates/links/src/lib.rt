@@ -7,7 +7,7 @@ ghost use Rattle.model.specs.Circuit.{kind-of-gate, rank-of-gate, input, output
 ghost use Rattle.model.specs.declared.Value.the-variants.{Nothing};
 ghost use Rattle.model.specs.Kinds.{value, fires};
 ghost use Rattle.kinds.specs.Pins.{in-of, out-of};
-ghost use Rattle.links.specs.Links.{gates-at, inputs-at, rows-at, entries, call-of, cell, first-reader, reader-count, reader-at, first-call, call-count, target, output-read, gates-of-word, most-outputs};
+ghost use Rattle.links.specs.Links.{total, gates-at, inputs-at, rows-at, entries, call-of, cell, first-reader, reader-count, reader-at, first-call, call-count, target, output-read, gates-of-word, most-outputs};
 ghost use Rattle.links.specs.Lent.{Linked, net-of, Short};
 use crate::layout::*;
 use model::Value;
@@ -15,16 +15,6 @@ use value::value_of;
 use words::counting::less;
 
 pub mod layout;
-
-// A digit of a cell is below this.
-const DIGIT: usize = 0x1_0000;
-
-// What one of the second, the third and the fourth digit counts.
-const SECOND: usize = 0x1_0000;
-
-const THIRD: usize = 0x1_0000_0000;
-
-const FOURTH: usize = 0x1_0000_0000_0000;
 
 // What an input reads.
 pub enum Read {
@@ -36,7 +26,7 @@ pub enum Read {
 
 // Cell at + i, which is 0 past the last.
 fn cell(links: &[usize], at: usize, i: usize) -> usize
-    requires { ⌜ Linked links × (at ≤ 4816) ⌝ }
+    requires { ⌜ Linked links × (at ≤ total) ⌝ }
     ensures { λ r. ⌜ r ≡ cell (before links) (at + i) ⌝ }
 {
     if i < CELLS - at {
@@ -58,7 +48,7 @@ fn counted(links: &[usize], n: usize, most: usize) -> usize
 
 // Cell i of the table that begins at `at`, of which cell n says how many are in use, and `missing` past those.
 fn entry(links: &[usize], n: usize, most: usize, at: usize, i: usize, missing: usize) -> usize
-    requires { ⌜ Linked links × (n < 16) × (at + most ≤ 4816) ⌝ }
+    requires { ⌜ Linked links × (n < 16) × (at + most ≤ total) ⌝ }
     ensures { λ r. ⌜ r ≡ getD (entries (before links) n most at) i missing ⌝ }
 {
     if i < most {
