@@ -28,11 +28,11 @@ use Rattle.model.proofs.Chains.{unit-ended, finish-stop}
 
 -- ---- writing a record
 
-write-fits : (w : World) (r : List ℕ) → leb (8 * length r) (w .room) ≡ true → (write w r .world .logged ≡ r) × (write w r .fits ≡ true)
+pub write-fits : (w : World) (r : List ℕ) → leb (8 * length r) (w .room) ≡ true → (write w r .world .logged ≡ r) × (write w r .fits ≡ true)
 unfolding write if_then_else_
 write-fits w r h = (rw h, rw h)
 
-write-over : (w : World) (r : List ℕ) → leb (8 * length r) (w .room) ≡ false → (write w r .world .logged ≡ []) × (write w r .fits ≡ false)
+pub write-over : (w : World) (r : List ℕ) → leb (8 * length r) (w .room) ≡ false → (write w r .world .logged ≡ []) × (write w r .fits ≡ false)
 unfolding write if_then_else_
 write-over w r h = (rw h, rw h)
 
@@ -113,7 +113,7 @@ module _ (c : Circuit) (limit : ℕ) where
 
 -- ---- the whole promise
 
-answer-is : (areas : Areas) (room : ℕ) (cb sb : List ℕ) → refusal (some areas) cb sb ≡ 0 → answer areas room cb sb ≡ played (play room (circuit (words cb)) (words sb))
+pub answer-is : (areas : Areas) (room : ℕ) (cb sb : List ℕ) → refusal (some areas) cb sb ≡ 0 → answer areas room cb sb ≡ played (play room (circuit (words cb)) (words sb))
 unfolding answer answer-to
 answer-is areas room cb sb h = rw h
 

@@ -1,15 +1,15 @@
 -- Every operation on the state keeps it sized; so are the states in which it raises.
 use mathlib.Core.Path.{_≡_, refl, sym, ap, _∙_}
-use mathlib.Core.Bool.{Bool, true, false, not, _&&_, _||_, true≢false}
-use mathlib.Core.List.{List, [], _∷_, _++_, map}
-use mathlib.Core.Option.{Option, none, some}
-use Prim.Native.Nat.{ℕ, zero, suc, _<_}
+use mathlib.Core.Bool.{Bool, true, false, _&&_, _||_, true≢false}
+use mathlib.Core.List.{List, [], _∷_, map}
+use mathlib.Core.Option.{Option, none}
+use Prim.Native.Nat.{ℕ, _<_}
 use native.Mathlib.Nat.{zero-add}
 use native.Mathlib.Omega.{arith}
 use lib.Dec.{leb, ltb, eqb}
 use lib.ListN.{length, set, length-set, length-map, length-replicate, List·getD-map, List·getD-eq-default}
 use borrow.Author.Tests.{ltb-true, ltb-false, eqb-true, ne-eqb}
-use Rattle.schedule.specs.Schedule.{Raise, Place, to-late, to-delivered, list-full}
+use Rattle.schedule.specs.Schedule.{Raise, Place, to-late, to-delivered}
 use Rattle.schedule.specs.Promise.{All, [·], _∷·_}
 use Rattle.model.specs.declared.Value.{Value}
 use Rattle.model.specs.declared.Value.the-variants.{Nothing}
@@ -17,19 +17,20 @@ use Rattle.model.specs.Base.{snoc, among, from}
 use Rattle.model.specs.Kinds.{pure, time-source}
 use Rattle.model.specs.Circuit.{Circuit, most-gates, kind-of-gate, output, gate-at-input, gates, gates-of}
 use Rattle.model.specs.Script.{Given}
-use Rattle.model.specs.State.{Wires, State, Countdown, Delay, Act, Send, to-check≔, times≔, last≔, pulses≔, written≔, unions-passed≔, wires≔, delays≔, outbox≔}
+use Rattle.model.specs.State.{Wires, State, Countdown, Delay, Act, Send, times≔, last≔, pulses≔, written≔, unions-passed≔, wires≔, delays≔, outbox≔}
 use Rattle.model.specs.Wires.{is-dirty, ready, mark-readers, invalidate}
 use Rattle.model.specs.Delays.{Moved}
 use Rattle.model.specs.Exec.{Stepped, fires-next, ends, delay≔, set-output, readied, var, record-write, exec-Buffer, exec-Stopwatch, exec-Queue, exec-VarGet, exec-VarSet, exec-Branch, exec-Union, exec-Toggle, exec-Cycle, exec-SendEvent, exec-kind, exec-gate}
-use Rattle.model.specs.Chain.{Calls, Popped, pop, fit, Chained, chained, push-calls, run-chain, runaway}
+use Rattle.model.specs.Chain.{Calls, run-chain}
 use Rattle.model.specs.Settle.{Settled, calm, raise, publish-writes, pulse, compared, check, check-on, settle}
-use Rattle.model.specs.Opening.{wires-fresh, wires-at-start, start, Opened, raised-to, fire, next-tick, begin-tick, lower, advanced, advance-buffer, advance-clock, advance-timer, open-tick}
+use Rattle.model.specs.Opening.{wires-stale, wires-fresh, wires-at-start, start, Opened, raised-to, fire, next-tick, begin-tick, lower, advanced, advance-buffer, advance-clock, advance-timer, open-tick}
 use Rattle.model.specs.Unit.{World, enter, run-unit}
 use Rattle.model.specs.Record.{read-outputs}
-use Rattle.model.proofs.Lists.{if-both, if-by, each-keeps, each-keeps-all, among-from, from-length, all-append, map-all, all-of}
+use Rattle.model.proofs.Lists.{if-both, if-by, each-keeps, each-keeps-all, among-from, from-length, all-append, map-all, all-of, either-false}
+use Rattle.model.proofs.Walks.{run-chain-keeps, check-on-keeps}
 use Rattle.model.proofs.Checks.{detect-keeps}
 use Rattle.model.proofs.Laid.{Laid}
-use Rattle.model.proofs.Once.{Once, empty, added, either-false, among-map}
+use Rattle.model.proofs.Once.{Once, empty, added, among-map}
 use Rattle.model.proofs.Sized.{Sized-memory, Sized-wires, Sized, show-sized, soil-sized, refresh-all-sized, ready-sized, mark-readers-sized, set-out-sized, set-outs-sized, taken-sized}
 
 map-snoc : {A B : Type 0} (f : A → B) (xs : List A) (x : A) → map f (snoc xs x) ≡ snoc (map f xs) (f x)
@@ -71,7 +72,7 @@ module _ (c : Circuit) where
   unfolding unions-passed≔ written≔ pulses≔ last≔
   written-sized x o z = let m = z .memory in memory-sized z (record { last = m .last; pulses = m .pulses; written = o; passed = m .passed })
 
-  passed-sized : {w : Wires} (x : List Bool) → length x ≡ length (w .unions-passed) → Sized-wires c w → Sized-wires c (unions-passed≔ w x)
+  pub passed-sized : {w : Wires} (x : List Bool) → length x ≡ length (w .unions-passed) → Sized-wires c w → Sized-wires c (unions-passed≔ w x)
   unfolding unions-passed≔ written≔ pulses≔ last≔
   passed-sized x e z = let m = z .memory in memory-sized z (record { last = m .last; pulses = m .pulses; written = m .written; passed = e ∙ m .passed })
 
@@ -113,7 +114,7 @@ module _ (c : Circuit) where
   unfolding exec-Queue ends
   Queue-sized s g k z = delay-sized _ _ (readied-sized _ _ _ z)
 
-  record-write-sized : {w : Wires} (g : ℕ) → eqb (kind-of-gate c g) 0 ≡ false → Sized-wires c w → Sized-wires c (record-write c w (var c g))
+  pub record-write-sized : {w : Wires} (g : ℕ) → eqb (kind-of-gate c g) 0 ≡ false → Sized-wires c w → Sized-wires c (record-write c w (var c g))
   unfolding record-write
   record-write-sized {w} g h z =
       if-by (Sized-wires c) (among (var c g) (w .written) || leb most-gates (length (w .written))) (λ _. z)
@@ -138,7 +139,7 @@ module _ (c : Circuit) where
       λ e. outbox-sized _ (rw map-snoc (added g (z .outbox) (gate-in g h) (either-false (among g gs) _ e .0))) y
 
   -- a kind that a test names is not 0
-  named : (k n : ℕ) → 0 < n → eqb k n ≡ true → eqb k 0 ≡ false
+  pub named : (k n : ℕ) → 0 < n → eqb k n ≡ true → eqb k 0 ≡ false
   named k n l e = ne-eqb k 0 (λ z. omega (arith, eqb-true k n e))
 
   sends : (k : ℕ) → (eqb k 24 || eqb k 25) ≡ true → eqb k 0 ≡ false
@@ -170,38 +171,8 @@ module _ (c : Circuit) where
 
   -- ---- a chain
 
-  abbrev Chained-sized : Chained → Type 0
-  Chained-sized r = Sized c (r .state)
-
-  pub run-chain-sized : (left : ℕ) (q : Calls) (s : State) → Sized c s → Chained-sized (run-chain c left q s)
-  unfolding run-chain chained
-  run-chain-sized zero q s z = go (pop (q .stack) (q .forks))
-    where
-      go : (x : Option Popped) → Chained-sized (elim x as (λ _. Chained) [ none ↦ chained s 0 0 q | some t ↦ chained s 0 runaway q ])
-      go none = z
-      go (some t) = z
-  run-chain-sized (suc left) q s z = go (pop (q .stack) (q .forks)) (λ r t y. run-chain-sized left r t y)
-    where
-      go :
-          (x : Option Popped) → ((r : Calls) (t : State) → Sized c t → Chained-sized (run-chain c left r t)) →
-          Chained-sized (elim x as (λ _. Chained) [
-            | none ↦ chained s (suc left) 0 q
-            | some t ↦
-                let d = exec-gate c s (t .input) in
-                let r = push-calls c (d .next) (t .rest) in
-                elim (fit r && not (d .full)) [ true ↦ run-chain c left r (d .state) | false ↦ chained (d .state) left list-full r ]
-          ])
-      go none rec = z
-      go (some t) rec =
-          let d = exec-gate c s (t .input) in
-          let r = push-calls c (d .next) (t .rest) in
-          fits (fit r && not (d .full)) d r (exec-gate-sized s (t .input) z)
-        where
-          fits :
-              (b : Bool) (d : Stepped) (r : Calls) → Sized c (d .state) →
-              Chained-sized (elim b as (λ _. Chained) [ true ↦ run-chain c left r (d .state) | false ↦ chained (d .state) left list-full r ])
-          fits true d r y = rec r (d .state) y
-          fits false d r y = y
+  pub run-chain-sized : (left : ℕ) (q : Calls) (s : State) → Sized c s → Sized c (run-chain c left q s .state)
+  run-chain-sized = run-chain-keeps c (Sized c) exec-gate-sized
 
   -- ---- settling
 
@@ -238,22 +209,10 @@ module _ (c : Circuit) where
       (λ o k e u l. calm-sized (wires-sized y (pulse-sized _ (y .wires)))) (λ d. calm-sized (delay-sized _ d y)) _ _ _)
 
   check-on-sized : (n : ℕ) (z : Settled) → Settled-sized z → Settled-sized (check-on c n z)
-  unfolding check-on
-  check-on-sized zero z y = y
-  check-on-sized (suc n) z y = go (z .state .wires .to-check) refl (λ r x. check-on-sized n r x)
-    where
-      go :
-          (q : List ℕ) → z .state .wires .to-check ≡ q → ((r : Settled) → Settled-sized r → Settled-sized (check-on c n r)) →
-          Settled-sized (elim q as (λ _. Settled) [
-            | [] ↦ z
-            | (i ∷ is) ↦
-                let r = check c (wires≔ (z .state) (to-check≔ (z .state .wires) is (set (z .state .wires .queued) i false))) i in
-                check-on c n (record { state = r .state; raises = z .raises ++ r .raises })
-          ])
-      go [] e rec = y
-      go (i ∷ is) e rec =
-          let x = check-sized _ i (wires-sized (y .state) (taken-sized c (z .state .wires) i is e (y .state .wires))) in
-          rec _ (record { state = x .state; raises = all-append (y .raises) (x .raises) })
+  check-on-sized =
+      check-on-keeps c Settled-sized λ z i is e y.
+      let x = check-sized _ i (wires-sized (y .state) (taken-sized c (z .state .wires) i is e (y .state .wires))) in
+      record { state = x .state; raises = all-append (y .raises) (x .raises) }
 
   pub settle-sized : (s : State) → Sized c s → Settled-sized (settle c s)
   unfolding settle
@@ -261,10 +220,10 @@ module _ (c : Circuit) where
 
   -- ---- the start
 
-  wires-fresh-sized : Sized-wires c (wires-fresh c)
-  unfolding wires-fresh is-dirty pure kind-of-gate
-  wires-fresh-sized =
-      refresh-all-sized c _ (record {
+  pub stale-sized : Sized-wires c (wires-stale c)
+  unfolding is-dirty pure kind-of-gate
+  stale-sized =
+      record {
         outs =
             each-keeps (λ (vs : List Value). length vs ≡ length (c .outputs)) _ (λ vs g e. length-set vs _ _ ∙ e) _ (gates-of c (λ k. eqb k 5))
             (length-replicate (length (c .outputs)) Nothing);
@@ -279,9 +238,13 @@ module _ (c : Circuit) where
               written = empty;
               passed = length-replicate (length (c .kinds)) false;
             };
-      })
+      }
 
-  wires-at-start-sized : Sized-wires c (wires-at-start c)
+  wires-fresh-sized : Sized-wires c (wires-fresh c)
+  unfolding wires-fresh
+  wires-fresh-sized = refresh-all-sized c (wires-stale c) stale-sized
+
+  pub wires-at-start-sized : Sized-wires c (wires-at-start c)
   unfolding wires-at-start unions-passed≔ written≔ pulses≔ last≔
   wires-at-start-sized =
       let z = wires-fresh-sized in
@@ -312,7 +275,7 @@ module _ (c : Circuit) where
   unfolding raised-to
   raised-to-sized p s acts z = map-all (λ (r : Raise State Act Place). Sized c (r .at)) _ (all-of (λ a. z) acts)
 
-  times-sized : (w : Wires) (t x y : ℕ) → Sized-wires c w → Sized-wires c (times≔ w t x y)
+  pub times-sized : (w : Wires) (t x y : ℕ) → Sized-wires c w → Sized-wires c (times≔ w t x y)
   unfolding times≔ is-dirty
   times-sized w t x y z = record { outs = z .outs; dirty = z .dirty; queued = z .queued; stale = z .stale; waiting = z .waiting; memory = z .memory }
 
@@ -348,7 +311,7 @@ module _ (c : Circuit) where
   advance-timer-sized z g y = advanced-sized z _ _ g _ _ (y .raises) (readied-sized g 3 1 (y .state))
 
   -- a time source is a pure gate
-  time-pure : (k : ℕ) → time-source k ≡ true → pure k ≡ true
+  pub time-pure : (k : ℕ) → time-source k ≡ true → pure k ≡ true
   unfolding pure time-source
   time-pure k h = go (eqb k 3) refl h
     where
@@ -356,7 +319,7 @@ module _ (c : Circuit) where
       go true e h = rw (eqb-true k 3 e)
       go false e h = rw (eqb-true k 4 h)
 
-  invalidate-sized : (w : Wires) (g : ℕ) → time-source (kind-of-gate c g) ≡ true → Sized-wires c w → Sized-wires c (invalidate c w g)
+  pub invalidate-sized : (w : Wires) (g : ℕ) → time-source (kind-of-gate c g) ≡ true → Sized-wires c w → Sized-wires c (invalidate c w g)
   unfolding invalidate
   invalidate-sized w g e z = mark-readers-sized c _ _ (soil-sized c w g (time-pure (kind-of-gate c g) e) z)
 

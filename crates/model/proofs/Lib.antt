@@ -16,6 +16,8 @@ pub mod Placing
 pub mod Sized
 -- what one check does, by kind
 pub mod Checks
+-- what steps and checks keep, chains and settling keep
+pub mod Walks
 -- every operation on the state keeps its sizes
 pub mod Kept
 -- so does every world of a run: `run-sized`
@@ -38,3 +40,37 @@ pub mod InOrder
 pub mod Ends
 -- the records of a run fit its log: `play-fits`, `log-keeps-length`
 pub mod Fits
+-- What a unit sees when it begins. What holds of the wiring of a circuit that is not refused
+pub mod Wired
+-- no NaN comes of what is none
+pub mod Reals
+-- a pure gate that is not stale shows what it gives, an input with a stale source waits: kept by the functions of the wires
+pub mod Right
+-- and with it the rest of what holds of the wires
+pub mod Fine
+-- and of the states
+pub mod Sound
+-- a step and a chain keep them sound
+pub mod Stepping
+-- so do publishing and settling
+pub mod Calming
+-- so do the start and the opening of a tick
+pub mod Starting
+-- in a sound state, what is read is what is worked out afresh
+pub mod Afresh
+-- every unit begins in a sound state
+pub mod Beginning
+-- a circuit that is not refused is wired so, and what a script gives: `wired`, `given-fine`
+pub mod Wiring
+-- the theorems: `begins-fresh`, `each-unit`, `afresh-is`
+pub mod Fresh
+-- Reading for the record. Marking is the same where gates that tell nothing more are stale besides
+pub mod Silent
+-- wires in which no gate is stale
+pub mod Rested
+-- wires that differ only in which pure gates are stale and what these show, in the opening of a tick
+pub mod Twins
+-- states with such wires open a tick alike
+pub mod Openings
+-- the theorems: `reading-unseen`, `unread-fresh`
+pub mod Unread

@@ -1,5 +1,6 @@
 -- Laws of choices and lists that the other proofs cite.
 use mathlib.Core.Path.{_≡_, refl, sym, ap, _∙_}
+use mathlib.Core.Logic.{_≢_, _⊎_, inl, inr}
 use mathlib.Core.Bool.{Bool, true, false, not, _&&_, _||_, true≢false, or-true}
 use mathlib.Core.List.{List, [], _∷_, _++_, map}
 use Prim.Native.Nat.{ℕ, zero, suc, _+_, _-_, _≤_, _<_}
@@ -7,7 +8,7 @@ use native.Mathlib.Nat.{add-zero, add-suc, suc-add}
 use native.Mathlib.Omega.{arith}
 use lib.Dec.{eqb}
 use lib.ListN.{length, getD, set, replicate, length-append}
-use borrow.Author.Tests.{eqb-true, eq-eqb}
+use borrow.Author.Tests.{eqb-true, eqb-false, eq-eqb}
 use Rattle.schedule.specs.Promise.{All, [·], _∷·_}
 use Rattle.model.specs.Base.{if_then_else_, keep, all, each, snoc, among, both, from}
 use Rattle.model.specs.Value.{bit}
@@ -24,13 +25,41 @@ unfolding if_then_else_
 if-by P true p q = p refl
 if-by P false p q = q refl
 
+-- two choices by tests that come out the same
+pub if-alike :
+    {A : Type 0} (P : A → A → Type 0) (a b : Bool) {x y x′ y′ : A} → a ≡ b → (a ≡ true → P x x′) → (a ≡ false → P y y′) →
+    P (if a then x else y) (if b then x′ else y′)
+unfolding if_then_else_
+if-alike P true true e p q = p refl
+if-alike P true false e p q = absurd (true≢false e)
+if-alike P false true e p q = absurd (true≢false (sym e))
+if-alike P false false e p q = q refl
+
 pub both-true : (a b : Bool) → (a && b) ≡ true → (a ≡ true) × (b ≡ true)
 both-true true b e = (refl, e)
 both-true false b e = absurd (true≢false (sym e))
 
+pub either-false : (a b : Bool) → (a || b) ≡ false → (a ≡ false) × (b ≡ false)
+either-false true b e = absurd (true≢false e)
+either-false false b e = (refl, e)
+
+pub either-true : (a b : Bool) → (a || b) ≡ true → (a ≡ true) ⊎ (b ≡ true)
+either-true true b e = inl refl
+either-true false b e = inr e
+
 or-right : (a b : Bool) → b ≡ true → (a || b) ≡ true
 or-right true b e = refl
 or-right false b e = e
+
+-- ---- tests that do not come out so
+
+-- a test that does not come out true comes out false
+pub not-so : (b : Bool) → (b ≡ true → ⊥) → b ≡ false
+not-so true k = absurd (k refl)
+not-so false k = refl
+
+pub clash : {A : Type 0} {b : Bool} → b ≡ true → b ≡ false → A
+clash e f = absurd (true≢false (sym e ∙ f))
 
 -- ---- one after the other
 
@@ -49,6 +78,16 @@ each-keeps-all P q f k b [] h p = p
 each-keeps-all P q f k b (x ∷ xs) h p =
     let t = both-true (q x) (all q xs) h in
     each-keeps-all P q f k (f b x) xs (t .1) (k b x (t .0) p)
+
+-- what relates two, through the same steps of both
+pub each-alike :
+    {A B : Type 0} (R : B → B → Type 0) (q : A → Bool) (f : B → A → B) → ((b d : B) (a : A) → q a ≡ true → R b d → R (f b a) (f d a)) →
+    (b d : B) (xs : List A) → all q xs ≡ true → R b d → R (each f b xs) (each f d xs)
+unfolding each all
+each-alike R q f k b d [] h r = r
+each-alike R q f k b d (x ∷ xs) h r =
+    let t = both-true (q x) (all q xs) h in
+    each-alike R q f k (f b x) (f d x) xs (t .1) (k b d x (t .0) r)
 
 -- two steps that agree wherever P holds, and P is kept
 pub each-same :
@@ -70,6 +109,12 @@ all-keep p (x ∷ xs) = go (p x) refl (all-keep p xs)
     go : (b : Bool) → p x ≡ b → all p (keep p xs) ≡ true → all p (if b then x ∷ keep p xs else keep p xs) ≡ true
     go true e h = rw (e, h)
     go false e h = h
+
+-- every member passes the test that lets all pass
+pub all-pass : {A : Type 0} (xs : List A) → all (λ _. true) xs ≡ true
+unfolding all
+all-pass [] = refl
+all-pass (x ∷ xs) = all-pass xs
 
 -- a test of what is worked out of each member
 pub all-map : {A B : Type 0} (p : B → Bool) (f : A → B) (xs : List A) → all p (map f xs) ≡ all (λ x. p (f x)) xs
@@ -139,15 +184,20 @@ in-range false [] i e = absurd (true≢false (sym e))
 in-range b (x ∷ xs) zero e = omega arith
 in-range b (x ∷ xs) (suc i) e = omega (arith, in-range b xs i e)
 
--- what holds of all marked places, after one more is set
+-- what holds at each place, after one is set
+pub places-set :
+    {A : Type 0} (P : ℕ → A → Type 0) (xs : List A) (i : ℕ) (v d : A) → P i v → ((j : ℕ) → P j (getD xs j d)) → (j : ℕ) → P j (getD (set xs i v) j d)
+places-set P [] i v d r k j = k j
+places-set P (x ∷ xs) zero v d r k zero = r
+places-set P (x ∷ xs) zero v d r k (suc j) = k (suc j)
+places-set P (x ∷ xs) (suc i) v d r k zero = k zero
+places-set P (x ∷ xs) (suc i) v d r k (suc j) = places-set (λ n. P (suc n)) xs i v d r (λ n. k (suc n)) j
+
+-- what holds of all marked places
 pub set-marked :
     (P : ℕ → Type 0) (xs : List Bool) (i : ℕ) (b : Bool) → (b ≡ true → P i) → ((j : ℕ) → getD xs j false ≡ true → P j) →
     (j : ℕ) → getD (set xs i b) j false ≡ true → P j
-set-marked P [] i b q k j e = k j e
-set-marked P (x ∷ xs) zero b q k zero e = q e
-set-marked P (x ∷ xs) zero b q k (suc j) e = k (suc j) e
-set-marked P (x ∷ xs) (suc i) b q k zero e = k zero e
-set-marked P (x ∷ xs) (suc i) b q k (suc j) e = set-marked (λ n. P (suc n)) xs i b q (λ n. k (suc n)) j e
+set-marked P xs i b q k = places-set (λ j x. x ≡ true → P j) xs i b false q k
 
 pub snoc-length : {A : Type 0} (xs : List A) (x : A) → length (snoc xs x) ≡ suc (length xs)
 unfolding snoc
@@ -205,6 +255,23 @@ both-length f [] (y ∷ ys) h = refl
 both-length f (x ∷ xs) [] h = absurd (omega arith)
 both-length f (x ∷ xs) (y ∷ ys) h = ap suc (both-length f xs ys (omega arith))
 
+-- two lists of the same length that have the same at each place
+pub places-same : {A : Type 0} (xs ys : List A) (d : A) → length xs ≡ length ys → ((i : ℕ) → getD xs i d ≡ getD ys i d) → xs ≡ ys
+places-same [] [] d l k = refl
+places-same [] (y ∷ ys) d l k = absurd (omega arith)
+places-same (x ∷ xs) [] d l k = absurd (omega arith)
+places-same (x ∷ xs) (y ∷ ys) d l k = λ j. k 0 j ∷ places-same xs ys d (omega arith) (λ i. k (suc i)) j
+
+-- one place of both set to the same
+pub set-same : {A : Type 0} (xs ys : List A) (i j : ℕ) (x d : A) → length xs ≡ length ys → getD xs j d ≡ getD ys j d → getD (set xs i x) j d ≡ getD (set ys i x) j d
+set-same [] [] i j x d l e = e
+set-same [] (b ∷ ys) i j x d l e = absurd (omega arith)
+set-same (a ∷ xs) [] i j x d l e = absurd (omega arith)
+set-same (a ∷ xs) (b ∷ ys) zero zero x d l e = refl
+set-same (a ∷ xs) (b ∷ ys) zero (suc j) x d l e = e
+set-same (a ∷ xs) (b ∷ ys) (suc i) zero x d l e = e
+set-same (a ∷ xs) (b ∷ ys) (suc i) (suc j) x d l e = set-same xs ys i j x d (omega arith) e
+
 -- ---- what holds of each member
 
 pub all-append : {A : Type 0} {P : A → Type 0} {xs ys : List A} → All P xs → All P ys → All P (xs ++ ys)
@@ -225,3 +292,71 @@ all-of k (x ∷ xs) = _∷·_ (k x) (all-of k xs)
 pub steady : {A : Type 0} (f : ℕ → A) (n : ℕ) → ((m : ℕ) → n ≤ m → f (suc m) ≡ f m) → (k : ℕ) → f (n + k) ≡ f n
 steady f n h zero = ap f (add-zero n)
 steady f n h (suc k) = ap f (add-suc n k) ∙ h (n + k) (omega arith) ∙ steady f n h k
+
+-- ---- members of a list of numbers
+
+pub among-first : (o : ℕ) (os : List ℕ) → among o (o ∷ os) ≡ true
+unfolding among
+among-first o os = rw (eq-eqb o o refl)
+
+pub among-later : (o x : ℕ) (os : List ℕ) → among o os ≡ true → among o (x ∷ os) ≡ true
+unfolding among
+among-later o x os e = rw (e, or-true)
+
+pub among-either : (o x : ℕ) (os : List ℕ) → among o (x ∷ os) ≡ true → (o ≡ x) ⊎ (among o os ≡ true)
+unfolding among
+among-either o x os e = go (eqb o x) refl e
+  where
+    go : (b : Bool) → eqb o x ≡ b → (b || among o os) ≡ true → (o ≡ x) ⊎ (among o os ≡ true)
+    go true q e = inl (eqb-true o x q)
+    go false q e = inr e
+
+pub among-none : (o : ℕ) → among o [] ≡ false
+unfolding among
+among-none o = refl
+
+pub among-neither : (o x : ℕ) (os : List ℕ) → among o (x ∷ os) ≡ false → (o ≢ x) × (among o os ≡ false)
+unfolding among
+among-neither o x os e = let a = either-false (eqb o x) (among o os) e in (eqb-false o x (a .0), a .1)
+
+pub neither-among : (o x : ℕ) (os : List ℕ) → o ≢ x → among o os ≡ false → among o (x ∷ os) ≡ false
+neither-among o x os n e = not-so _ λ q. go (among-either o x os q)
+  where
+    go : (o ≡ x) ⊎ (among o os ≡ true) → ⊥
+    go (inl p) = n p
+    go (inr p) = clash p e
+
+pub from-among : (a n i : ℕ) → among i (from a n) ≡ true → (p : ℕ) × (p < n) × (i ≡ a + p)
+unfolding from
+from-among a zero i e = clash e (among-none i)
+from-among a (suc n) i e = go (among-either i a (from (suc a) n) e) (λ q. from-among (suc a) n i q)
+  where
+    go : (i ≡ a) ⊎ (among i (from (suc a) n) ≡ true) → (among i (from (suc a) n) ≡ true → (p : ℕ) × (p < n) × (i ≡ suc a + p)) → (p : ℕ) × (p < suc n) × (i ≡ a + p)
+    go (inl q) rec = (0, omega arith, omega arith)
+    go (inr q) rec = let r = rec q in (suc (r .0), omega (arith, r .1), omega (arith, r .2))
+
+-- ---- marks
+
+-- one more, whatever stands past the end
+pub mark-kept : (d : Bool) (bs : List Bool) (i j : ℕ) → getD bs j d ≡ true → getD (set bs i true) j d ≡ true
+mark-kept d [] i j e = e
+mark-kept d (b ∷ bs) zero zero e = refl
+mark-kept d (b ∷ bs) zero (suc j) e = e
+mark-kept d (b ∷ bs) (suc i) zero e = e
+mark-kept d (b ∷ bs) (suc i) (suc j) e = mark-kept d bs i j e
+
+pub marked-here : (bs : List Bool) (i : ℕ) → getD (set bs i true) i true ≡ true
+marked-here [] i = refl
+marked-here (b ∷ bs) zero = refl
+marked-here (b ∷ bs) (suc i) = marked-here bs i
+
+pub mark-was : (bs : List Bool) (i j : ℕ) → getD (set bs i true) j false ≡ true → (j ≡ i) ⊎ (getD bs j false ≡ true)
+mark-was [] i j e = inr e
+mark-was (b ∷ bs) zero zero e = inl refl
+mark-was (b ∷ bs) zero (suc j) e = inr e
+mark-was (b ∷ bs) (suc i) zero e = inr e
+mark-was (b ∷ bs) (suc i) (suc j) e = go (mark-was bs i j e)
+  where
+    go : (j ≡ i) ⊎ (getD bs j false ≡ true) → (suc j ≡ suc i) ⊎ (getD bs j false ≡ true)
+    go (inl p) = inl (ap suc p)
+    go (inr p) = inr p

@@ -8,7 +8,7 @@ use lib.Dec.{eqb}
 use lib.ListN.{length}
 use borrow.Author.Tests.{eqb-true, eq-eqb}
 use Rattle.model.specs.Base.{if_then_else_, keep, snoc, among}
-use Rattle.model.proofs.Lists.{snoc-length}
+use Rattle.model.proofs.Lists.{either-false, snoc-length}
 
 -- made by adding one at a time that is among `all` and was not there
 pub data Once (all : List ℕ) : List ℕ → Type 0 where
@@ -16,10 +16,6 @@ pub data Once (all : List ℕ) : List ℕ → Type 0 where
   added : {xs : List ℕ} (x : ℕ) → Once all xs → among x all ≡ true → among x xs ≡ false → Once all (snoc xs x)
 
 -- ---- membership
-
-pub either-false : (a b : Bool) → (a || b) ≡ false → (a ≡ false) × (b ≡ false)
-either-false true b e = absurd (true≢false e)
-either-false false b e = (refl, e)
 
 among-snoc : (x : ℕ) (xs : List ℕ) (y : ℕ) → among x (snoc xs y) ≡ false → (among x xs ≡ false) × (eqb x y ≡ false)
 unfolding among snoc

@@ -1,7 +1,7 @@
 -- Settling never runs out of its rounds: more of them change nothing, and at its end no input waits.
 use mathlib.Core.Path.{_≡_, refl, sym, ap, _∙_}
 use mathlib.Core.Bool.{Bool, true, false, not, _&&_}
-use mathlib.Core.List.{List, [], _∷_, _++_}
+use mathlib.Core.List.{List, [], _∷_}
 use mathlib.Core.Option.{Option}
 use Prim.Native.Nat.{ℕ, zero, suc, _+_, _*_, _≤_, _<_}
 use native.Mathlib.Nat.{zero-add, mul-suc, mul-le-mul-left}
@@ -18,6 +18,7 @@ use Rattle.model.specs.Exec.{delay≔}
 use Rattle.model.specs.Settle.{Settled, calm, raise, pulse, detect, compared, check, check-on, settle}
 use Rattle.model.proofs.Lists.{if-both, if-by, count, count-most, count-set, steady}
 use Rattle.model.proofs.Laid.{Laid}
+use Rattle.model.proofs.Walks.{taken, checked}
 use Rattle.model.proofs.Kept.{last-sized, pulses-sized}
 use Rattle.model.proofs.Checks.{pulses-up, pure-kind, detect-keeps}
 use Rattle.model.proofs.Sized.{taken-sized, Sized-wires, marks, show-sized, recompute-sized, ready-keeps, refresh-all-sized, mark-readers-keeps, mark-readers-sized}
@@ -137,39 +138,30 @@ module _ (c : Circuit) where
 
   -- ---- the rounds
 
-  -- the first that waits is taken
-  taken : Wires → ℕ → List ℕ → Wires
-  taken w i is = to-check≔ w is (set (w .queued) i false)
-
-  taken-within : (n : ℕ) (w : Wires) (i : ℕ) (is : List ℕ) → w .to-check ≡ i ∷ is → Within (suc n) w → Within n (taken w i is)
-  unfolding taken to-check≔ rounds
+  taken-within : (n : ℕ) (w : Wires) (i : ℕ) (is : List ℕ) → w .to-check ≡ i ∷ is → Within (suc n) w → Within n (taken c w i is)
+  unfolding to-check≔ rounds
   taken-within n w i is e z =
       record { sized = taken-sized c w i is e (z .sized); few = omega (arith, z .few, ap length e) }
 
-  checked : Settled → ℕ → List ℕ → Settled
-  checked z i is =
-      let r = check c (wires≔ (z .state) (taken (z .state .wires) i is)) i in
-      record { state = r .state; raises = z .raises ++ r .raises }
-
   none-waits : (n : ℕ) (z : Settled) → z .state .wires .to-check ≡ [] → check-on c n z ≡ z
-  unfolding check-on checked taken
+  unfolding check-on
   none-waits zero z e = refl
   none-waits (suc n) z e = go (z .state .wires .to-check) e
     where
-      go : (q : List ℕ) → q ≡ [] → _≡_ {A = Settled} (elim q [ [] ↦ z | (i ∷ is) ↦ check-on c n (checked z i is) ]) z
+      go : (q : List ℕ) → q ≡ [] → _≡_ {A = Settled} (elim q [ [] ↦ z | (i ∷ is) ↦ check-on c n (checked c z i is) ]) z
       go [] e = refl
       go (i ∷ is) e = cc
 
-  one-waits : (n : ℕ) (z : Settled) (i : ℕ) (is : List ℕ) → z .state .wires .to-check ≡ i ∷ is → check-on c (suc n) z ≡ check-on c n (checked z i is)
-  unfolding check-on checked taken
+  one-waits : (n : ℕ) (z : Settled) (i : ℕ) (is : List ℕ) → z .state .wires .to-check ≡ i ∷ is → check-on c (suc n) z ≡ check-on c n (checked c z i is)
+  unfolding check-on
   one-waits n z i is e = go (z .state .wires .to-check) e
     where
-      go : (q : List ℕ) → q ≡ i ∷ is → _≡_ {A = Settled} (elim q [ [] ↦ z | (j ∷ js) ↦ check-on c n (checked z j js) ]) (check-on c n (checked z i is))
+      go : (q : List ℕ) → q ≡ i ∷ is → _≡_ {A = Settled} (elim q [ [] ↦ z | (j ∷ js) ↦ check-on c n (checked c z j js) ]) (check-on c n (checked c z i is))
       go [] e = cc
       go (j ∷ js) e =
           let a : j ≡ i = cc in
           let b : js ≡ is = cc in
-          λ t. check-on c n (checked z (a t) (b t))
+          λ t. check-on c n (checked c z (a t) (b t))
 
   -- so many rounds end with none waiting, and one more changes nothing
   abbrev Ends : ℕ → Settled → Type 0
@@ -180,8 +172,8 @@ module _ (c : Circuit) where
 
   module _ (laid : Laid c) where
     checked-within :
-        (n : ℕ) (z : Settled) (i : ℕ) (is : List ℕ) → z .state .wires .to-check ≡ i ∷ is → Within (suc n) (z .state .wires) → Within n (checked z i is .state .wires)
-    unfolding checked wires≔
+        (n : ℕ) (z : Settled) (i : ℕ) (is : List ℕ) → z .state .wires .to-check ≡ i ∷ is → Within (suc n) (z .state .wires) → Within n (checked c z i is .state .wires)
+    unfolding wires≔
     checked-within n z i is e y = check-within laid n _ i (taken-within n (z .state .wires) i is e y)
 
     settle-ends : (n : ℕ) (z : Settled) → Within n (z .state .wires) → Ends n z
@@ -196,7 +188,7 @@ module _ (c : Circuit) where
         go : (q : List ℕ) → z .state .wires .to-check ≡ q → ((r : Settled) → Within n (r .state .wires) → Ends n r) → Ends (suc n) z
         go [] e rec = none-ends (suc n) z e
         go (i ∷ is) e rec =
-            let r = rec (checked z i is) (checked-within n z i is e y) in
+            let r = rec (checked c z i is) (checked-within n z i is e y) in
             let a = one-waits n z i is e in
             (one-waits (suc n) z i is e ∙ r .0 ∙ sym a, ap (λ (y : Settled). y .state .wires .to-check) a ∙ r .1)
 

@@ -18,8 +18,8 @@ use Rattle.model.specs.Circuit.{Circuit, most-inputs, kind-of-gate, inpu
 use Rattle.model.specs.State.{Wires, Send, State, outs≔, dirty≔, to-check≔}
 use Rattle.model.specs.Wires.{show, is-dirty, soil, clean, watch, Marking, behind, recompute, refresh-to, refresh, refresh-all, ready, mark-reader, mark-on, mark-readers, set-out, set-outs}
 use Rattle.model.specs.Exec.{var}
-use Rattle.model.proofs.Once.{Once, either-false}
-use Rattle.model.proofs.Lists.{if-both, if-by, each-keeps, bit-most, count, count-set, in-range, set-marked, snoc-length}
+use Rattle.model.proofs.Once.{Once}
+use Rattle.model.proofs.Lists.{if-both, if-by, each-keeps, bit-most, count, count-set, in-range, set-marked, snoc-length, either-false}
 
 -- the marks of a list
 unfoldable pub marks : List Bool → ℕ

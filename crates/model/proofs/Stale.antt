@@ -10,20 +10,20 @@ use mathlib.Core.Bool.{Bool, true, false, _||_, true≢false, or-true}
 use mathlib.Core.List.{List, [], _∷_}
 use mathlib.Core.Option.{Option, none, some}
 use Prim.Native.Nat.{ℕ, zero, suc, _+_, _≤_, _<_}
-use native.Mathlib.Nat.{zero-add, add-zero}
+use native.Mathlib.Nat.{zero-add}
 use native.Mathlib.Omega.{arith}
 use lib.Dec.{eqb}
 use lib.ListN.{length, getD, set}
 use lib.Seq.{getD-set-other, set-comm}
 use borrow.Author.Tests.{eqb-true, eqb-false, eq-eqb}
 use Rattle.model.specs.declared.Value.the-variants.{Nothing}
-use Rattle.model.specs.Base.{if_then_else_, each, among, from}
+use Rattle.model.specs.Base.{if_then_else_, each, among}
 use Rattle.model.specs.Kinds.{kind-at, pure, kinds-opened}
 use Rattle.model.specs.Circuit.{Circuit, kind-of-gate, input, output, inputs-of, source, gate-at-output, gates}
 use Rattle.model.specs.State.{Wires, outs≔, dirty≔}
 use Rattle.model.specs.Wires.{shown, show, is-dirty, clean, look, compute, recompute, behind, refresh-to, refresh, refresh-all}
 use Rattle.model.specs.Questions.{question-6}
-use Rattle.model.proofs.Lists.{among-from, in-range}
+use Rattle.model.proofs.Lists.{among-from, in-range, not-so}
 use Rattle.model.proofs.Laid.{Laid}
 use Rattle.model.proofs.Checks.{pure-kind}
 use Rattle.model.proofs.Sized.{Sized-wires, recompute-sized, refresh-all-sized}
@@ -31,14 +31,10 @@ use Rattle.model.proofs.Placing.{Heights, heights}
 
 -- ---- choices and lists
 
-if-same : {A : Type 0} (b : Bool) {x y x′ y′ : A} → (b ≡ true → x ≡ x′) → (b ≡ false → y ≡ y′) → (if b then x else y) ≡ (if b then x′ else y′)
+pub if-same : {A : Type 0} (b : Bool) {x y x′ y′ : A} → (b ≡ true → x ≡ x′) → (b ≡ false → y ≡ y′) → (if b then x else y) ≡ (if b then x′ else y′)
 unfolding if_then_else_
 if-same true p q = p refl
 if-same false p q = q refl
-
-not-marked : (b : Bool) → b ≢ true → b ≡ false
-not-marked true k = absurd (k refl)
-not-marked false k = refl
 
 -- what is marked when a mark is taken away
 marked-still : (bs : List Bool) (i j : ℕ) → getD (set bs i false) j false ≡ true → (j ≢ i) × (getD bs j false ≡ true)
@@ -55,17 +51,17 @@ Fresh w g = is-dirty w g ≢ true
 
 module _ (c : Circuit) where
   -- a stale gate none of whose sources is stale
-  record Due (w : Wires) (g : ℕ) : Type 0 where
-    is-pure : pure (kind-of-gate c g) ≡ true
-    stale : is-dirty w g ≡ true
-    sources : (i o : ℕ) → among i (inputs-of c g) ≡ true → source c i ≡ some o → Fresh w (gate-at-output c o)
+  pub record Due (w : Wires) (g : ℕ) : Type 0 where
+    pub is-pure : pure (kind-of-gate c g) ≡ true
+    pub stale : is-dirty w g ≡ true
+    pub sources : (i o : ℕ) → among i (inputs-of c g) ≡ true → source c i ≡ some o → Fresh w (gate-at-output c o)
 
   -- recomputed, it is no longer stale, and no other gate becomes so
-  stale-still : (w : Wires) (g h : ℕ) → is-dirty (recompute c w g) h ≡ true → (h ≢ g) × (is-dirty w h ≡ true)
+  pub stale-still : (w : Wires) (g h : ℕ) → is-dirty (recompute c w g) h ≡ true → (h ≢ g) × (is-dirty w h ≡ true)
   unfolding recompute show clean outs≔ dirty≔ is-dirty
   stale-still w g h e = marked-still (w .dirty) g h e
 
-  other-stale : (w : Wires) (g h : ℕ) → h ≢ g → is-dirty w h ≡ true → is-dirty (recompute c w g) h ≡ true
+  pub other-stale : (w : Wires) (g h : ℕ) → h ≢ g → is-dirty w h ≡ true → is-dirty (recompute c w g) h ≡ true
   unfolding recompute show clean outs≔ dirty≔ is-dirty
   other-stale w g h n e = getD-set-other (w .dirty) g h false false n ∙ e
 
@@ -79,14 +75,14 @@ module _ (c : Circuit) where
 
   -- ---- two steps change places
 
-  input-among : (g p : ℕ) → p < length (kind-at (kind-of-gate c g) .ins) → among (input c g p) (inputs-of c g) ≡ true
+  pub input-among : (g p : ℕ) → p < length (kind-at (kind-of-gate c g) .ins) → among (input c g p) (inputs-of c g) ≡ true
   unfolding input inputs-of
   input-among g p l =
       let e : getD (c .first-input) g 0 + p ≡ getD (c .first-input) g 0 + 0 + p = omega arith in
       rw e (among-from (getD (c .first-input) g 0 + 0) (length (kind-at (kind-of-gate c g) .ins)) p l)
 
   -- what a gate gives depends on what stands at its inputs, and on the times
-  compute-same :
+  pub compute-same :
       (v w : Wires) (g : ℕ) → v .dt ≡ w .dt → v .uptime ≡ w .uptime → ((i : ℕ) → among i (inputs-of c g) ≡ true → look c v i ≡ look c w i) →
       compute c v g ≡ compute c w g
   unfolding compute kinds-opened
@@ -98,7 +94,7 @@ module _ (c : Circuit) where
       at k e p l = same (input c g p) (input-among g p (rw (eqb-true (kind-of-gate c g) k e) l))
 
   module _ (laid : Laid c) where
-    output-own : (g o : ℕ) → pure (kind-of-gate c g) ≡ true → o ≡ output c g 0 → gate-at-output c o ≡ g
+    pub output-own : (g o : ℕ) → pure (kind-of-gate c g) ≡ true → o ≡ output c g 0 → gate-at-output c o ≡ g
     output-own g o p e = ap (gate-at-output c) e ∙ laid .output-of g 0 (pure-kind (kind-of-gate c g) p .0)
 
     other-compute : (w : Wires) (g h : ℕ) → Due w g → Due w h → compute c (recompute c w g) h ≡ compute c w h
@@ -122,10 +118,14 @@ module _ (c : Circuit) where
         let dirty = set-comm (w .dirty) g h false false n in
         λ j. dirty≔ (outs≔ w (outs j)) (dirty j)
 
+  pub stale-among : (w : Wires) → Sized-wires c w → (g : ℕ) → is-dirty w g ≡ true → among g (gates c) ≡ true
+  unfolding is-dirty gates
+  stale-among w z g e = rw zero-add at (among-from 0 (length (c .kinds)) g (omega (arith, in-range false (w .dirty) g e, z .dirty)))
+
   module _ (order : Heights c) where
     -- ---- a row of steps, at gates lower than m
 
-    data Refreshed (m : ℕ) : Wires → Wires → Type 0 where
+    pub data Refreshed (m : ℕ) : Wires → Wires → Type 0 where
       done : {w : Wires} → Refreshed m w w
       next : {w v : Wires} (g : ℕ) → order .height g < m → Due w g → Refreshed m (recompute c w g) v → Refreshed m w v
 
@@ -137,7 +137,7 @@ module _ (c : Circuit) where
     refreshed-sized done z = z
     refreshed-sized (next {w = w} g b d r) z = refreshed-sized r (recompute-sized c w g z)
 
-    was-stale : {m : ℕ} {w v : Wires} → Refreshed m w v → (g : ℕ) → is-dirty v g ≡ true → is-dirty w g ≡ true
+    pub was-stale : {m : ℕ} {w v : Wires} → Refreshed m w v → (g : ℕ) → is-dirty v g ≡ true → is-dirty w g ≡ true
     was-stale done g e = e
     was-stale (next {w = w} h b d r) g e = stale-still w h g (was-stale r g e) .1
 
@@ -200,7 +200,7 @@ module _ (c : Circuit) where
             let r = k o e in
             rw (e, behind) (r .0, λ p q. let t : o ≡ p = cc in subst (λ (j : ℕ). Fresh (f w (gate-at-output c o)) (gate-at-output c j)) t (r .1))
 
-    refresh-to-refreshed :
+    pub refresh-to-refreshed :
         (n : ℕ) (w : Wires) (g : ℕ) → Sized-wires c w → order .height g ≤ n →
         Refreshed (suc (order .height g)) w (refresh-to c n w g) × Fresh (refresh-to c n w g) g
     unfolding refresh-to
@@ -241,27 +241,34 @@ module _ (c : Circuit) where
             let r = refresh-to-refreshed (length (c .kinds)) v g y (order .most g) in
             (and-on (omega (arith, order .most g)) (r .0) done, r .1)
 
+    -- refreshing all is a row of steps, after which no gate is stale
+    pub all-refreshed : (w : Wires) → Sized-wires c w → Refreshed (suc (length (c .kinds))) w (refresh-all c w)
+    unfolding refresh-all
+    all-refreshed w z = along w z (gates c) (stale-among w z) .0
+
+    pub all-clean : (w : Wires) → Sized-wires c w → (g : ℕ) → is-dirty (refresh-all c w) g ≡ false
+    unfolding refresh-all
+    all-clean w z g = not-so _ (along w z (gates c) (stale-among w z) .1 g)
+
+    -- any list that has all stale gates does as well
+    pub any-order :
+        Laid c → (w : Wires) → Sized-wires c w → (l : List ℕ) → ((g : ℕ) → is-dirty w g ≡ true → among g l ≡ true) → each (refresh c) w l ≡ refresh-all c w
+    unfolding refresh-all
+    any-order laid w z l k =
+        let a = along w z l k in
+        let b = along w z (gates c) (stale-among w z) in
+        one-end laid (a .0) (b .0) (a .1) (b .1)
+
   -- ---- of a circuit that question 6 does not refuse
 
-  stale-among : (w : Wires) → Sized-wires c w → (g : ℕ) → is-dirty w g ≡ true → among g (gates c) ≡ true
-  unfolding is-dirty gates
-  stale-among w z g e = rw zero-add at (among-from 0 (length (c .kinds)) g (omega (arith, in-range false (w .dirty) g e, z .dirty)))
-
-  -- after refreshing all, no gate is stale
   pub none-dirty : question-6 c ≡ true → (w : Wires) → Sized-wires c w → (g : ℕ) → is-dirty (refresh-all c w) g ≡ false
-  unfolding refresh-all
-  none-dirty q w z g = not-marked _ (along (heights c q) w z (gates c) (stale-among w z) .1 g)
+  none-dirty q = all-clean (heights c q)
 
 -- any list that has all stale gates
 pub stale-is-dirty :
     (c : Circuit) → Laid c → question-6 c ≡ true → (w : Wires) → Sized-wires c w → (l : List ℕ) → ((g : ℕ) → is-dirty w g ≡ true → among g l ≡ true) →
     each (refresh c) w l ≡ refresh-all c w
-unfolding refresh-all
-stale-is-dirty c laid q w z l k =
-    let order = heights c q in
-    let a = along c order w z l k in
-    let b = along c order w z (gates c) (stale-among c w z) in
-    one-end c order laid (a .0) (b .0) (a .1) (b .1)
+stale-is-dirty c laid q = any-order c (heights c q) laid
 
 -- so refreshing all again changes nothing
 pub refresh-all-again :

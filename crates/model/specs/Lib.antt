@@ -17,3 +17,6 @@ pub mod Questions
 pub mod Answer
 pub mod Table
 pub mod Order
+pub mod Fresh
+pub mod Unread
+pub mod Seen

@@ -11,7 +11,7 @@ use Rattle.model.specs.declared.Value.the-variants.{Nothing, Int, Float,
 use Rattle.model.specs.Base.{if_then_else_, each, keep, joined, from}
 use Rattle.model.specs.Value.{truthy, as-float, same, narrow, plus64, one-point-zero}
 use Rattle.model.specs.Kinds.{pure}
-use Rattle.model.specs.Circuit.{Circuit, kind-of-gate, output, setting, watching, gates, gates-of}
+use Rattle.model.specs.Circuit.{Circuit, kind-of-gate, output, setting, watching, gates-of}
 use Rattle.model.specs.Script.{Given}
 use Rattle.model.specs.State.{Wires, idle, Act, Send, State, times≔, last≔, pulses≔, unions-passed≔, wires≔, outbox≔}
 use Rattle.model.specs.Wires.{look, invalidate, refresh-all, set-out, set-outs}
@@ -21,10 +21,10 @@ use Rattle.model.specs.Settle.{settle}
 
 -- ---- the start
 
--- tick length and uptime 0.0, each Var its initial, other outputs nothing, then pure gates fresh; nothing waiting
-unfoldable pub wires-fresh : Circuit → Wires
-wires-fresh c =
-    refresh-all c (record {
+-- tick length and uptime 0.0, each Var its initial, other outputs nothing, every pure gate stale; nothing waiting
+abbrev pub wires-stale : Circuit → Wires
+wires-stale c =
+    record {
       tick = 0;
       dt = 0;
       uptime = 0;
@@ -36,7 +36,11 @@ wires-fresh c =
       pulses = replicate (length (c .outputs)) 0;
       written = [];
       unions-passed = replicate (length (c .kinds)) false;
-    })
+    }
+
+-- then pure gates fresh
+unfoldable pub wires-fresh : Circuit → Wires
+wires-fresh c = refresh-all c (wires-stale c)
 
 -- `last` is the value that each watched input reads
 unfoldable pub wires-at-start : Circuit → Wires

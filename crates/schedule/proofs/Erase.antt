@@ -5,8 +5,9 @@ use mathlib.Core.Bool.{Bool, true, false, cond}
 use Prim.Native.Nat.{ℕ, zero, suc}
 use lib.ListN.{length, length-map}
 use lib.Dec.{leb, ltb, eqb}
-use Rattle.schedule.specs.Schedule.{Setup, plain, Machine, Raise, Outcome, most-units, most-waiting, most-delivered, list-full, log-full, Took, empty, took, Filed, full, filed, room, LateQ, MainQ, OpenQ, Place, to-late, to-delivered, to-pending, Activation, rank-of, push, push-all, carries, activate-late, activate-main, activate-open, Raising, raising, raise-on, raise-all, Turn, Passed, turning, no-turn, pass-on, pass, next-late, next-late′, late-pass, next-main, next-main′, main-pass, Tick, acts, outcome, tick, go-on, run-on, run}
+use Rattle.schedule.specs.Schedule.{Setup, plain, Machine, Raise, Outcome, most-units, most-waiting, most-delivered, list-full, Took, empty, took, Filed, full, filed, room, LateQ, MainQ, OpenQ, Place, to-late, to-delivered, to-pending, Activation, rank-of, push, push-all, carries, activate-late, activate-main, activate-open, Raising, raising, raise-on, raise-all, Turn, Passed, turning, no-turn, pass-on, pass, next-late, next-late′, late-pass, next-main, next-main′, main-pass, Tick, acts, outcome, tick, go-on, run-on, run}
 use Rattle.schedule.specs.Erasure.{bare, bare-turn, bare-tick}
+use Rattle.schedule.proofs.Steps.{tick-of}
 
 -- What is worked out of each element of two lists in a row.
 pub map-append : {A B : Type 0} (f : A → B) (k l : List A) → map f (k ++ l) ≡ map f k ++ map f l
@@ -226,20 +227,7 @@ module _ (S : Setup) where
   outcome₀ l m = outcome S₀ (l .turns) (m .turns) (m .queue .carried) (m .stop)
 
   abbrev end₀ : List E₀ → Raising S₀ (OpenQ E₀) → Passed S₀ (LateQ E₀) → Passed S₀ (MainQ E₀) → Outcome Act → Tick S₀
-  end₀ c o l m r =
-      let z = closing (m .world) r in
-      record {
-        came = c;
-        first = tt;
-        opened = o .raised;
-        late = l .turns;
-        main = m .turns;
-        waiting = m .queue .pending;
-        carried = m .queue .carried;
-        next = m .next;
-        world = z .world;
-        stop = cond (z .fits) (m .stop) log-full;
-      }
+  end₀ c o l m r = tick-of S₀ c tt o l m r
 
   -- a tick from its parts, each of which is another
   end-is :

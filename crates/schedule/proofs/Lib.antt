@@ -22,6 +22,10 @@ pub mod Erase
 pub mod Every
 -- what is kept in every world of a run: `run-keeps`
 pub mod Keeps
+-- what holds wherever a unit begins: `run-begins`
+pub mod Begins
+-- ticks that open alike: `tick-alike`
+pub mod Alike
 -- the limits: `limited`
 pub mod Limits
 -- equations for proofs of code

@@ -1,17 +1,19 @@
 -- The theorems of the scheduler. What they say is defined in specs/: the runs in Schedule, `Order` and `Follows` in Promise, `bare-tick` in Erasure, `Few-units` in Limits,
--- `Tick-keeps` in Keeping.
+-- `Tick-keeps`, `Tick-begins` and `Ticks-alike` in Keeping.
 use mathlib.Core.Path.{_≡_}
 use mathlib.Core.List.{List, map}
-use Rattle.schedule.specs.Schedule.{Machine, Outcome, Setup, numbered, plain, Tick, run}
+use Rattle.schedule.specs.Schedule.{Machine, Outcome, Setup, numbered, plain, Activation, Tick, tick, run}
 use Rattle.schedule.specs.Promise.{All, Order, Follows, Ran-as-told}
 use Rattle.schedule.specs.Erasure.{bare-tick}
 use Rattle.schedule.specs.Limits.{Few-units}
-use Rattle.schedule.specs.Keeping.{Did-keep, Tick-keeps}
+use Rattle.schedule.specs.Keeping.{Did-keep, Tick-keeps, Did-bring, Tick-begins, Did-alike, Ticks-alike}
 use Rattle.schedule.proofs.Whole.{order as run-order}
 use Rattle.schedule.proofs.Erase.{erasure as run-erasure}
 use Rattle.schedule.proofs.Every.{ran-as-told as run-told}
 use Rattle.schedule.proofs.Told.{follows as run-follows}
 use Rattle.schedule.proofs.Keeps.{run-keeps as kept-in-run}
+use Rattle.schedule.proofs.Begins.{run-begins as begun-in-run}
+use Rattle.schedule.proofs.Alike.{tick-alike as opened-alike}
 use Rattle.schedule.proofs.Limits.{limited as run-limited}
 
 -- The order promise holds of every run of every machine.
@@ -43,3 +45,18 @@ pub run-keeps :
     ((w : S .machine .W) (o : Outcome (S .machine .Act)) → P w → P (S .machine .closing w o .world)) →
     (is : List (S .machine .In)) (w : S .machine .W) → P w → All (Tick-keeps S P) (run S is w)
 run-keeps = kept-in-run
+
+-- What is kept only as long as there is no stop holds wherever a unit begins, and what holds of all that is raised holds of each unit begun.
+pub run-begins :
+    (S : Setup) (P : S .machine .W → Type 0) (Q : S .machine .Act → Type 0) (R : S .machine .In → Type 0) →
+    ((w : S .machine .W) (i : S .machine .In) → R i → P w → Did-bring P Q (S .machine .opening w i)) →
+    ((w : S .machine .W) (a : S .machine .Act) → Q a → P w → Did-bring P Q (S .machine .body w a)) →
+    ((w : S .machine .W) (o : Outcome (S .machine .Act)) → P w → P (S .machine .closing w o .world)) →
+    (is : List (S .machine .In)) (w : S .machine .W) → All R is → P w → All (Tick-begins S P Q) (run S is w)
+run-begins = begun-in-run
+
+-- Two ticks whose openings do the same, but for the worlds in which they raise, are the same, or both end as a tick does that a full list stops in its opening.
+pub tick-alike :
+    (S : Setup) (R : S .machine .W → S .machine .W → Type 0) (w v : S .machine .W) (i : S .machine .In) (came : List (Activation S)) (t : S .Tag) →
+    Did-alike R (S .machine .opening w i) (S .machine .opening v i) → Ticks-alike S R (tick S w i came t) (tick S v i came t)
+tick-alike = opened-alike

@@ -5,12 +5,12 @@ use mathlib.Core.Bool.{Bool}
 use Prim.Native.Nat.{ℕ, zero, suc}
 use native.Mathlib.Omega.{arith}
 use lib.Dec.{eqb}
-use Rattle.schedule.specs.Schedule.{list-full, most-units, Setup, Machine, Took, empty, took, Filed, MainQ, OpenQ, Activation, push-all, activate-open, activate-late, activate-main, next-late, next-main, raise-all, pass-on, pass, no-turn, turning, Turn, Passed, late-pass, main-pass, Tick, outcome, tick, go-on, run-on, run}
+use Rattle.schedule.specs.Schedule.{list-full, most-units, Setup, Machine, Took, empty, took, Filed, LateQ, MainQ, OpenQ, Activation, push-all, activate-open, activate-late, activate-main, next-late, next-main, Raising, raise-all, pass-on, pass, no-turn, turning, Turn, Passed, late-pass, main-pass, Tick, outcome, tick, go-on, run-on, run}
 use Rattle.schedule.specs.Promise.{All, [·], _∷·_, Raised-as-told, Follow, left-by, Opens, Follows, script-over, stopped, next}
 use Rattle.schedule.proofs.Steps.{Passes, broke, done, turn, raise-steps, pass-steps}
 use Rattle.schedule.proofs.Ticks.{fitted, Ticked, passes-from}
 
-all-append : {A : Type 0} {P : A → Type 0} {xs ys : List A} → All P xs → All P ys → All P (xs ++ ys)
+pub all-append : {A : Type 0} {P : A → Type 0} {xs ys : List A} → All P xs → All P ys → All P (xs ++ ys)
 all-append [·] b = b
 all-append (_∷·_ p a) b = _∷·_ p (all-append a b)
 
@@ -79,14 +79,30 @@ module _ (S : Setup) where
   left-append v [] vs = refl
   left-append v (u ∷ us) vs = left-append (body v (u .unit .act) .world) us vs
 
-  closed-in :
-      (v : W) (late main : List (Turn S)) (carried : List (Activation S)) (w : W) (s : ℕ) → s ≡ 0 → w ≡ left-by S (left-by S v late) main →
-      closing w (outcome S late main carried s) .world ≡ closing (left-by S v (late ++ main)) (outcome S late main carried 0) .world
-  closed-in v late main carried w s z e =
-      ap (λ (s : ℕ). closing w (outcome S late main carried s) .world) z
-      ∙ ap (λ (w : W). closing w (outcome S late main carried 0) .world) (e ∙ sym (left-append v late main))
+  -- so of both passes of a tick
+  pub record Passes-follow (v : W) (l : Passed S (LateQ (Activation S))) (m : Passed S (MainQ (Activation S))) : Type 0 where
+    pub units : Follow S v (l .turns ++ m .turns)
+    pub world : m .stop ≡ 0 → m .world ≡ left-by S v (l .turns ++ m .turns)
 
-  tick-opens : (w : W) (i : In) (came : List (Activation S)) (t : Tag) → Opens S w i (tick S w i came t)
+  -- the passes after an opening that left the world v, unless there was a stop in it
+  pub passes-follow :
+      (o : Raising S (OpenQ (Activation S))) (v : W) → (o .stop ≡ 0 → o .world ≡ v) →
+      let l = late-pass S most-units (o .next) (o .queue .lateq) (o .world) (o .stop) in
+      let m = main-pass S (l .left) (l .next) (record { pending = o .queue .pending; carried = [] }) (l .world) (l .stop) in
+      Passes-follow v l m
+  unfolding late-pass main-pass
+  passes-follow o v h =
+      let l = pass S (next-late S) (activate-late S) most-units (o .next) (o .queue .lateq) (o .world) (o .stop) in
+      let a = pass-follows (next-late S) (activate-late S) most-units (o .next) (o .queue .lateq) (o .world) (o .stop) v h in
+      let q : MainQ (Activation S) = record { pending = o .queue .pending; carried = [] } in
+      let m = pass S (next-main S) (activate-main S) (l .left) (l .next) q (l .world) (l .stop) in
+      let b = pass-follows (next-main S) (activate-main S) (l .left) (l .next) q (l .world) (l .stop) (left-by S v (l .turns)) (a .world) in
+      record {
+        units = follow-append v (l .turns) (m .turns) (a .units) (b .units);
+        world = λ z. b .world z ∙ sym (left-append v (l .turns) (m .turns));
+      }
+
+  pub tick-opens : (w : W) (i : In) (came : List (Activation S)) (t : Tag) → Opens S w i (tick S w i came t)
   unfolding tick late-pass main-pass
   tick-opens w i came t =
       let d = opening w i in
@@ -94,22 +110,20 @@ module _ (S : Setup) where
       let o = raise-all S (activate-open S) (d .raises) t q₀ (d .world) (d .stop) in
       let a = raise-steps S (activate-open S) (d .raises) t q₀ (d .world) (d .stop) in
       let l = pass S (next-late S) (activate-late S) most-units (o .next) (o .queue .lateq) (o .world) (o .stop) in
-      let b = pass-follows (next-late S) (activate-late S) most-units (o .next) (o .queue .lateq) (o .world) (o .stop) (d .world) (a .world) in
       let q : MainQ (Activation S) = record { pending = o .queue .pending; carried = [] } in
       let m = pass S (next-main S) (activate-main S) (l .left) (l .next) q (l .world) (l .stop) in
-      let v = left-by S (d .world) (l .turns) in
-      let e = pass-follows (next-main S) (activate-main S) (l .left) (l .next) q (l .world) (l .stop) v (b .world) in
+      let b = passes-follow o (d .world) (a .world) in
       let late = pass-steps S (next-late S) (activate-late S) most-units (o .next) (o .queue .lateq) (o .world) (o .stop) in
       let main = pass-steps S (next-main S) (activate-main S) (l .left) (l .next) q (l .world) (l .stop) in
       let f : Bool = closing (m .world) (outcome S (l .turns) (m .turns) (m .queue .carried) (m .stop)) .fits in
       let from : m .stop ≡ 0 → o .stop ≡ 0 = λ h. passes-from S (next-late S) (activate-late S) (late .steps) (passes-from S (next-main S) (activate-main S) (main .steps) h) in
       record {
         opened = (a .told .0, a .told .1, λ h. a .told .2 (from (fitted f (m .stop) h)));
-        units = follow-append (d .world) (l .turns) (m .turns) (b .units) (e .units);
+        units = b .units;
         leaves =
             λ h.
             let z : m .stop ≡ 0 = fitted f (m .stop) h in
-            closed-in (d .world) (l .turns) (m .turns) (m .queue .carried) (m .world) (m .stop) z (e .world z);
+            λ j. closing (b .world z j) (outcome S (l .turns) (m .turns) (m .queue .carried) (z j)) .world;
       }
 
   -- ---- the ticks of a run

@@ -1,0 +1,200 @@
+-- A step of a chain, and a chain with its forks, keep a state sound; a VarSet adds to what is not published.
+use mathlib.Core.Path.{_≡_, refl, sym, ap, subst, _∙_}
+use mathlib.Core.Bool.{Bool, true, false, _||_, true≢false, or-true}
+use mathlib.Core.List.{List, [], _∷_}
+use Prim.Native.Nat.{ℕ}
+use native.Mathlib.Omega.{arith}
+use lib.Dec.{eqb}
+use lib.ListN.{set, length-set}
+use borrow.Author.Tests.{eqb-true}
+use Rattle.schedule.specs.Promise.{[·], _∷·_}
+use Rattle.model.specs.declared.Value.{Value}
+use Rattle.model.specs.Base.{if_then_else_, snoc, among}
+use Rattle.model.specs.Kinds.{kinds-opened}
+use Rattle.model.specs.Circuit.{Circuit, kind-of-gate}
+use Rattle.model.specs.State.{Wires, Countdown, State, outs≔, written≔, unions-passed≔}
+use Rattle.model.specs.Wires.{shown, show}
+use Rattle.model.specs.Exec.{Stepped, fires-next, ends, var, record-write, exec-Buffer, exec-Stopwatch, exec-Queue, exec-VarGet, exec-VarSet, exec-Branch, exec-Union, exec-Toggle, exec-Cycle, exec-SendEvent, exec-kind, exec-gate}
+use Rattle.model.specs.Chain.{Calls, run-chain}
+use Rattle.model.proofs.Lists.{if-both, if-by, all-append, among-first}
+use Rattle.model.proofs.Sized.{Sized-wires, show-sized}
+use Rattle.model.proofs.Walks.{run-chain-keeps}
+use Rattle.model.proofs.Kept.{passed-sized, record-write-sized, named}
+use Rattle.model.proofs.Roomy.{few-roomy}
+use Rattle.model.proofs.Reals.{Real, truth-real, int-real, zero-real}
+use Rattle.model.proofs.Wired.{Wired}
+use Rattle.model.proofs.Right.{Except, Other, alike, excused, show-late}
+use Rattle.model.proofs.Fine.{Fine, set-real}
+use Rattle.model.proofs.Sound.{fires-fine, pressed-fine, queue-fine, Sound, other-output, wires-sound, delay-sound, outbox-sound, delay-of, set-output-sound, readied-sound, read-is-real, read-row-fine}
+
+among-snoc : (x : ℕ) (xs : List ℕ) (y : ℕ) → among x xs ≡ true → among x (snoc xs y) ≡ true
+unfolding among snoc
+among-snoc x (z ∷ xs) y e = go (eqb x z) e (λ h. among-snoc x xs y h)
+  where
+    go : (b : Bool) → (b || among x xs) ≡ true → (among x xs ≡ true → among x (snoc xs y) ≡ true) → (b || among x (snoc xs y)) ≡ true
+    go true e rec = refl
+    go false e rec = rec e
+among-snoc x [] y e = absurd (true≢false (sym e))
+
+among-last : (xs : List ℕ) (y : ℕ) → among y (snoc xs y) ≡ true
+unfolding among snoc
+among-last [] y = among-first y []
+among-last (x ∷ xs) y = rw (among-last xs y, or-true)
+
+module _ (c : Circuit) (W : Wired c) where
+  -- sound, with some Vars not published
+  pub record Going (t : Except) (s : State) : Type 0 where
+    pub late : List ℕ
+    pub sound : Sound c t late s
+
+  -- ---- a Var written
+
+  show-fine : (t : Except) (late : List ℕ) (w : Wires) (o : ℕ) (v : Value) → among o late ≡ true → Other c o → Real v → Fine c t late w → Fine c t late (show w o v)
+  unfolding show outs≔ shown
+  show-fine t late w o v a u r f =
+      record {
+        sized = show-sized c w o v (f .sized);
+        written = f .written;
+        pulses = f .pulses;
+        real = set-real (w .outs) o v r (f .real);
+        length-finite = f .length-finite;
+        uptime-real = f .uptime-real;
+        right = show-late c W t late w o v a u (f .right);
+      }
+
+  module _ (t : Except) where
+    -- of a gate g of kind 19, the wires after its write
+    write-fine :
+        (late : List ℕ) (w : Wires) (g : ℕ) (v : Value) → eqb (kind-of-gate c g) 19 ≡ true → Real v → Fine c t late w →
+        (more : List ℕ) × Fine c t more (record-write c (show w (var c g) v) (var c g))
+    unfolding show outs≔ written≔ shown if_then_else_
+    write-fine late w g v e r f = go (among o (w .written)) refl
+      where
+        o : ℕ
+        o = var c g
+
+        h : eqb (kind-of-gate c g) 0 ≡ false
+        h = named c (kind-of-gate c g) 19 (omega arith) e
+
+        u : Other c (var c g)
+        u = W .var-other g e
+
+        z : Sized-wires c (show w (var c g) v)
+        z = show-sized c w (var c g) v (f .sized)
+
+        is : record-write c (show w (var c g) v) (var c g) ≡ (if among (var c g) (w .written) then show w (var c g) v else written≔ (show w (var c g) v) (snoc (w .written) (var c g)))
+        is = few-roomy c (W .few) .writing (show w (var c g) v) g h z
+
+        go : (b : Bool) → among (var c g) (w .written) ≡ b → (more : List ℕ) × Fine c t more (record-write c (show w (var c g) v) (var c g))
+        go true q =
+            let a : record-write c (show w (var c g) v) (var c g) ≡ show w (var c g) v = is ∙ rw q in
+            (late, subst (Fine c t late) (sym a) (show-fine t late w (var c g) v (subst (λ l. among (var c g) l ≡ true) (f .written) q) u r f))
+        go false q =
+            let v₁ = written≔ (show w (var c g) v) (snoc (w .written) (var c g)) in
+            let more = snoc late (var c g) in
+            let a : record-write c (show w (var c g) v) (var c g) ≡ v₁ = is ∙ rw q in
+            let x = show-late c W t more w (var c g) v (among-last late (var c g)) u (excused c t (λ n k. among-snoc n late (var c g) k) (f .right)) in (
+              more,
+              subst (Fine c t more) (sym a) (record {
+                sized = subst (Sized-wires c) a (record-write-sized c g h z);
+                written = ap (λ (l : List ℕ). snoc l (var c g)) (f .written);
+                pulses = f .pulses;
+                real = set-real (w .outs) (var c g) v r (f .real);
+                length-finite = f .length-finite;
+                uptime-real = f .uptime-real;
+                right = alike c t more [] (show w (var c g) v) v₁ refl refl refl refl refl x;
+              }),
+            )
+
+    -- ---- a step, by kind
+
+    abbrev Stepped-going : Stepped → Type 0
+    Stepped-going d = Going t (d .state)
+
+    going : {late : List ℕ} {s : State} → Sound c t late s → Going t s
+    going {late} z = record { late = late; sound = z }
+
+    Buffer-going : (s : State) (g : ℕ) → Going t s → Stepped-going (exec-Buffer c s g)
+    unfolding exec-Buffer ends
+    Buffer-going s g z = if-both Stepped-going _ (going (delay-sound c g _ (fires-fine _ (delay-of c s (z .sound) g)) (z .sound))) z
+
+    Stopwatch-going : (s : State) (g p : ℕ) → kind-of-gate c g ≡ 15 → Going t s → Stepped-going (exec-Stopwatch c s g p)
+    unfolding exec-Stopwatch ends kinds-opened
+    Stopwatch-going s g p k z =
+        let y = delay-sound c g _ (pressed-fine p (delay-of c s (z .sound) g)) (z .sound) in
+        if-both (Going t) _ (going (set-output-sound c W _ _ (other-output c (W .laid) g 15 0 k refl (omega arith)) zero-real y)) (going y)
+
+    Queue-going : (s : State) (g : ℕ) (k : Value → Countdown) → Going t s → Stepped-going (exec-Queue c s g k)
+    unfolding exec-Queue ends
+    Queue-going s g k z =
+        let y = readied-sound c W g 1 9 (z .sound) in
+        going (delay-sound c g _ (queue-fine _ _ (read-row-fine c W _ g 1 8 (omega arith) y) (delay-of c _ y g)) y)
+
+    VarGet-going : (s : State) (g : ℕ) → kind-of-gate c g ≡ 18 → Going t s → Stepped-going (exec-VarGet c s g)
+    unfolding exec-VarGet fires-next kinds-opened
+    VarGet-going s g k z =
+        going (set-output-sound c W _ _ (other-output c (W .laid) g 18 1 k refl (omega arith)) (z .sound .wires .real (var c g)) (z .sound))
+
+    VarSet-going : (s : State) (g : ℕ) → eqb (kind-of-gate c g) 19 ≡ true → Going t s → Stepped-going (exec-VarSet c s g)
+    unfolding exec-VarSet fires-next
+    VarSet-going s g e z =
+        let y = readied-sound c W g 2 1 (z .sound) in
+        going (wires-sound c y (write-fine (z .late) _ g _ e (read-is-real c W _ g 2 y) (y .wires) .1))
+
+    Branch-going : (s : State) (g : ℕ) → Going t s → Stepped-going (exec-Branch c s g)
+    unfolding exec-Branch fires-next
+    Branch-going s g z = going (readied-sound c W g 1 1 (z .sound))
+
+    Union-going : (s : State) (g : ℕ) → Going t s → Stepped-going (exec-Union c s g)
+    unfolding exec-Union fires-next ends unions-passed≔ shown
+    Union-going s g z =
+        let f = z .sound .wires in
+        if-both Stepped-going _ z
+        (going (wires-sound c (z .sound) (record {
+          sized = passed-sized c _ (length-set (s .wires .unions-passed) g true) (f .sized);
+          written = f .written;
+          pulses = f .pulses;
+          real = f .real;
+          length-finite = f .length-finite;
+          uptime-real = f .uptime-real;
+          right = alike c t (z .late) [] (s .wires) (unions-passed≔ (s .wires) (set (s .wires .unions-passed) g true)) refl refl refl refl refl (f .right);
+        })))
+
+    Toggle-going : (s : State) (g : ℕ) → kind-of-gate c g ≡ 22 → Going t s → Stepped-going (exec-Toggle c s g)
+    unfolding exec-Toggle fires-next kinds-opened
+    Toggle-going s g k z = going (set-output-sound c W _ _ (other-output c (W .laid) g 22 1 k refl (omega arith)) (truth-real _) (z .sound))
+
+    Cycle-going : (s : State) (g p : ℕ) → kind-of-gate c g ≡ 23 → Going t s → Stepped-going (exec-Cycle c s g p)
+    unfolding exec-Cycle fires-next kinds-opened
+    Cycle-going s g p k z =
+        going (set-output-sound c W _ _ (other-output c (W .laid) g 23 2 k refl (omega arith)) (int-real _) (readied-sound c W g 2 1 (z .sound)))
+
+    SendEvent-going : (s : State) (g : ℕ) → Going t s → Stepped-going (exec-SendEvent c s g)
+    unfolding exec-SendEvent fires-next snoc
+    SendEvent-going s g z =
+        let y = readied-sound c W g 2 8 (z .sound) in
+        if-both (Going t) _ (going y) (going (outbox-sound c _ (all-append (y .outbox) (_∷·_ (read-row-fine c W _ g 2 8 (omega arith) y) [·])) y))
+
+    exec-kind-going : (s : State) (g p : ℕ) → Going t s → Stepped-going (exec-kind c (kind-of-gate c g) s g p)
+    unfolding exec-kind fires-next ends
+    exec-kind-going s g p z =
+        let k = kind-of-gate c g in
+        if-both Stepped-going _ z
+        (if-both Stepped-going _ (Buffer-going s g z)
+        (if-by Stepped-going (eqb k 15) (λ e. Stopwatch-going s g p (eqb-true k 15 e) z) λ _.
+        (if-both Stepped-going _ (Queue-going s g _ z)
+        (if-both Stepped-going _ (Queue-going s g _ z)
+        (if-by Stepped-going (eqb k 18) (λ e. VarGet-going s g (eqb-true k 18 e) z) λ _.
+        (if-by Stepped-going (eqb k 19) (λ e. VarSet-going s g e z) λ _.
+        (if-both Stepped-going _ (Branch-going s g z)
+        (if-both Stepped-going _ (Union-going s g z)
+        (if-by Stepped-going (eqb k 22) (λ e. Toggle-going s g (eqb-true k 22 e) z) λ _.
+        (if-by Stepped-going (eqb k 23) (λ e. Cycle-going s g p (eqb-true k 23 e) z) λ _.
+        (if-both Stepped-going _ (SendEvent-going s g z) z)))))))))))
+
+    pub exec-gate-going : (s : State) (i : ℕ) → Going t s → Stepped-going (exec-gate c s i)
+    unfolding exec-gate
+    exec-gate-going s i z = exec-kind-going s _ _ z
+
+    pub run-chain-going : (left : ℕ) (q : Calls) (s : State) → Going t s → Going t (run-chain c left q s .state)
+    run-chain-going = run-chain-keeps c (Going t) exec-gate-going
