@@ -1,7 +1,6 @@
 -- A call, refused or played.
 use Prim.Native.Nat.{ℕ, zero, suc, _*_, _≤_}
 use mathlib.Core.Path.{_≡_, refl, sym, ap, _∙_, subst}
-use mathlib.Core.Bool.{not}
 use mathlib.Core.List.{List}
 use mathlib.Core.Option.{some}
 use native.Mathlib.Omega.{arith}
@@ -16,6 +15,7 @@ use Rattle.model.specs.Answer.{refused, played, play, answer-to, answer, log-af
 use Rattle.model.proofs.Asked.{Accepted, accepted}
 use Rattle.model.proofs.Ends.{numbers}
 use Rattle.model.proofs.InOrder.{in-order}
+use Rattle.model.proofs.Fresh.{begins-fresh}
 use Rattle.links.specs.Links.{net}
 use Rattle.links.specs.Lent.{least-area}
 use Rattle.circuit.specs.Refusals.{words-refusal, made-by, links-after}
@@ -53,6 +53,7 @@ module _ (k : Call) (n : ℕ) (e : n ≡ refusal (some (lent k)) (k .circuit) (k
         units = rw x refl;
         delays = rw x refl;
         order = in-order _ _ _ _;
+        begins-fresh = begins-fresh _ _ _ _;
       }
 
   -- ---- not refused
@@ -121,6 +122,7 @@ module _ (k : Call) (n : ℕ) (e : n ≡ refusal (some (lent k)) (k .circuit) (k
             units = rw x eu;
             delays = rw x ed;
             order = in-order _ _ _ _;
+            begins-fresh = begins-fresh _ _ _ _;
           }
         where
           alike : (s s₁ t t₁ a b : ℕ) → s₁ ≡ s → t₁ ≡ t → b ≡ a → Finished s t (a * 8) ≡ Finished s₁ t₁ (8 * b)

@@ -1,12 +1,11 @@
 -- A tick counts up the number of ticks by one: its opening does at its start, and nothing after that changes the number.
 use mathlib.Core.Path.{_≡_, refl}
-use mathlib.Core.Bool.{Bool, true, false, not, _&&_}
-use mathlib.Core.List.{List, [], _∷_, _++_}
-use mathlib.Core.Option.{Option, none, some}
+use mathlib.Core.Bool.{Bool, true, false}
+use mathlib.Core.List.{List, [], _∷_}
+use mathlib.Core.Option.{Option}
 use Prim.Native.Nat.{ℕ, zero, suc}
-use lib.Dec.{eqb}
 use lib.ListN.{length, set}
-use Rattle.schedule.specs.Schedule.{Raise, Outcome, Closed, Place, to-late, to-delivered, Machine, Setup, plain, MainQ, OpenQ, Activation, raise-all, pass, push-all, activate-open, next-late, activate-late, next-main, activate-main, late-pass, main-pass, most-units, outcome, tick, list-full}
+use Rattle.schedule.specs.Schedule.{Raise, Outcome, Closed, Place, to-late, to-delivered, Machine, Setup, plain, MainQ, OpenQ, Activation, raise-all, pass, push-all, activate-open, next-late, activate-late, next-main, activate-main, late-pass, main-pass, most-units, outcome, tick}
 use Rattle.schedule.specs.Promise.{All, [·], _∷·_}
 use Rattle.schedule.specs.Keeping.{Did-keep}
 use Rattle.schedule.proofs.Keeps.{raise-all-keeps, pass-keeps}
@@ -18,7 +17,7 @@ use Rattle.model.specs.State.{Wires, State, Countdown, Delay, Act, Send, outs�
 use Rattle.model.specs.Wires.{show, soil, clean, watch, is-dirty, behind, recompute, refresh-to, refresh, refresh-all, ready, mark-readers, invalidate, set-out, set-outs}
 use Rattle.model.specs.Delays.{Moved}
 use Rattle.model.specs.Exec.{Stepped, fires-next, ends, delay≔, set-output, readied, record-write, exec-Buffer, exec-Stopwatch, exec-Queue, exec-VarGet, exec-VarSet, exec-Branch, exec-Union, exec-Toggle, exec-Cycle, exec-SendEvent, exec-kind, exec-gate}
-use Rattle.model.specs.Chain.{Calls, Popped, pop, fit, Chained, chained, push-calls, run-chain, runaway}
+use Rattle.model.specs.Chain.{Calls, Chained, run-chain}
 use Rattle.model.specs.Settle.{Settled, calm, raise, publish-writes, pulse, compared, check, check-on, settle}
 use Rattle.model.specs.Opening.{wires-fresh, wires-at-start, start, Opened, raised-to, fire, next-tick, begin-tick, lower, advanced, advance-buffer, advance-clock, advance-timer, open-tick}
 use Rattle.model.specs.Unit.{World, state≔, raises-in, enter, run-unit, finish-chain}
@@ -26,6 +25,7 @@ use Rattle.model.specs.Record.{read-outputs, write, close}
 use Rattle.model.specs.Run.{opening, body, closing, machine}
 use Rattle.model.proofs.Lists.{if-both, each-keeps, all-append, map-all, all-of}
 use Rattle.model.proofs.Checks.{detect-keeps}
+use Rattle.model.proofs.Walks.{run-chain-keeps, check-on-keeps}
 use Rattle.model.proofs.Sized.{behind-keeps, mark-readers-keeps}
 
 -- ---- the scheduler: what holds when a tick has opened, and is kept by each unit and by the record, holds after the tick
@@ -226,38 +226,8 @@ module _ (c : Circuit) (n : ℕ) where
 
   -- ---- a chain
 
-  abbrev Chained-at : Chained → Type 0
-  Chained-at r = State-at n (r .state)
-
-  run-chain-at : (left : ℕ) (q : Calls) (s : State) → State-at n s → Chained-at (run-chain c left q s)
-  unfolding run-chain chained
-  run-chain-at zero q s z = go (pop (q .stack) (q .forks))
-    where
-      go : (x : Option Popped) → Chained-at (elim x as (λ _. Chained) [ none ↦ chained s 0 0 q | some t ↦ chained s 0 runaway q ])
-      go none = z
-      go (some t) = z
-  run-chain-at (suc left) q s z = go (pop (q .stack) (q .forks)) (λ r t y. run-chain-at left r t y)
-    where
-      go :
-          (x : Option Popped) → ((r : Calls) (t : State) → State-at n t → Chained-at (run-chain c left r t)) →
-          Chained-at (elim x as (λ _. Chained) [
-            | none ↦ chained s (suc left) 0 q
-            | some t ↦
-                let d = exec-gate c s (t .input) in
-                let r = push-calls c (d .next) (t .rest) in
-                elim (fit r && not (d .full)) [ true ↦ run-chain c left r (d .state) | false ↦ chained (d .state) left list-full r ]
-          ])
-      go none rec = z
-      go (some t) rec =
-          let d = exec-gate c s (t .input) in
-          let r = push-calls c (d .next) (t .rest) in
-          fits (fit r && not (d .full)) d r (exec-gate-at s (t .input) z)
-        where
-          fits :
-              (b : Bool) (d : Stepped) (r : Calls) → State-at n (d .state) →
-              Chained-at (elim b as (λ _. Chained) [ true ↦ run-chain c left r (d .state) | false ↦ chained (d .state) left list-full r ])
-          fits true d r y = rec r (d .state) y
-          fits false d r y = y
+  run-chain-at : (left : ℕ) (q : Calls) (s : State) → State-at n s → State-at n (run-chain c left q s .state)
+  run-chain-at = run-chain-keeps c (State-at n) exec-gate-at
 
   -- ---- settling
 
@@ -294,22 +264,10 @@ module _ (c : Circuit) (n : ℕ) where
       (λ o k e u l. calm-at (wires-at y (pulse-at _ (y .wires)))) (λ d. calm-at (delay-at _ d y)) _ _ _)
 
   check-on-at : (m : ℕ) (z : Settled) → Settled-at z → Settled-at (check-on c m z)
-  unfolding check-on
-  check-on-at zero z y = y
-  check-on-at (suc m) z y = go (z .state .wires .to-check) (λ r x. check-on-at m r x)
-    where
-      go :
-          (q : List ℕ) → ((r : Settled) → Settled-at r → Settled-at (check-on c m r)) →
-          Settled-at (elim q as (λ _. Settled) [
-            | [] ↦ z
-            | (i ∷ is) ↦
-                let r = check c (wires≔ (z .state) (to-check≔ (z .state .wires) is (set (z .state .wires .queued) i false))) i in
-                check-on c m (record { state = r .state; raises = z .raises ++ r .raises })
-          ])
-      go [] rec = y
-      go (i ∷ is) rec =
-          let x = check-at _ i (wires-at (y .state) (to-check-at _ _ (y .state .wires))) in
-          rec _ (record { state = x .state; raises = all-append (y .raises) (x .raises) })
+  check-on-at =
+      check-on-keeps c Settled-at λ z i is e y.
+      let x = check-at _ i (wires-at (y .state) (to-check-at _ _ (y .state .wires))) in
+      record { state = x .state; raises = all-append (y .raises) (x .raises) }
 
   settle-at : (s : State) → State-at n s → Settled-at (settle c s)
   unfolding settle

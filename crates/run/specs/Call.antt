@@ -1,4 +1,4 @@
--- A call: the bytes that it is lent, what it leaves of them, and what is right of it, which is the three demands.
+-- A call: the bytes that it is lent, what it leaves of them, and what is right of it: the three demands, and what a unit sees when it begins.
 use Prim.Native.Nat.{ℕ}
 use mathlib.Core.Path.{_≡_}
 use mathlib.Core.List.{List}
@@ -8,6 +8,7 @@ use Rattle.words.specs.Slices.{Slice, before, after}
 use Rattle.model.specs.Questions.{Areas, refusal}
 use Rattle.model.specs.Answer.{Answer, Answers, answer, log-after, area-after}
 use Rattle.model.specs.Order.{Whole-run-in-order}
+use Rattle.model.specs.Fresh.{Whole-run-fresh}
 
 -- the bytes that a call is lent, as they are when it is made
 pub record Call : Type 0 where
@@ -47,6 +48,8 @@ pub record Right (k : Call) (l : Left) (Tells : Answer → Type 0) : Type 0 wher
   pub delays : l .delays ≡ area-after (call-answer k) (k .delays)
   -- demand 3: where it is not refused, the whole run is in order. This is a theorem about the definition; `answer` and `log` tie the code to it.
   pub order : refusal (some (lent k)) (k .circuit) (k .script) ≡ 0 → Whole-run-in-order (lent k) (length (k .log)) (k .circuit) (k .script)
+  -- document 02, K13: where it is not refused, no unit of the run reads, when it begins, a value left from before. Like `order`, a theorem about the definition.
+  pub begins-fresh : refusal (some (lent k)) (k .circuit) (k .script) ≡ 0 → Whole-run-fresh (length (k .log)) (k .circuit) (k .script)
 
 -- the same of a contract's slices
 abbrev pub Right-call : Slice → Slice → Slice → Slice → Slice → Slice → (Answer → Type 0) → Type 0

@@ -47,6 +47,7 @@ returns c =
       units = e .units;
       delays = e .delays;
       order = e .order;
+      begins-fresh = e .begins-fresh;
     }
 
 pub hazhirun-run-spec : {M : Type 1} → statement M
