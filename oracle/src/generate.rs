@@ -7,6 +7,6 @@ mod random;
 mod valid;
 
 pub use damaged::{Damaged, damaged};
-pub use family::{FAMILIES, Family};
+pub use family::{FAMILIES, Family, stated_families};
 pub use random::Random;
 pub use valid::valid;

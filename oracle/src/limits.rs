@@ -1,5 +1,6 @@
 //! The limits of document 01 (stop 12), and the units begun in a tick.
 
+use super::witness::Witness;
 use super::{Activation, Machine};
 use crate::SimError;
 use crate::graph::GateId;
@@ -26,6 +27,8 @@ pub(super) struct Tally {
     pub(super) late_units: usize,
     /// A list would have passed its limit.
     pub(super) passed: bool,
+    /// What the units saw when they began, if that is looked at.
+    pub(super) witness: Option<Witness>,
 }
 
 impl Tally {
@@ -64,6 +67,7 @@ impl Machine {
         if self.tally.room(self.tally.begun.len(), UNITS) {
             self.tally.begun.push((g, form(act)));
             self.tally.late_units += usize::from(self.in_late);
+            self.look_first();
         }
         self.within_limits()
     }

@@ -17,7 +17,11 @@ impl Machine {
         self.write_head(stop, log);
         self.write_units(log);
         if stop == 0 {
+            let trace = self.before_reading();
             self.write_outputs(log);
+            if let Some(trace) = trace {
+                self.restore(trace);
+            }
         }
         stop
     }
@@ -67,7 +71,7 @@ impl Machine {
 }
 
 /// Kind and content of a value; 0 0 for nothing.
-fn words(v: Option<Value>) -> (i64, i64) {
+pub(super) fn words(v: Option<Value>) -> (i64, i64) {
     match v {
         None => (0, 0),
         Some(Value::Int(n)) => (1, n),

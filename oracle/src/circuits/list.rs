@@ -2,7 +2,7 @@
 
 use super::places::{HELD_OTHERWISE, PLACES};
 use super::{Case, Group, groups};
-use crate::generate::FAMILIES;
+use crate::generate::stated_families;
 
 /// The text of docs/CIRCUITS.md.
 pub fn document() -> String {
@@ -49,7 +49,7 @@ fn table(cases: &[Case]) -> String {
 /// One row a family: its circuits differ in their seeds alone.
 fn families(group: &Group) -> String {
     let mut text = String::from("| circuits | family |\n|---|---|\n");
-    for family in FAMILIES {
+    for family in stated_families() {
         text += &row(group, &format!("random-{}", family.name()), family.about());
     }
     text + &row(group, "damaged", "Small circuits with a fault of one or two questions")

@@ -16,9 +16,10 @@ pub enum Family {
     Variables,
     Mixed,
     Stops,
+    Stale,
 }
 
-pub const FAMILIES: [Family; 14] = [
+pub const FAMILIES: [Family; 15] = [
     Family::Small,
     Family::Pure,
     Family::Ranks,
@@ -33,7 +34,14 @@ pub const FAMILIES: [Family; 14] = [
     Family::Variables,
     Family::Mixed,
     Family::Stops,
+    Family::Stale,
 ];
+
+/// The families of the stated circuits: all but the one that was made for what
+/// units see when they begin.
+pub fn stated_families() -> impl Iterator<Item = Family> {
+    FAMILIES.into_iter().filter(|&family| family != Family::Stale)
+}
 
 impl Family {
     pub fn name(self) -> String {
@@ -56,6 +64,7 @@ impl Family {
             Family::Variables => "Variables written and read in chains",
             Family::Mixed => "Any kinds, many gates",
             Family::Stops => "Circuits that end with 12 or 13",
+            Family::Stale => "Pulses through Selects that nothing watches, and chains that read them",
         }
     }
 }
@@ -158,6 +167,12 @@ impl Family {
             }
             Family::Mixed => Profile { gates: (24, 64), ticks: (10, 24), ..plain() },
             Family::Stops => Profile { gates: (4, 12), ..plain() },
+            Family::Stale => Profile {
+                gates: (6, 20),
+                calling: 95,
+                driven: 5,
+                ..of(&[7, 7, 8, 8, 1, 1, 1, 2, 2, 3, 4, 5, 18, 19, 19, 19, 20, 22, 28, 28])
+            },
         }
     }
 }

@@ -86,6 +86,11 @@ pub fn draft(seed: u64, family: Family) -> (Circuit, Script) {
     if family == Family::Stops {
         overfill(&mut r, &mut c, &gates);
     }
+    if family == Family::Stale {
+        for _ in 0..r.between((1, 3)) {
+            leave_stale(&mut r, &mut c, &gates);
+        }
+    }
     let s = script(&mut r, &p, &mut c, &gates);
     (c, s)
 }
@@ -250,6 +255,23 @@ fn overfill(r: &mut Random, c: &mut Circuit, gates: &[Gate]) {
             c.chain(&[changed, count]);
         }
     }
+}
+
+/// A row of Selects behind a detector's pulse and a Var, which nothing watches,
+/// and a chain that writes the Var and then reads the Selects.
+fn leave_stale(r: &mut Random, c: &mut Circuit, gates: &[Gate]) {
+    let worlds: Vec<Gate> = gates.iter().copied().filter(|g| g.kind == WORLD_EVENT).collect();
+    let (watched, other) = (r.pick(&worlds), r.pick(&worlds));
+    let pulse = if r.chance(50) { c.edge(watched.value()) } else { c.change(watched.value()) };
+    let var = c.var(1);
+    let mut last = c.select(pulse, 5, var);
+    for _ in 0..r.below(3) {
+        last = if r.chance(50) { c.select(pulse, last, var) } else { c.select(last, var, last) };
+    }
+    let seen = c.var(NOTHING);
+    let write = c.var_set(0, var, r.pick(INTS));
+    let read = c.var_set(0, seen, last);
+    c.chain(&[other, write, read]);
 }
 
 fn script(r: &mut Random, p: &Profile, c: &mut Circuit, gates: &[Gate]) -> Script {

@@ -30,6 +30,8 @@ mod limits; // oracle:
 mod record; // oracle:
 #[path = "../start.rs"] // oracle:
 mod start; // oracle:
+#[path = "../witness.rs"] // oracle:
+pub mod witness; // oracle:
 
 /// Why a unit runs.
 #[derive(Clone, Debug)]
@@ -383,6 +385,7 @@ impl Machine {
             }
         }
         self.tally.hold(self.forks.len(), stack.len()); // oracle:
+        self.look_on(); // oracle:
     }
 
     /// Publish this chain's var writes to the gates off each var.
