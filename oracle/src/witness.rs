@@ -111,9 +111,8 @@ impl Machine {
     /// A record is about to be read: what it must leave as it is, where there
     /// is a witness.
     pub(super) fn before_reading(&mut self) -> Option<Trace> {
-        let left = self.dirty.contains(&true);
         let seen = self.tally.witness.as_mut()?;
-        seen.ticks_left_stale += u64::from(left);
+        seen.ticks_left_stale += u64::from(self.dirty.contains(&true));
         Some(self.trace())
     }
 

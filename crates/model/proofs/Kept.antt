@@ -9,25 +9,24 @@ use native.Mathlib.Omega.{arith}
 use lib.Dec.{leb, ltb, eqb}
 use lib.ListN.{length, set, length-set, length-map, length-replicate, List·getD-map, List·getD-eq-default}
 use borrow.Author.Tests.{ltb-true, ltb-false, eqb-true, ne-eqb}
-use Rattle.schedule.specs.Schedule.{Raise, Place, to-late, to-delivered}
+use Rattle.schedule.specs.Schedule.{Raise}
 use Rattle.schedule.specs.Promise.{All, [·], _∷·_}
 use Rattle.model.specs.declared.Value.{Value}
 use Rattle.model.specs.declared.Value.the-variants.{Nothing}
 use Rattle.model.specs.Base.{snoc, among, from}
 use Rattle.model.specs.Kinds.{pure, time-source}
-use Rattle.model.specs.Circuit.{Circuit, most-gates, kind-of-gate, output, gate-at-input, gates, gates-of}
+use Rattle.model.specs.Circuit.{Circuit, most-gates, kind-of-gate, gate-at-input, gates, gates-of}
 use Rattle.model.specs.Script.{Given}
 use Rattle.model.specs.State.{Wires, State, Countdown, Delay, Act, Send, times≔, last≔, pulses≔, written≔, unions-passed≔, wires≔, delays≔, outbox≔}
 use Rattle.model.specs.Wires.{is-dirty, ready, mark-readers, invalidate}
-use Rattle.model.specs.Delays.{Moved}
 use Rattle.model.specs.Exec.{Stepped, fires-next, ends, delay≔, set-output, readied, var, record-write, exec-Buffer, exec-Stopwatch, exec-Queue, exec-VarGet, exec-VarSet, exec-Branch, exec-Union, exec-Toggle, exec-Cycle, exec-SendEvent, exec-kind, exec-gate}
 use Rattle.model.specs.Chain.{Calls, run-chain}
 use Rattle.model.specs.Settle.{Settled, calm, raise, publish-writes, pulse, compared, check, check-on, settle}
-use Rattle.model.specs.Opening.{wires-stale, wires-fresh, wires-at-start, start, Opened, raised-to, fire, next-tick, begin-tick, lower, advanced, advance-buffer, advance-clock, advance-timer, open-tick}
+use Rattle.model.specs.Opening.{wires-stale, wires-fresh, wires-at-start, start, Opened, next-tick, begin-tick, lower, open-tick}
 use Rattle.model.specs.Unit.{World, enter, run-unit}
 use Rattle.model.specs.Record.{read-outputs}
-use Rattle.model.proofs.Lists.{if-both, if-by, each-keeps, each-keeps-all, among-from, from-length, all-append, map-all, all-of, either-false}
-use Rattle.model.proofs.Walks.{run-chain-keeps, check-on-keeps}
+use Rattle.model.proofs.Lists.{if-both, if-by, each-keeps, among-from, from-length, all-append, either-false}
+use Rattle.model.proofs.Walks.{run-chain-keeps, check-on-keeps, Opened-keeps, open-tick-keeps}
 use Rattle.model.proofs.Checks.{detect-keeps}
 use Rattle.model.proofs.Laid.{Laid}
 use Rattle.model.proofs.Once.{Once, empty, added, among-map}
@@ -267,13 +266,8 @@ module _ (c : Circuit) where
 
   -- ---- the opening of a tick
 
-  pub record Opened-sized (z : Opened) : Type 0 where
-    pub state : Sized c (z .state)
-    pub raises : Raises-sized (z .raises)
-
-  raised-to-sized : (p : Place) (s : State) (acts : List Act) → Sized c s → Raises-sized (raised-to p s acts)
-  unfolding raised-to
-  raised-to-sized p s acts z = map-all (λ (r : Raise State Act Place). Sized c (r .at)) _ (all-of (λ a. z) acts)
+  abbrev pub Opened-sized : Opened → Type 0
+  Opened-sized = Opened-keeps c (Sized c)
 
   pub times-sized : (w : Wires) (t x y : ℕ) → Sized-wires c w → Sized-wires c (times≔ w t x y)
   unfolding times≔ is-dirty
@@ -287,28 +281,6 @@ module _ (c : Circuit) where
   lower-sized : (w : Wires) (o : ℕ) → Sized-wires c w → Sized-wires c (lower c w o)
   unfolding lower
   lower-sized w o z = if-both (Sized-wires c) _ (set-out-sized c _ o _ (pulses-sized o 0 z)) z
-
-  advanced-sized :
-      (z : Opened) (s : State) (place : Place) (g p : ℕ) (m : Moved) → Raises-sized (z .raises) → Sized c s → Opened-sized (advanced c z s place g p m)
-  unfolding advanced
-  advanced-sized z s place g p m r y =
-      let t = wires-sized (delay-sized g (m .state) y) (set-outs-sized c (s .wires) (output c g p) (m .row) (y .wires)) in
-      record { state = t; raises = all-append r (raised-to-sized place _ (fire (m .fires) g) t) }
-
-  advance-buffer-sized : (dt : ℕ) (z : Opened) (g : ℕ) → Opened-sized z → Opened-sized (advance-buffer c dt z g)
-  unfolding advance-buffer
-  advance-buffer-sized dt z g y =
-      if-both Opened-sized _ (advanced-sized z _ _ g _ _ (y .raises) (y .state))
-      (if-both Opened-sized _ (advanced-sized z _ _ g _ _ (y .raises) (y .state))
-      (if-both Opened-sized _ (advanced-sized z _ _ g _ _ (y .raises) (y .state)) y))
-
-  advance-clock-sized : (z : Opened) (g : ℕ) → Opened-sized z → Opened-sized (advance-clock c z g)
-  unfolding advance-clock
-  advance-clock-sized z g y = advanced-sized z _ _ g _ _ (y .raises) (readied-sized g 0 2 (y .state))
-
-  advance-timer-sized : (z : Opened) (g : ℕ) → Opened-sized z → Opened-sized (advance-timer c z g)
-  unfolding advance-timer
-  advance-timer-sized z g y = advanced-sized z _ _ g _ _ (y .raises) (readied-sized g 3 1 (y .state))
 
   -- a time source is a pure gate
   pub time-pure : (k : ℕ) → time-source k ≡ true → pure k ≡ true
@@ -324,18 +296,17 @@ module _ (c : Circuit) where
   invalidate-sized w g e z = mark-readers-sized c _ _ (soil-sized c w g (time-pure (kind-of-gate c g) e) z)
 
   pub open-tick-sized : Laid c → (s : State) (given : Given) → Sized c s → Opened-sized (open-tick c s given)
-  unfolding open-tick
   open-tick-sized laid s given z =
-      let z₁ = begin-tick-sized s (given .dt) z in
-      let came = all-append (raised-to-sized to-delivered _ _ z₁) (raised-to-sized to-late _ (given .stimuli) z₁) in
-      let z₂ = wires-sized z₁ (each-keeps (Sized-wires c) (lower c) lower-sized _ (from 0 (length (c .outputs))) (z₁ .wires)) in
-      let b = each-keeps Opened-sized (advance-buffer c _) (advance-buffer-sized _) _ (c .buffers) (record { state = z₂; raises = came }) in
-      let k = each-keeps Opened-sized (advance-clock c) advance-clock-sized _ (c .clocks) b in
-      let t = each-keeps Opened-sized (advance-timer c) advance-timer-sized _ (c .stopwatches) k in
-      let times : ℕ → Bool = λ g. time-source (kind-of-gate c g) in
-      let w = each-keeps-all (Sized-wires c) times (invalidate c) invalidate-sized _ _ (laid .times) (t .state .wires) in
-      let x = settle-sized _ (wires-sized (t .state) w) in
-      record { state = x .state; raises = all-append (t .raises) (map-all (λ (r : Raise State Act Place). Sized c (r .at)) _ (x .raises)) }
+      open-tick-keeps c {timed = λ g. time-source (kind-of-gate c g)} (record {
+        of = λ z. z .wires;
+        put = λ z y. wires-sized z y;
+        delay = λ g d z. delay-sized g d z;
+        ready = ready-sized c;
+        set-outs = set-outs-sized c;
+        lower = lower-sized;
+        invalidate = invalidate-sized;
+        settle = λ s z. let x = settle-sized s z in (x .state, x .raises);
+      }) (laid .times) s given (begin-tick-sized s (given .dt) z)
 
   -- ---- a unit, and the record
 

@@ -16,7 +16,7 @@ pub mod Placing
 pub mod Sized
 -- what one check does, by kind
 pub mod Checks
--- what steps and checks keep, chains and settling keep
+-- what small changes keep, chains, settling and the opening of a tick keep
 pub mod Walks
 -- every operation on the state keeps its sizes
 pub mod Kept

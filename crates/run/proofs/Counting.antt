@@ -4,28 +4,27 @@ use mathlib.Core.Bool.{Bool, true, false}
 use mathlib.Core.List.{List, [], _∷_}
 use mathlib.Core.Option.{Option}
 use Prim.Native.Nat.{ℕ, zero, suc}
-use lib.ListN.{length, set}
-use Rattle.schedule.specs.Schedule.{Raise, Outcome, Closed, Place, to-late, to-delivered, Machine, Setup, plain, MainQ, OpenQ, Activation, raise-all, pass, push-all, activate-open, next-late, activate-late, next-main, activate-main, late-pass, main-pass, most-units, outcome, tick}
+use lib.ListN.{set}
+use Rattle.schedule.specs.Schedule.{Raise, Outcome, Closed, Machine, Setup, plain, MainQ, OpenQ, Activation, raise-all, pass, push-all, activate-open, next-late, activate-late, next-main, activate-main, late-pass, main-pass, most-units, outcome, tick}
 use Rattle.schedule.specs.Promise.{All, [·], _∷·_}
 use Rattle.schedule.specs.Keeping.{Did-keep}
 use Rattle.schedule.proofs.Keeps.{raise-all-keeps, pass-keeps}
 use Rattle.model.specs.declared.Value.{Value}
-use Rattle.model.specs.Base.{each, from}
-use Rattle.model.specs.Circuit.{Circuit, output, gate-at-input, inputs-of, gates}
+use Rattle.model.specs.Base.{each}
+use Rattle.model.specs.Circuit.{Circuit, gate-at-input, inputs-of, gates}
 use Rattle.model.specs.Script.{Given}
 use Rattle.model.specs.State.{Wires, State, Countdown, Delay, Act, Send, outs≔, dirty≔, to-check≔, times≔, last≔, pulses≔, written≔, unions-passed≔, wires≔, delays≔, outbox≔}
 use Rattle.model.specs.Wires.{show, soil, clean, watch, is-dirty, behind, recompute, refresh-to, refresh, refresh-all, ready, mark-readers, invalidate, set-out, set-outs}
-use Rattle.model.specs.Delays.{Moved}
 use Rattle.model.specs.Exec.{Stepped, fires-next, ends, delay≔, set-output, readied, record-write, exec-Buffer, exec-Stopwatch, exec-Queue, exec-VarGet, exec-VarSet, exec-Branch, exec-Union, exec-Toggle, exec-Cycle, exec-SendEvent, exec-kind, exec-gate}
 use Rattle.model.specs.Chain.{Calls, Chained, run-chain}
 use Rattle.model.specs.Settle.{Settled, calm, raise, publish-writes, pulse, compared, check, check-on, settle}
-use Rattle.model.specs.Opening.{wires-fresh, wires-at-start, start, Opened, raised-to, fire, next-tick, begin-tick, lower, advanced, advance-buffer, advance-clock, advance-timer, open-tick}
+use Rattle.model.specs.Opening.{wires-fresh, wires-at-start, start, next-tick, begin-tick, lower, open-tick}
 use Rattle.model.specs.Unit.{World, state≔, raises-in, enter, run-unit, finish-chain}
 use Rattle.model.specs.Record.{read-outputs, write, close}
 use Rattle.model.specs.Run.{opening, body, closing, machine}
-use Rattle.model.proofs.Lists.{if-both, each-keeps, all-append, map-all, all-of}
+use Rattle.model.proofs.Lists.{all-pass, if-both, each-keeps, all-append, map-all}
 use Rattle.model.proofs.Checks.{detect-keeps}
-use Rattle.model.proofs.Walks.{run-chain-keeps, check-on-keeps}
+use Rattle.model.proofs.Walks.{run-chain-keeps, check-on-keeps, Opened-keeps, open-tick-keeps}
 use Rattle.model.proofs.Sized.{behind-keeps, mark-readers-keeps}
 
 -- ---- the scheduler: what holds when a tick has opened, and is kept by each unit and by the record, holds after the tick
@@ -275,52 +274,23 @@ module _ (c : Circuit) (n : ℕ) where
 
   -- ---- the opening of a tick
 
-  record Opened-at (z : Opened) : Type 0 where
-    state : State-at n (z .state)
-    raises : Raises-at (z .raises)
-
-  raised-to-at : (p : Place) (s : State) (acts : List Act) → State-at n s → Raises-at (raised-to p s acts)
-  unfolding raised-to
-  raised-to-at p s acts z = map-all (λ (r : Raise State Act Place). State-at n (r .at)) _ (all-of (λ a. z) acts)
-
   lower-at : (w : Wires) (o : ℕ) → Wires-at n w → Wires-at n (lower c w o)
   unfolding lower
   lower-at w o z = if-both (Wires-at n) _ (set-out-at _ o _ (pulses-at _ z)) z
 
-  advanced-at :
-      (z : Opened) (s : State) (place : Place) (g p : ℕ) (m : Moved) → Raises-at (z .raises) → State-at n s → Opened-at (advanced c z s place g p m)
-  unfolding advanced
-  advanced-at z s place g p m r y =
-      let t = wires-at (delay-at g (m .state) y) (set-outs-at (s .wires) (output c g p) (m .row) (y .wires)) in
-      record { state = t; raises = all-append r (raised-to-at place _ (fire (m .fires) g) t) }
-
-  advance-buffer-at : (dt : ℕ) (z : Opened) (g : ℕ) → Opened-at z → Opened-at (advance-buffer c dt z g)
-  unfolding advance-buffer
-  advance-buffer-at dt z g y =
-      if-both Opened-at _ (advanced-at z _ _ g _ _ (y .raises) (y .state))
-      (if-both Opened-at _ (advanced-at z _ _ g _ _ (y .raises) (y .state))
-      (if-both Opened-at _ (advanced-at z _ _ g _ _ (y .raises) (y .state)) y))
-
-  advance-clock-at : (z : Opened) (g : ℕ) → Opened-at z → Opened-at (advance-clock c z g)
-  unfolding advance-clock
-  advance-clock-at z g y = advanced-at z _ _ g _ _ (y .raises) (readied-at g 0 2 (y .state))
-
-  advance-timer-at : (z : Opened) (g : ℕ) → Opened-at z → Opened-at (advance-timer c z g)
-  unfolding advance-timer
-  advance-timer-at z g y = advanced-at z _ _ g _ _ (y .raises) (readied-at g 3 1 (y .state))
-
   -- from the moment on at which the next tick has begun
-  open-tick-at : (s : State) (given : Given) → State-at n (begin-tick s (given .dt)) → Opened-at (open-tick c s given)
-  unfolding open-tick
-  open-tick-at s given z =
-      let came = all-append (raised-to-at to-delivered _ _ z) (raised-to-at to-late _ (given .stimuli) z) in
-      let z₂ = wires-at z (each-keeps (Wires-at n) (lower c) lower-at _ (from 0 (length (c .outputs))) (z .wires)) in
-      let b = each-keeps Opened-at (advance-buffer c _) (advance-buffer-at _) _ (c .buffers) (record { state = z₂; raises = came }) in
-      let k = each-keeps Opened-at (advance-clock c) advance-clock-at _ (c .clocks) b in
-      let t = each-keeps Opened-at (advance-timer c) advance-timer-at _ (c .stopwatches) k in
-      let w = each-keeps (Wires-at n) (invalidate c) invalidate-at _ (c .time-sources) (t .state .wires) in
-      let x = settle-at _ (wires-at (t .state) w) in
-      record { state = x .state; raises = all-append (t .raises) (map-all (λ (r : Raise State Act Place). State-at n (r .at)) _ (x .raises)) }
+  open-tick-at : (s : State) (given : Given) → State-at n (begin-tick s (given .dt)) → Opened-keeps c (State-at n) (open-tick c s given)
+  open-tick-at =
+      open-tick-keeps c {timed = λ _. true} (record {
+        of = λ z. z .wires;
+        put = λ z y. wires-at z y;
+        delay = λ g d z. delay-at g d z;
+        ready = ready-at;
+        set-outs = set-outs-at;
+        lower = lower-at;
+        invalidate = λ w g _. invalidate-at w g;
+        settle = λ s z. let x = settle-at s z in (x .state, x .raises);
+      }) (all-pass (c .time-sources))
 
   -- ---- a unit, and the record
 
