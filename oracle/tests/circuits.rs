@@ -493,6 +493,28 @@ fn cycles() {
     assert!((1..=7).all(|t| p.shown(t, 4, 2).1 == p.shown(t, 3, 2).1 && p.shown(t, 5, 2) == int(0)));
 }
 
+/// Each number worked out by hand; between two of them the Cycle goes back to `most` - 1.
+#[test]
+fn a_count_that_shrinks() {
+    let rows: [(&str, i64, &[i64]); 2] = [
+        ("cycle-shrinks", 1_000_000, &[1, 999_998, 0, 499_998, 200_000, 199_998, 1, 6, 0, 0, 0, 0, 0, 0]),
+        (
+            "cycle-largest",
+            i64::MAX,
+            &[0, i64::MAX - 2, 1, i64::MAX - 2, (1 << 62) - 1, (1 << 62) - 3, (1 << 32) - 1, (1 << 32) - 3, 1, 2, 0, 0],
+        ),
+    ];
+    for (name, most, after) in rows {
+        let p = played(name);
+        assert_eq!(p.ticks.len(), 1 + 3 * after.len());
+        for (k, &number) in after.iter().enumerate() {
+            let shown = [1, 2, 3].map(|t| p.shown(3 * k + t, 3, 2));
+            assert_eq!(shown, [int(most - 1), int(number), int(0)], "{name}, step {k}");
+        }
+        assert_eq!(p.shown(1 + 3 * after.len(), 3, 2), int(most - 1));
+    }
+}
+
 #[test]
 fn the_start() {
     let p = played("start-shows-nothing");

@@ -7,7 +7,7 @@ use mathlib.Core.Bool.{Bool, true, false}
 use mathlib.Core.Logic.{_⊎_, inl, inr}
 use borrow.Author.Tests.{eq-eqb, ne-eqb}
 use lib.IntN.{ℤ, pos, negsuc, sucℤ, predℤ}
-use mir.Facts.{toZ-ofZ}
+use mir.Facts.{toZ-ofZ, toZ-pos, toZ-neg}
 use mir.Syntax.{w64}
 use mir.Val.{SFits}
 use Rattle.words.specs.Words.{signed, unsigned}
@@ -102,6 +102,16 @@ unfolding cycle-next
 cycle-below d zero now p = p
 cycle-below d (suc n) now p = remainder-below (if d then predℤ now else sucℤ now) (suc n) p
 
+-- so no step gives more than 2 ^ 63 - 2, whatever Count is
+pub cycle-most : (d : Bool) (count now : ℤ) → SFits w64 count → cycle-next d count now ≤ 2 ^ 63 - 2
+unfolding cycle-next
+cycle-most d (pos zero) now f = omega arith
+cycle-most d (pos (suc n)) now f =
+    let s : suc n < 2 ^ 63 = f .sfits in
+    let l = cycle-below d (suc n) now (omega arith) in
+    omega arith
+cycle-most d (negsuc n) now f = omega arith
+
 -- ---- a number from its word
 
 -- a word below 2 ^ 63 is the number itself
@@ -120,14 +130,21 @@ from-high-word z v f e h = go z v f (e ∙ ap unsigned (toZ-ofZ f)) h
     go (pos a) v f e h = let s : a < 2 ^ 63 = f .sfits in absurd (omega arith)
     go (negsuc a) v f e h = let s : a < 2 ^ 63 = f .sfits in ap negsuc (omega arith)
 
--- ---- one law for each way through the code
+-- ---- for a Count above 0
 
--- for a Count above 0
+-- the step is one from the remainder of the number now,
 stepped : (d : Bool) (n : ℕ) (now : ℤ) → 0 < n → step d n (remainder now n) ≡ cycle-next d (pos n) now
 unfolding cycle-next if_then_else_
 stepped d zero now p = absurd (omega arith)
 stepped false (suc n) now p = sym (step-up now (suc n) p)
 stepped true (suc n) now p = sym (step-down now (suc n) p)
+
+-- and so from the number itself while it is below Count
+pub by-comparison : (d : Bool) (n now : ℕ) → now < n → step d n now ≡ cycle-next d (pos n) (pos now)
+unfolding remainder
+by-comparison d n now h = ap (step d n) (sym (mod-eq-of-lt h)) ∙ stepped d n (pos now) (omega arith)
+
+-- ---- one law for each way through the code
 
 module _ (d : Bool) (count now : ℤ) (fc : SFits w64 count) (fn : SFits w64 now) (n : ℕ) (en : n ≡ unsigned (signed (unsigned count))) where
   -- a Count below 0
@@ -140,18 +157,26 @@ module _ (d : Bool) (count now : ℤ) (fc : SFits w64 count) (fn : SFits w64 now
   unfolding cycle-next
   count-zero h z = rw (from-word count n fc en h, z) refl
 
-  module _ (h : n < 2 ^ 63) (f : n ≡ 0 → ⊥) (w : ℕ) (ew : w ≡ unsigned (signed (unsigned now))) (q r : ℕ) where
-    -- a Count above 0
-    above : 0 < n
-    above = omega (arith, f)
+  module _ (h : n < 2 ^ 63) (f : n ≡ 0 → ⊥) (w : ℕ) (ew : w ≡ unsigned (signed (unsigned now))) where
+    -- the number now is below Count
+    pub from-below : (r : ℕ) → r ≡ step d n w → w < n → r ≡ cycle-next d count now
+    from-below r e l = rw (e, from-word count n fc en h) (rw (from-word now w fn ew (omega arith)) (by-comparison d n w l))
 
-    -- from a number that is not negative
-    pub from-above : w < 2 ^ 63 → q ≡ w % n → r ≡ step d n q → r ≡ cycle-next d count now
-    unfolding remainder
-    from-above g eq er = rw (er, eq, from-word count n fc en h) (rw (from-word now w fn ew g) (stepped d n (pos w) above))
+    -- it is not: Count has shrunk
+    pub from-shrunk : (q r : ℕ) → r ≡ step d n q → q ≡ remainder (signed w) n → r ≡ cycle-next d count now
+    from-shrunk q r e m =
+        let z : signed w ≡ now = ap signed ew ∙ ap (λ z. signed (unsigned z)) (toZ-ofZ fn) ∙ toZ-ofZ fn in
+        rw (e, m, z, from-word count n fc en h) (let p : 0 < n = omega (arith, f) in stepped d n now p)
 
-    -- from a negative one
-    pub from-below : (p : ℕ) → 2 ^ 63 ≤ w → q ≡ (2 ^ 64 - 1 - w) % n → p ≡ n - suc q → r ≡ step d n p → r ≡ cycle-next d count now
-    unfolding remainder
-    from-below p g eq ep er =
-        rw (er, ep, eq, from-word count n fc en h) (rw (from-high-word now w fn ew g) (stepped d n (negsuc (2 ^ 64 - 1 - w)) above))
+-- ---- the remainder of a number that is not below Count, by its word
+
+pub not-negative : (w n : ℕ) → w < 2 ^ 63 → 0 < n → (w % n ≡ remainder (signed w) n) × (w % n < n)
+unfolding remainder
+not-negative w n h p = (rw (toZ-pos w64 {n = w} h) refl, mod-lt w p)
+
+pub negative : (w n r : ℕ) → w < 2 ^ 64 → 2 ^ 63 ≤ w → 0 < n → r ≡ n - suc ((2 ^ 64 - 1 - w) % n) → (r ≡ remainder (signed w) n) × (r < n)
+unfolding remainder
+negative w n r h g p e =
+    let k = 2 ^ 64 - 1 - w in
+    let s : signed w ≡ negsuc k = ap signed (let v : w ≡ 2 ^ 64 - suc k = omega arith in v) ∙ toZ-neg w64 k (omega arith) in
+    (e ∙ ap (λ z. remainder z n) (sym s), omega arith)

@@ -49,9 +49,15 @@ rows =
     ∷ up largest (pos (2 ^ 63 - 2)) 0
     ∷ up largest largest 1
     ∷ down largest smallest (2 ^ 63 - 3)
-    -- Count has shrunk
+    -- Count has shrunk, by little and from the largest number that can be shown
     ∷ up (pos 3) (pos 7) 2
     ∷ down (pos 3) (pos 7) 0
+    ∷ up (pos 3) (pos 3) 1
+    ∷ down (pos 3) (pos 3) 2
+    ∷ up (pos 3) (pos (2 ^ 63 - 2)) 1
+    ∷ down (pos 3) (pos (2 ^ 63 - 2)) 2
+    ∷ up (pos 1) (pos (2 ^ 63 - 2)) 0
+    ∷ down (pos (2 ^ 63 - 2)) (pos (2 ^ 63 - 2)) (2 ^ 63 - 3)
     -- -1, -3 and -4
     ∷ up (pos 3) (negsuc 0) 0
     ∷ down (pos 3) (negsuc 0) 1

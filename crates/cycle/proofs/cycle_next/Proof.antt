@@ -1,4 +1,4 @@
-use Rattle.cycle.proofs.Laws.{count-below, count-zero, from-above, from-below}
+use Rattle.cycle.proofs.Laws.{count-below, count-zero, from-below, from-shrunk}
 use borrow.Author.Needs.{needs}
 use Rattle.cycle.proofs.cycle_next.Statement.{statement}
 use Rattle.cycle.proofs.cycle_next.Tie as tie
@@ -15,26 +15,20 @@ returns-2 c = count-zero _ _ _ (c .before .before .before .fits .count) (c .befo
 unsigned-requires-2 : tie.Need-unsigned-requires-2
 unsigned-requires-2 c κs = search needs
 
-wrapped-requires : tie.Need-wrapped-requires
-wrapped-requires c κs = search needs
-
 step-requires : tie.Need-step-requires
 step-requires c κs = search needs
 
 returns-3 : tie.Need-returns-3
-returns-3 c = from-above _ _ _ (c .before .before .before .before .before .before .before .fits .count) (c .before .before .before .before .before .before .before .fits .now) _ (c .before .before .before .before .before .before .unsigned .ensures) (c .before .before .before .before .before .if1 .left) (c .before .before .before .before .if2 .left) _ (c .before .before .before .unsigned2 .ensures) _ _ (c .before .before .if3 .taken) (c .before .wrapped .ensures .0) (c .step .ensures)
+returns-3 c = from-below _ _ _ (c .before .before .before .before .before .before .fits .count) (c .before .before .before .before .before .before .fits .now) _ (c .before .before .before .before .before .unsigned .ensures) (c .before .before .before .before .if1 .left) (c .before .before .before .if2 .left) _ (c .before .before .unsigned2 .ensures) _ (c .step .ensures) (c .before .if3 .taken)
 
-wrapped-requires-2 : tie.Need-wrapped-requires-2
-wrapped-requires-2 c κs = search needs
-
-from-end-requires : tie.Need-from-end-requires
-from-end-requires c κs = search needs
+shrunk-requires : tie.Need-shrunk-requires
+shrunk-requires c κs = search needs
 
 step-requires-2 : tie.Need-step-requires-2
 step-requires-2 c κs = search needs
 
 returns-4 : tie.Need-returns-4
-returns-4 c = from-below _ _ _ (c .before .before .before .before .before .before .before .before .fits .count) (c .before .before .before .before .before .before .before .before .fits .now) _ (c .before .before .before .before .before .before .before .unsigned .ensures) (c .before .before .before .before .before .before .if1 .left) (c .before .before .before .before .before .if2 .left) _ (c .before .before .before .before .unsigned2 .ensures) _ _ _ (c .before .before .before .if3 .left) (c .before .before .wrapped2 .ensures .0) (c .before .from-end .ensures) (c .step2 .ensures)
+returns-4 c = from-shrunk _ _ _ (c .before .before .before .before .before .before .before .fits .count) (c .before .before .before .before .before .before .before .fits .now) _ (c .before .before .before .before .before .before .unsigned .ensures) (c .before .before .before .before .before .if1 .left) (c .before .before .before .before .if2 .left) _ (c .before .before .before .unsigned2 .ensures) _ _ (c .step2 .ensures) (c .before .shrunk .ensures .0)
 
 pub cycle-next-spec : {M : Type 1} → statement M
 cycle-next-spec =
@@ -44,10 +38,8 @@ cycle-next-spec =
     returns
     returns-2
     unsigned-requires-2
-    wrapped-requires
     step-requires
     returns-3
-    wrapped-requires-2
-    from-end-requires
+    shrunk-requires
     step-requires-2
     returns-4)

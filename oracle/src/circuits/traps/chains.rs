@@ -26,6 +26,8 @@ pub fn cases() -> Vec<Case> {
         forks_of_forks(),
         cycle_counts(),
         cycle_ends(),
+        cycle_shrinks(),
+        cycle_largest(),
         start_shows_nothing(),
         stored_zero(),
     ];
@@ -441,6 +443,41 @@ fn cycle_ends() -> Case {
     s.tick(0.25).give(count, values[3]).fire(up).tick(0.25).fire(up);
     let shows = "Cycle at the largest Counts, and after Count has shrunk.";
     Case::new("cycle-ends", shows, &c, &s).tells(&[31])
+}
+
+/// A Cycle shows `most` - 1; then Count is another, and it goes up or down.
+fn shrinking(name: &str, shows: &str, most: i64, counts: &[i64]) -> Case {
+    let mut c = Circuit::new();
+    let up = c.world_event(0);
+    let down = c.world_event(0);
+    let count = c.world_event(0);
+    let cycle = c.cycle(0, count);
+    c.call(up, cycle);
+    c.call(down, cycle.pin("ExecDown"));
+    let one = c.constant(1);
+    let most = c.constant(most);
+    let mut s = Script::new();
+    s.tick(0.25).give(count, most).fire(down);
+    for &n in counts {
+        let n = c.constant(n);
+        for pin in [up, down] {
+            s.tick(0.25).give(count, n).fire(pin);
+            s.tick(0.25).give(count, one).fire(up).tick(0.25).give(count, most).fire(down);
+        }
+    }
+    Case::new(name, shows, &c, &s).tells(&[31])
+}
+
+fn cycle_shrinks() -> Case {
+    let shows = "Cycle shows 999,999 when Count becomes 999,999, 500,000, 400,000, 7, 1, 0 or -5: up and down.";
+    shrinking("cycle-shrinks", shows, 1_000_000, &[999_999, 500_000, 400_000, 7, 1, 0, -5])
+}
+
+fn cycle_largest() -> Case {
+    let shows = "The largest Count: down from nothing shows 2^63 - 2; up from there, down, and with a Count that has \
+                 shrunk to 2^63 - 2, 2^62, 2^32, 3 or 1.";
+    let counts = [i64::MAX, i64::MAX - 1, 1 << 62, 1 << 32, 3, 1];
+    shrinking("cycle-largest", shows, i64::MAX, &counts)
 }
 
 fn start_shows_nothing() -> Case {
