@@ -1,5 +1,5 @@
 -- One call made, and the turns of a chain: one law for each way out of a function.
-use Prim.Native.Nat.{ℕ, zero, suc, _+_, _-_, _≤_, _<_}
+use Prim.Native.Nat.{ℕ, zero, suc, _-_, _≤_, _<_}
 use mathlib.Core.Path.{_≡_, refl, sym, ap, ap₂, _∙_, subst}
 use mathlib.Core.Bool.{Bool, true, false, not, cond, _&&_, and-true, and-false, true≢false}
 use mathlib.Core.List.{List, [], _∷_}
@@ -17,14 +17,12 @@ use Rattle.model.specs.Chain.{Calls, no-calls, Popped, pop, fit, push-calls, ru
 use Rattle.units.specs.View.{Units, units}
 use Rattle.units.specs.Calls as on-units
 use Rattle.units.specs.Calls.{popped, calls-left}
-use Rattle.wires.specs.View.{Values, values}
-use Rattle.states.specs.View.{Delays, delays, Lent}
+use Rattle.wires.specs.View.{values}
+use Rattle.states.specs.View.{delays}
 use Rattle.areas.specs.Areas.{Contents, together, areas, with-state, with-calls}
 use Rattle.steps.specs.declared.Step.{Step}
 use Rattle.steps.specs.declared.Step.the-variants.{Fires, Ends, Full as NoRoom}
 use Rattle.steps.specs.Steps.{stepped, Makes}
-use Rattle.steps.proofs.Far.{Alike}
-use Rattle.chain.specs.declared.Ran.{Ran}
 use Rattle.chain.specs.Chain.{Pushes, Makes-call, Runs}
 use Rattle.chain.proofs.Fits.{held-fit, was-done, was-full}
 
@@ -89,15 +87,6 @@ module _ (c : Circuit) (vs us ds vs₁ us₁ ds₁ : List ℕ) (i : ℕ) (step :
   pub call-full :
       step ≡ NoRoom → Makes-call (areas c vs us ds) (areas c vs₁ us₁ ds₁) Full (exec-gate c (areas c vs us ds .state) i) (push-calls c (exec-gate c (areas c vs us ds .state) i .next) (areas c vs us ds .calls))
   call-full h = made-full (areas c vs us ds) (areas c vs₁ us₁ ds₁) (exec-gate c (areas c vs us ds .state) i) step e _ h
-
--- A step that leads to the same state and makes the same calls makes the same call.
-pub alike-call : (c : Circuit) (a b : Contents) (r : Filed) (d e : Stepped) → Alike c d e → Makes-call a b r d (push-calls c (d .next) (a .calls)) → Makes-call a b r e (push-calls c (e .next) (a .calls))
-alike-call c a b r d e h m =
-    record {
-      answer = m .answer ∙ (λ j. cond (fit (h .calls (a .calls) j) && not (h .full j)) Done Full);
-      calls = λ t. m .calls ((λ j. fit (h .calls (a .calls) j) && not (h .full j)) ∙ t) ∙ h .calls (a .calls);
-      others = m .others ∙ ap (λ (s : State). with-calls (with-state a s) no-calls) (h .state);
-    }
 
 -- ---- the turns of a chain
 

@@ -10,12 +10,11 @@ use Rattle.schedule.specs.Keeping.{Did-bring, Tick-begins}
 use Rattle.schedule.proofs.Theorems.{run-begins}
 use Rattle.schedule.proofs.Ranked.{all-map}
 use Rattle.model.specs.Circuit.{Circuit, output}
-use Rattle.model.specs.Script.{Given}
 use Rattle.model.specs.State.{State, Act}
 use Rattle.model.specs.Chain.{Chained, run-chain}
 use Rattle.model.specs.Unit.{World, state≔, raises-in, begin, enter, run-unit, finish-chain}
 use Rattle.model.specs.Record.{read-outputs, write, close}
-use Rattle.model.specs.Run.{opening, body, closing, machine, world-at-start}
+use Rattle.model.specs.Run.{Allowed, opening, body, closing, machine, world-at-start}
 use Rattle.model.specs.Order.{numbered-ticks}
 use Rattle.model.specs.Fresh.{Begins-fresh, Tick-fresh}
 use Rattle.model.proofs.Lists.{if-both, if-by, all-append, map-all}
@@ -26,7 +25,7 @@ use Rattle.model.proofs.Afresh.{fine-fresh}
 use Rattle.model.proofs.Sound.{Sound, Brings, wires-sound}
 use Rattle.model.proofs.Stepping.{Going, run-chain-going}
 use Rattle.model.proofs.Calming.{published-sound}
-use Rattle.model.proofs.Starting.{Given-fine, start-sound, open-tick-sound}
+use Rattle.model.proofs.Starting.{Allowed-fine, start-sound, open-tick-sound}
 
 module _ (c : Circuit) (W : Wired c) where
   -- a state in which a unit may begin
@@ -46,58 +45,57 @@ module _ (c : Circuit) (W : Wired c) where
   entered-going : (w : World) (a : Act) → Brings c a → Ready w → Going c W no-exception (enter c (w .state) a)
   entered-going w a b z = record { late = []; sound = enter-sound (w .state) a b z }
 
-  module _ (limit : ℕ) where
-    abbrev S : Setup
-    S = numbered (machine c limit)
+  abbrev S : Setup
+  S = numbered (machine c)
 
-    finish-brings : (w : World) (r : Chained) → Going c W no-exception (r .state) → Did-bring Ready (Brings c) (finish-chain c w r)
-    unfolding finish-chain state≔
-    finish-brings w r z =
-        let y = published-sound c W no-exception (r .state) z in
-        if-by (Did-bring Ready (Brings c)) (eqb (r .stop) 0)
-        (λ _. record { world = λ _. y .state; raises = raises-bring w (r .left) _ (y .raises) })
-        (λ e. record { world = λ q. absurd (eqb-false (r .stop) 0 e q); raises = [·] })
+  finish-brings : (w : World) (r : Chained) → Going c W no-exception (r .state) → Did-bring Ready (Brings c) (finish-chain c w r)
+  unfolding finish-chain state≔
+  finish-brings w r z =
+      let y = published-sound c W no-exception (r .state) z in
+      if-by (Did-bring Ready (Brings c)) (eqb (r .stop) 0)
+      (λ _. record { world = λ _. y .state; raises = raises-bring w (r .left) _ (y .raises) })
+      (λ e. record { world = λ q. absurd (eqb-false (r .stop) 0 e q); raises = [·] })
 
-    pub body-brings : (w : World) (a : Act) → Brings c a → Ready w → Did-bring Ready (Brings c) (body c limit w a)
-    unfolding body run-unit
-    body-brings w a b z =
-        finish-brings w _ (run-chain-going c W no-exception (w .left) _ (enter c (w .state) a) (entered-going w a b z))
+  pub body-brings : (w : World) (a : Act) → Brings c a → Ready w → Did-bring Ready (Brings c) (body c w a)
+  unfolding body run-unit
+  body-brings w a b z =
+      finish-brings w _ (run-chain-going c W no-exception (w .left) _ (enter c (w .state) a) (entered-going w a b z))
 
-    -- ---- the opening and the closing of a tick
+  -- ---- the opening and the closing of a tick
 
-    pub opening-brings : (w : World) (given : Given) → Given-fine c given → Ready w → Did-bring Ready (Brings c) (opening c limit w given)
-    unfolding opening state≔
-    opening-brings w given q z =
-        let y = open-tick-sound c W [] (w .state) given q z in
-        record { world = λ _. y .state; raises = raises-bring w limit _ (y .raises) }
+  pub opening-brings : (w : World) (i : Allowed) → Allowed-fine c i → Ready w → Did-bring Ready (Brings c) (opening c w i)
+  unfolding opening state≔
+  opening-brings w i q z =
+      let y = open-tick-sound c W [] (w .state) (i .given) q z in
+      record { world = λ _. y .state; raises = raises-bring w (i .limit) _ (y .raises) }
 
-    read-outputs-sound : (s : State) (stop : ℕ) → Sound c no-exception [] s → Sound c no-exception [] (read-outputs c s stop)
-    unfolding read-outputs
-    read-outputs-sound s stop z = if-both (Sound c no-exception []) _ (wires-sound c z (refresh-all-fine c W no-exception [] (s .wires) (z .wires))) z
+  read-outputs-sound : (s : State) (stop : ℕ) → Sound c no-exception [] s → Sound c no-exception [] (read-outputs c s stop)
+  unfolding read-outputs
+  read-outputs-sound s stop z = if-both (Sound c no-exception []) _ (wires-sound c z (refresh-all-fine c W no-exception [] (s .wires) (z .wires))) z
 
-    pub closing-ready : (w : World) (o : Outcome Act) → Ready w → Ready (closing c limit w o .world)
-    unfolding closing close write state≔
-    closing-ready w o z =
-        let y = read-outputs-sound (w .state) (o .stop) z in
-        if-both (λ (k : Closed World). Ready (k .world)) _ y y
+  pub closing-ready : (w : World) (i : Allowed) (o : Outcome Act) → Ready w → Ready (closing c w i o .world)
+  unfolding closing close write state≔
+  closing-ready w i o z =
+      let y = read-outputs-sound (w .state) (o .stop) z in
+      if-both (λ (k : Closed World). Ready (k .world)) _ y y
 
-    -- ---- the run
+  -- ---- the run
 
-    pub run-ready : (room : ℕ) (given : List Given) → All (Given-fine c) given → All (Tick-begins S Ready (Brings c)) (numbered-ticks c limit room given)
-    unfolding world-at-start
-    run-ready room given a = run-begins S Ready (Brings c) (Given-fine c) opening-brings body-brings closing-ready given _ a (start-sound c W)
+  pub run-ready : (room : ℕ) (is : List Allowed) → All (Allowed-fine c) is → All (Tick-begins S Ready (Brings c)) (numbered-ticks c room is)
+  unfolding world-at-start
+  run-ready room is a = run-begins S Ready (Brings c) (Allowed-fine c) opening-brings body-brings closing-ready is _ a (start-sound c W)
 
-    pub unit-fresh : (w : World) (a : Act) → Brings c a → Ready w → Begins-fresh c w a
-    unit-fresh w a b z =
-        record {
-          begun = fine-fresh c W (w .state .wires) (z .wires);
-          entered = fine-fresh c W (enter c (w .state) a .wires) (enter-sound (w .state) a b z .wires);
-          until-set = λ steps e.
-              let f = run-chain-going c W no-exception steps (begin c a) (enter c (w .state) a) (entered-going w a b z) .sound .wires in
-              fine-fresh c W _ (subst (λ (l : List ℕ). Fine c no-exception l (run-chain c steps (begin c a) (enter c (w .state) a) .state .wires)) (sym (f .written) ∙ e) f);
-        }
+  pub unit-fresh : (w : World) (a : Act) → Brings c a → Ready w → Begins-fresh c w a
+  unit-fresh w a b z =
+      record {
+        begun = fine-fresh c W (w .state .wires) (z .wires);
+        entered = fine-fresh c W (enter c (w .state) a .wires) (enter-sound (w .state) a b z .wires);
+        until-set = λ steps e.
+            let f = run-chain-going c W no-exception steps (begin c a) (enter c (w .state) a) (entered-going w a b z) .sound .wires in
+            fine-fresh c W _ (subst (λ (l : List ℕ). Fine c no-exception l (run-chain c steps (begin c a) (enter c (w .state) a) .state .wires)) (sym (f .written) ∙ e) f);
+      }
 
-    pub run-fresh : (room : ℕ) (given : List Given) → All (Given-fine c) given → All (Tick-fresh c limit) (numbered-ticks c limit room given)
-    run-fresh room given a =
-        all-map (λ k b. all-append (all-map (λ u x. unit-fresh (u .from) (u .unit .act) (x .act) (x .from)) (b .late)) (all-map (λ u x. unit-fresh (u .from) (u .unit .act) (x .act) (x .from)) (b .main)))
-        (run-ready room given a)
+  pub run-fresh : (room : ℕ) (is : List Allowed) → All (Allowed-fine c) is → All (Tick-fresh c) (numbered-ticks c room is)
+  run-fresh room is a =
+      all-map (λ k b. all-append (all-map (λ u x. unit-fresh (u .from) (u .unit .act) (x .act) (x .from)) (b .late)) (all-map (λ u x. unit-fresh (u .from) (u .unit .act) (x .act) (x .from)) (b .main)))
+      (run-ready room is a)

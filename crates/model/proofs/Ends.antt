@@ -12,12 +12,11 @@ use Rattle.schedule.specs.Promise.{All, _∷·_}
 use Rattle.schedule.proofs.Every.{every}
 use Rattle.model.specs.Base.{among}
 use Rattle.model.specs.Circuit.{Circuit, circuit}
-use Rattle.model.specs.Script.{Given, script}
 use Rattle.model.specs.State.{State, Act}
 use Rattle.model.specs.Exec.{Stepped, exec-gate}
 use Rattle.model.specs.Chain.{Calls, Popped, pop, fit, Chained, chained, push-calls, run-chain, runaway}
 use Rattle.model.specs.Unit.{World, run-unit}
-use Rattle.model.specs.Run.{most-steps, opening, body, closing, machine, ticks-of, last-stop, seen}
+use Rattle.model.specs.Run.{Allowed, ticks-get, opening, body, closing, machine, ticks-of, last-stop, seen}
 use Rattle.model.specs.Questions.{Areas, circuit-refusal, script-refusal, or-else, refusal}
 use Rattle.model.specs.Answer.{Answers, is-refused, is-played, play, answer-to, answer}
 use Rattle.model.proofs.Lists.{if-both}
@@ -56,11 +55,11 @@ module _ (Q : ℕ → Type 0) (z : Q 0) (r : Q runaway) (f : Q list-full) (l : Q
           fits true d r rec = rec r (d .state)
           fits false d r rec = f
 
-  module _ (c : Circuit) (limit : ℕ) where
+  module _ (c : Circuit) where
     abbrev S : Setup
-    S = plain (machine c limit)
+    S = plain (machine c)
 
-    body-stop : (w : World) (a : Act) → Q (body c limit w a .stop)
+    body-stop : (w : World) (a : Act) → Q (body c w a .stop)
     unfolding body run-unit
     body-stop w a = subst Q (sym (finish-stop c w (run-unit c w a))) (chain-stop c (w .left) _ _)
 
@@ -93,7 +92,7 @@ module _ (Q : ℕ → Type 0) (z : Q 0) (r : Q runaway) (f : Q list-full) (l : Q
             ((t₁ : Unit {0}) (q₁ : T) (w₁ : World) (s₁ : ℕ) → Q s₁ → Q (pass S next activate n t₁ q₁ w₁ s₁ .stop)) →
             (x : Took (Activation S) T) →
             Q (pass-on S x (no-turn S (suc n) t q w 0) (λ u q′.
-            let d = body c limit w (u .act) in
+            let d = body c w (u .act) in
             let k = raise-all S (λ p. activate u) (d .raises) t q′ (d .world) (d .stop) in
             turning S u w (k .raised) (eqb (d .stop) 0) (pass S next activate n (k .next) (k .queue) (k .world) (k .stop))) .stop)
         go rec empty = z
@@ -104,26 +103,26 @@ module _ (Q : ℕ → Type 0) (z : Q 0) (r : Q runaway) (f : Q list-full) (l : Q
     closed-stop true s k = k
     closed-stop false s k = l
 
-    tick-stop : (w : World) (i : Given) (came : List (Activation S)) (t : Unit {0}) → Q (tick S w i came t .stop)
+    tick-stop : (w : World) (i : Allowed) (came : List (Activation S)) (t : Unit {0}) → Q (tick S w i came t .stop)
     unfolding tick late-pass main-pass opening
     tick-stop w i came t =
-        let d = opening c limit w i in
+        let d = opening c w i in
         let o = raise-all S (activate-open S) (d .raises) t (record { lateq = record { late = push-all S came []; delivered = [] }; pending = [] }) (d .world) (d .stop) in
         let l = late-pass S most-units (o .next) (o .queue .lateq) (o .world) (o .stop) in
         let m = main-pass S (l .left) (l .next) (record { pending = o .queue .pending; carried = [] }) (l .world) (l .stop) in
-        closed-stop (closing c limit (m .world) (outcome S (l .turns) (m .turns) (m .queue .carried) (m .stop)) .fits) (m .stop)
+        closed-stop (closing c (m .world) i (outcome S (l .turns) (m .turns) (m .queue .carried) (m .stop)) .fits) (m .stop)
         (pass-stop (next-main S) (activate-main S) (l .left) (l .next) (record { pending = o .queue .pending; carried = [] }) (l .world) (l .stop)
         (pass-stop (next-late S) (activate-late S) most-units (o .next) (o .queue .lateq) (o .world) (o .stop)
         (raise-stop (activate-open S) (d .raises) t (record { lateq = record { late = push-all S came []; delivered = [] }; pending = [] }) (d .world) (d .stop) z)))
 
-    last-of : (ts : List (Tick S)) → All (λ t. Q (t .stop)) ts → Q (last-stop c limit ts)
+    last-of : (ts : List (Tick S)) → All (λ t. Q (t .stop)) ts → Q (last-stop c ts)
     unfolding last-stop
     last-of [] a = z
     last-of (t ∷ ts) (_∷·_ h a) = if-both Q (eqb (t .stop) 0) (last-of ts a) h
 
-    run-stop : (room : ℕ) (given : List Given) → Q (seen c limit (ticks-of c limit room given) .stop)
+    run-stop : (room : ℕ) (is : List Allowed) → Q (seen c (ticks-of c room is) .stop)
     unfolding seen ticks-of
-    run-stop room given = last-of _ (every S (λ t. Q (t .stop)) tick-stop given _)
+    run-stop room is = last-of _ (every S (λ t. Q (t .stop)) tick-stop is _)
 
 -- ---- a refusal
 
@@ -156,5 +155,5 @@ unfolding answer answer-to play among
 numbers areas room cb sb = go (refusal (some areas) cb sb) (refusal-number (some areas) cb sb)
   where
     go : (n : ℕ) → n ≤ 10 → Answers (answer-to n room cb sb)
-    go zero h = is-played (run-stop (λ s. among s (0 ∷ 11 ∷ 12 ∷ 13 ∷ []) ≡ true) refl refl refl refl (circuit (words cb)) most-steps room (script (circuit (words cb) .constants) (words sb)))
+    go zero h = is-played (run-stop (λ s. among s (0 ∷ 11 ∷ 12 ∷ 13 ∷ []) ≡ true) refl refl refl refl (circuit (words cb)) room (ticks-get (circuit (words cb)) (words sb)))
     go (suc n) h = let one : 1 ≤ suc n = omega arith in is-refused one h

@@ -118,7 +118,7 @@ module _ (c : Circuit) where
   -- ---- marking
 
   pub marked-alike : (w : Wires) (o : ℕ) → Alike w (mark-readers c w o)
-  marked-alike w o = mark-readers-keeps c (Alike w) (λ v g p a. alike-again a (soil-alike v g)) (λ v i a. alike-again a (watch-alike v i)) w o (alike-itself w)
+  marked-alike w o = mark-readers-keeps c (Alike w) (λ v g p a. alike-again a (soil-alike v g)) (λ v i q a. alike-again a (watch-alike v i)) w o (alike-itself w)
 
   module _ (W : Wired c) (t : Except) (late : List ℕ) where
     pub set-out-fine : (w : Wires) (o : ℕ) (v : Value) → Other c o → Real v → Fine t late w → Fine t late (set-out c w o v)

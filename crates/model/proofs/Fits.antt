@@ -16,11 +16,10 @@ use Rattle.schedule.specs.Keeping.{Did-keep}
 use Rattle.schedule.proofs.Keeps.{tick-closes}
 use Rattle.model.specs.Base.{if_then_else_, joined}
 use Rattle.model.specs.Circuit.{Circuit, circuit}
-use Rattle.model.specs.Script.{Given}
 use Rattle.model.specs.State.{State, Act}
 use Rattle.model.specs.Unit.{World, state≔, raises-in, finish-chain}
 use Rattle.model.specs.Record.{write, close}
-use Rattle.model.specs.Run.{Played, opening, body, closing, machine, world-at-start, ticks-of, seen}
+use Rattle.model.specs.Run.{Played, Allowed, opening, body, closing, machine, world-at-start, ticks-of, seen}
 use Rattle.model.specs.Questions.{Areas, refusal}
 use Rattle.model.specs.Answer.{Answer, refused, played, play, answer-to, answer, log-after, area-after}
 use Rattle.model.proofs.Lists.{if-both, map-all, all-of}
@@ -34,10 +33,10 @@ write-room w r = go (leb (8 * length r) (w .room)) refl
     go true h = let l : 8 * length r ≤ w .room = leb-true _ _ h in rw h (omega arith)
     go false h = rw h (omega arith)
 
-module _ (c : Circuit) (limit : ℕ) where
-  closing-room : (w : World) (o : Outcome Act) → 8 * length (closing c limit w o .world .logged) + closing c limit w o .world .room ≡ w .room
+module _ (c : Circuit) where
+  closing-room : (w : World) (i : Allowed) (o : Outcome Act) → 8 * length (closing c w i o .world .logged) + closing c w i o .world .room ≡ w .room
   unfolding closing close state≔
-  closing-room w o = write-room _ _
+  closing-room w i o = write-room _ _
 
   -- nothing else does
   module _ (room : ℕ) where
@@ -48,36 +47,36 @@ module _ (c : Circuit) (limit : ℕ) where
     unfolding raises-in state≔
     raised-free w left rs h = map-all _ _ (all-of (λ r. h) rs)
 
-    opening-free : (w : World) (given : Given) → Free w → Did-keep Free (opening c limit w given)
+    opening-free : (w : World) (i : Allowed) → Free w → Did-keep Free (opening c w i)
     unfolding opening state≔
-    opening-free w given h = record { world = h; raises = raised-free w limit _ h }
+    opening-free w i h = record { world = h; raises = raised-free w (i .limit) _ h }
 
-    body-free : (w : World) (a : Act) → Free w → Did-keep Free (body c limit w a)
+    body-free : (w : World) (a : Act) → Free w → Did-keep Free (body c w a)
     unfolding body finish-chain state≔
     body-free w a h = if-both (Did-keep Free) _ (record { world = h; raises = raised-free w _ _ h }) (record { world = h; raises = [·] })
 
   -- the records of the ticks from a world on
-  abbrev log-of : List (Tick (plain (machine c limit))) → List ℕ
-  log-of ts = joined (map (λ (t : Tick (plain (machine c limit))). t .world .logged) ts)
+  abbrev log-of : List (Tick (plain (machine c))) → List ℕ
+  log-of ts = joined (map (λ (t : Tick (plain (machine c))). t .world .logged) ts)
 
-  fits-on : (is : List Given) (w : World) (came : List (Activation (plain (machine c limit)))) → 8 * length (log-of (run-on (plain (machine c limit)) is w came tt)) ≤ w .room
+  fits-on : (is : List Allowed) (w : World) (came : List (Activation (plain (machine c)))) → 8 * length (log-of (run-on (plain (machine c)) is w came tt)) ≤ w .room
   unfolding run-on joined
   fits-on [] w came = omega arith
   fits-on (i ∷ is) w came =
-      let k = tick (plain (machine c limit)) w i came tt in
-      let T = tick-closes (plain (machine c limit)) (Free (w .room)) (opening-free (w .room)) (body-free (w .room)) w i came tt refl in
-      let e = closing-room (T .before) (T .done) in
+      let k = tick (plain (machine c)) w i came tt in
+      let T = tick-closes (plain (machine c)) (Free (w .room)) (body-free (w .room)) w i came tt (opening-free (w .room) w i refl) in
+      let e = closing-room (T .before) i (T .done) in
       let h : 8 * length (k .world .logged) + k .world .room ≡ w .room = ap (λ (v : World). 8 * length (v .logged) + v .room) (T .world) ∙ e ∙ T .holds in
-      let r = go (k .stop) (run-on (plain (machine c limit)) is (k .world) (k .carried) (k .next)) (k .world .room) (fits-on is (k .world) (k .carried)) in
-      omega (arith, h, r, length-append (k .world .logged) (log-of (go-on (plain (machine c limit)) (k .stop) (run-on (plain (machine c limit)) is (k .world) (k .carried) (k .next)))))
+      let r = go (k .stop) (run-on (plain (machine c)) is (k .world) (k .carried) (k .next)) (k .world .room) (fits-on is (k .world) (k .carried)) in
+      omega (arith, h, r, length-append (k .world .logged) (log-of (go-on (plain (machine c)) (k .stop) (run-on (plain (machine c)) is (k .world) (k .carried) (k .next)))))
     where
-      go : (s : ℕ) (ts : List (Tick (plain (machine c limit)))) (n : ℕ) → 8 * length (log-of ts) ≤ n → 8 * length (log-of (go-on (plain (machine c limit)) s ts)) ≤ n
+      go : (s : ℕ) (ts : List (Tick (plain (machine c)))) (n : ℕ) → 8 * length (log-of ts) ≤ n → 8 * length (log-of (go-on (plain (machine c)) s ts)) ≤ n
       go zero ts n h = h
       go (suc s) ts n h = omega arith
 
 pub play-fits : (room : ℕ) (c : Circuit) (script-words : List ℕ) → 8 * length (play room c script-words .log) ≤ room
 unfolding play seen ticks-of run world-at-start
-play-fits room c script-words = fits-on c _ _ _ []
+play-fits room c script-words = fits-on c _ _ []
 
 -- ---- what a call leaves is as long as what it was lent
 

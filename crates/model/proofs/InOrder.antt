@@ -16,11 +16,10 @@ use Rattle.schedule.proofs.Every.{every}
 use Rattle.schedule.proofs.Ranked.{all-map}
 use Rattle.model.specs.Base.{if_then_else_}
 use Rattle.model.specs.Circuit.{Circuit, circuit}
-use Rattle.model.specs.Script.{Given, script}
 use Rattle.model.specs.State.{Act}
 use Rattle.model.specs.Unit.{World, state≔, run-unit}
 use Rattle.model.specs.Record.{read-outputs, steps, head, units-begun, outputs-shown, log-record, write, close}
-use Rattle.model.specs.Run.{most-steps, opening, body, closing, machine, world-at-start, ticks-of, seen}
+use Rattle.model.specs.Run.{Allowed, ticks-get, opening, body, closing, machine, world-at-start, ticks-of, seen}
 use Rattle.model.specs.Questions.{Areas, refusal}
 use Rattle.model.specs.Answer.{played, play, answer-to, answer}
 use Rattle.model.specs.Order.{Recorded, Ended, Whole-run-in-order}
@@ -36,19 +35,19 @@ pub write-over : (w : World) (r : List ℕ) → leb (8 * length r) (w .room) ≡
 unfolding write if_then_else_
 write-over w r h = (rw h, rw h)
 
-module _ (c : Circuit) (limit : ℕ) where
+module _ (c : Circuit) where
   abbrev S : Setup
-  S = numbered (machine c limit)
+  S = numbered (machine c)
 
   -- ---- a unit that has run
-  ended-of : (u : Turn S) → Ran-as-told S u → Ended c limit u
+  ended-of : (u : Turn S) → Ran-as-told S u → Ended c u
   unfolding body
   ended-of u h r =
       unit-ended c (u .from) (u .unit .act)
       (sym (finish-stop c (u .from) (run-unit c (u .from) (u .unit .act))) ∙ eqb-true _ 0 (sym h ∙ r))
 
-  pub all-ended : (given : List Given) (w : World) → All (λ t. All (Ended c limit) (t .late) × All (Ended c limit) (t .main)) (run S given w)
-  all-ended given w = all-map (λ t a. (all-map ended-of (a .0), all-map ended-of (a .1))) (ran-as-told S given w)
+  pub all-ended : (is : List Allowed) (w : World) → All (λ t. All (Ended c) (t .late) × All (Ended c) (t .main)) (run S is w)
+  all-ended is w = all-map (λ t a. (all-map ended-of (a .0), all-map ended-of (a .1))) (ran-as-told S is w)
 
   -- ---- the record's counts
   acts-length : (us : List (Turn S)) → length (acts S us) ≡ length us
@@ -57,12 +56,12 @@ module _ (c : Circuit) (limit : ℕ) where
 
   -- the record begins with its head
   record-is :
-      (w : World) (late main : List (Turn S)) (carried : List (Activation S)) (stop : ℕ) →
+      (limit : ℕ) (w : World) (late main : List (Turn S)) (carried : List (Activation S)) (stop : ℕ) →
       let o = outcome S late main carried stop in
       log-record limit w o
       ≡ w .state .wires .tick ∷ steps limit w stop ∷ length late ∷ length main ∷ length carried ∷ stop ∷ (units-begun o ++ outputs-shown (w .state) stop)
   unfolding log-record head
-  record-is w late main carried stop =
+  record-is limit w late main carried stop =
       let o = outcome S late main carried stop in
       λ j.
       w .state .wires .tick ∷ steps limit w stop ∷ acts-length late j ∷ acts-length main j ∷ length-map carried (λ (e : Activation S). e .act) j ∷ stop ∷ (units-begun o ++ outputs-shown (w .state) stop)
@@ -75,12 +74,12 @@ module _ (c : Circuit) (limit : ℕ) where
 
   -- what closing a tick came to: its record, or none that fits
   closed-as :
-      (w : World) (late main : List (Turn S)) (carried : List (Activation S)) (stop : ℕ) →
-      let z = closing c limit w (outcome S late main carried stop) in
+      (w : World) (i : Allowed) (late main : List (Turn S)) (carried : List (Activation S)) (stop : ℕ) →
+      let z = closing c w i (outcome S late main carried stop) in
       As-recorded (z .world .logged) late main carried (cond (z .fits) stop log-full)
       ⊎ ((cond (z .fits) stop log-full ≡ log-full) × (z .world .logged ≡ []))
   unfolding closing close
-  closed-as w late main carried stop = go (leb (8 * length r) (v .room)) refl
+  closed-as w i late main carried stop = go (leb (8 * length r) (v .room)) refl
     where
       o : Outcome Act
       o = outcome S late main carried stop
@@ -89,27 +88,27 @@ module _ (c : Circuit) (limit : ℕ) where
       v = state≔ w (w .left) (read-outputs c (w .state) (o .stop))
 
       r : List ℕ
-      r = log-record limit v o
+      r = log-record (i .limit) v o
 
       go :
           (b : Bool) → leb (8 * length r) (v .room) ≡ b →
           let z = write v r in
           As-recorded (z .world .logged) late main carried (cond (z .fits) stop log-full)
           ⊎ ((cond (z .fits) stop log-full ≡ log-full) × (z .world .logged ≡ []))
-      go true h = let e = write-fits v r h in inl (v .state .wires .tick, steps limit v stop, outputs-shown (v .state) stop, rw (e .1) (e .0 ∙ record-is v late main carried stop))
+      go true h = let e = write-fits v r h in inl (v .state .wires .tick, steps (i .limit) v stop, outputs-shown (v .state) stop, rw (e .1) (e .0 ∙ record-is (i .limit) v late main carried stop))
       go false h = let e = write-over v r h in inr (rw (e .1) refl, e .0)
 
-  tick-recorded : (w : World) (i : Given) (came : List (Activation S)) (t : ℕ) → Recorded c limit (tick S w i came t)
+  tick-recorded : (w : World) (i : Allowed) (came : List (Activation S)) (t : ℕ) → Recorded c (tick S w i came t)
   unfolding tick
   tick-recorded w i came t =
-      let d = opening c limit w i in
+      let d = opening c w i in
       let o = raise-all S (activate-open S) (d .raises) t (record { lateq = record { late = push-all S came []; delivered = [] }; pending = [] }) (d .world) (d .stop) in
       let l = late-pass S most-units (o .next) (o .queue .lateq) (o .world) (o .stop) in
       let m = main-pass S (l .left) (l .next) (record { pending = o .queue .pending; carried = [] }) (l .world) (l .stop) in
-      closed-as (m .world) (l .turns) (m .turns) (m .queue .carried) (m .stop)
+      closed-as (m .world) i (l .turns) (m .turns) (m .queue .carried) (m .stop)
 
-  pub all-recorded : (given : List Given) (w : World) → All (Recorded c limit) (run S given w)
-  all-recorded given w = every S (Recorded c limit) tick-recorded given w
+  pub all-recorded : (is : List Allowed) (w : World) → All (Recorded c) (run S is w)
+  all-recorded is w = every S (Recorded c) tick-recorded is w
 
 -- ---- the whole promise
 
@@ -122,12 +121,12 @@ pub in-order : (areas : Areas) (room : ℕ) (cb sb : List ℕ) → refusal (some
 unfolding play ticks-of
 in-order areas room cb sb h =
     let c = circuit (words cb) in
-    let given = script (c .constants) (words sb) in
-    let w = world-at-start c most-steps room in
+    let is = ticks-get c (words sb) in
+    let w = world-at-start c room in
     record {
-      order = order (machine c most-steps) given w;
-      follows = follows (numbered (machine c most-steps)) given w;
-      recorded = all-recorded c most-steps given w;
-      ended = all-ended c most-steps given w;
-      answered = answer-is areas room cb sb h ∙ ap (λ (ts : List (Tick (plain (machine c most-steps)))). played (seen c most-steps ts)) (erasure (numbered (machine c most-steps)) given w);
+      order = order (machine c) is w;
+      follows = follows (numbered (machine c)) is w;
+      recorded = all-recorded c is w;
+      ended = all-ended c is w;
+      answered = answer-is areas room cb sb h ∙ ap (λ (ts : List (Tick (plain (machine c)))). played (seen c ts)) (erasure (numbered (machine c)) is w);
     }

@@ -53,7 +53,7 @@ module _ (c : Circuit) where
       {w : Wires} {last : List (Option Value)} {pulses written : List ℕ} {passed : List Bool} → Sized-wires c w → Sized-memory c last pulses written passed →
       Sized-wires c (unions-passed≔ (written≔ (pulses≔ (last≔ w last) pulses) written) passed)
   unfolding unions-passed≔ written≔ pulses≔ last≔ is-dirty
-  memory-sized z m = record { outs = z .outs; dirty = z .dirty; queued = z .queued; stale = z .stale; waiting = z .waiting; memory = m }
+  memory-sized z m = record { outs = z .outs; dirty = z .dirty; queued = z .queued; stale = z .stale; waiting = z .waiting; asked = z .asked; memory = m }
 
   pub last-sized : {w : Wires} (i : ℕ) (v : Option Value) → Sized-wires c w → Sized-wires c (last≔ w (set (w .last) i v))
   unfolding unions-passed≔ written≔ pulses≔ last≔
@@ -230,6 +230,7 @@ module _ (c : Circuit) where
         queued = length-replicate (length (c .pins)) false;
         stale = λ g e. sym (List·getD-map pure (c .kinds) g 0) ∙ e;
         waiting = omega arith;
+        asked = [·];
         memory =
             record {
               last = length-replicate (length (c .pins)) none;
@@ -271,7 +272,7 @@ module _ (c : Circuit) where
 
   pub times-sized : (w : Wires) (t x y : ℕ) → Sized-wires c w → Sized-wires c (times≔ w t x y)
   unfolding times≔ is-dirty
-  times-sized w t x y z = record { outs = z .outs; dirty = z .dirty; queued = z .queued; stale = z .stale; waiting = z .waiting; memory = z .memory }
+  times-sized w t x y z = record { outs = z .outs; dirty = z .dirty; queued = z .queued; stale = z .stale; waiting = z .waiting; asked = z .asked; memory = z .memory }
 
   begin-tick-sized : (s : State) (dt : ℕ) → Sized c s → Sized c (begin-tick s dt)
   unfolding begin-tick next-tick times≔

@@ -282,6 +282,9 @@ pub map-all : {A B : Type 0} (P : B → Type 0) (f : A → B) {xs : List A} → 
 map-all P f [·] = [·]
 map-all P f (_∷·_ p a) = _∷·_ p (map-all P f a)
 
+pub all-rest : {A : Type 0} {P : A → Type 0} {x : A} {xs : List A} → All P (x ∷ xs) → All P xs
+all-rest (_∷·_ p ps) = ps
+
 pub all-of : {A : Type 0} {P : A → Type 0} → ((a : A) → P a) → (xs : List A) → All P xs
 all-of k [] = [·]
 all-of k (x ∷ xs) = _∷·_ (k x) (all-of k xs)

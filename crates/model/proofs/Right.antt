@@ -223,8 +223,8 @@ module _ (c : Circuit) where
               wider t late (swap (output c (gate-at-input c i) 0))
               (soil-right (m .wires) (gate-at-input c i) (o ∷ m .work) p (λ e. clash e u) (k .right));
         }) k)
-        (λ _. if-both (Marks o) _
-        (record { sized = watch-sized c (m .wires) i (k .sized); right = watch-right (m .wires) i (o ∷ m .work) (k .right) }) k)
+        (λ _. if-by (Marks o) (watching c i)
+        (λ q. record { sized = watch-sized c (m .wires) i q (k .sized); right = watch-right (m .wires) i (o ∷ m .work) (k .right) }) (λ _. k))
       where
         swap : (x q : ℕ) → among q (x ∷ o ∷ m .work) ≡ true → among q (o ∷ x ∷ m .work) ≡ true
         swap x q e = go (among-either q x (o ∷ m .work) e)

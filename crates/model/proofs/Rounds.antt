@@ -22,7 +22,7 @@ use Rattle.model.specs.Settle.{calm, check-on, publish-writes, settle}
 use Rattle.model.specs.Opening.{start, open-tick}
 use Rattle.model.specs.Unit.{World, run-unit, finish-chain}
 use Rattle.model.specs.Record.{read-outputs}
-use Rattle.model.specs.Run.{machine, ticks-of}
+use Rattle.model.specs.Run.{Allowed, machine, ticks-of}
 use Rattle.model.specs.Questions.{Areas, question-1, question-3, question-6, refusal}
 use Rattle.model.proofs.Laid.{Laid, laid, Full, filled}
 use Rattle.model.proofs.Asked.{Accepted, accepted}
@@ -143,5 +143,5 @@ module _ (c : Circuit) where
   read-outputs-keeps = read-outputs-sized c
 
   -- wherever a unit begins and after each tick, of any script, whatever the steps that a tick may make and the room of the log
-  pub run-has : Laid c → (limit room : ℕ) (given : List Given) → All (Tick-keeps (plain (machine c limit)) (λ w. Sized c (w .state))) (ticks-of c limit room given)
-  run-has laid limit = run-sized c limit laid
+  pub run-has : Laid c → (room : ℕ) (is : List Allowed) → All (Tick-keeps (plain (machine c)) (λ w. Sized c (w .state))) (ticks-of c room is)
+  run-has = run-sized c

@@ -56,7 +56,7 @@ module _ (c : Circuit) where
   marked-outs : (w : Wires) (o : ℕ) → mark-readers c w o .outs ≡ w .outs
   unfolding soil watch dirty≔ to-check≔
   marked-outs w o =
-      mark-readers-keeps c (λ v. v .outs ≡ w .outs) (λ v g p e. e) (λ v i e. if-both (λ (u : Wires). u .outs ≡ w .outs) _ e e) w o refl
+      mark-readers-keeps c (λ v. v .outs ≡ w .outs) (λ v g p e. e) (λ v i q e. if-both (λ (u : Wires). u .outs ≡ w .outs) _ e e) w o refl
 
   waiting-most : (w : Wires) → Sized-wires c w → length (w .to-check) ≤ length (c .pins)
   unfolding marks

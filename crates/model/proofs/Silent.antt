@@ -194,4 +194,4 @@ module _ (c : Circuit) (D : ℕ → Bool) where
       (omega (arith, count-most (λ _ b. not b) 0 (v .dirty), y .dirty))
 
   pub mark-readers-silent : (w : Wires) (o : ℕ) → Silent w → Silent (mark-readers c w o)
-  mark-readers-silent = mark-readers-keeps c Silent (λ w g p s. soil-silent w g s) watch-silent
+  mark-readers-silent = mark-readers-keeps c Silent (λ w g p s. soil-silent w g s) (λ w i q s. watch-silent w i s)

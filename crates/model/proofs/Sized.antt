@@ -1,6 +1,6 @@
--- What holds of every state: its lists have the circuit's lengths, only pure gates are stale, no more inputs wait than are marked, each Var written and each
--- event's gate is listed once. Here for the wires.
-use mathlib.Core.Path.{_≡_, refl, sym, ap, _∙_}
+-- What holds of every state: its lists have the circuit's lengths, only pure gates are stale, no more inputs wait than are marked, and only watched
+-- ones, each Var written and each event's gate is listed once. Here for the wires.
+use mathlib.Core.Path.{_≡_, refl, sym, ap, _∙_, subst}
 use mathlib.Core.Bool.{Bool, true, false, _||_, true≢false}
 use mathlib.Core.List.{List, [], _∷_, map}
 use mathlib.Core.Option.{Option, none, some}
@@ -10,16 +10,17 @@ use lib.Dec.{leb, ltb}
 use lib.ListN.{length, getD, set, length-set}
 use lib.Seq.{set-out as set-past}
 use borrow.Author.Tests.{ltb-true, ltb-false}
+use Rattle.schedule.specs.Promise.{All, [·], _∷·_}
 use Rattle.model.specs.declared.Value.{Value}
-use Rattle.model.specs.Base.{each}
+use Rattle.model.specs.Base.{each, snoc}
 use Rattle.model.specs.Value.{bit}
 use Rattle.model.specs.Kinds.{pure}
-use Rattle.model.specs.Circuit.{Circuit, most-inputs, kind-of-gate, inputs-of, gate-at-input, source, gate-at-output, readers-of, gates}
+use Rattle.model.specs.Circuit.{Circuit, most-inputs, kind-of-gate, inputs-of, gate-at-input, source, gate-at-output, readers-of, watching, gates}
 use Rattle.model.specs.State.{Wires, Send, State, outs≔, dirty≔, to-check≔}
 use Rattle.model.specs.Wires.{show, is-dirty, soil, clean, watch, Marking, behind, recompute, refresh-to, refresh, refresh-all, ready, mark-reader, mark-on, mark-readers, set-out, set-outs}
 use Rattle.model.specs.Exec.{var}
 use Rattle.model.proofs.Once.{Once}
-use Rattle.model.proofs.Lists.{if-both, if-by, each-keeps, bit-most, count, count-set, in-range, set-marked, snoc-length, either-false}
+use Rattle.model.proofs.Lists.{if-both, if-by, each-keeps, bit-most, count, count-set, in-range, set-marked, snoc-length, either-false, all-append, all-rest}
 
 -- the marks of a list
 unfoldable pub marks : List Bool → ℕ
@@ -39,8 +40,9 @@ pub record Sized-wires (c : Circuit) (w : Wires) : Type 0 where
   pub queued : length (w .queued) ≡ length (c .pins)
   -- only pure gates are stale
   pub stale : (g : ℕ) → is-dirty w g ≡ true → pure (kind-of-gate c g) ≡ true
-  -- each input that waits is marked
+  -- each input that waits is marked, and watched
   pub waiting : length (w .to-check) ≤ marks (w .queued)
+  pub asked : All (λ i. watching c i ≡ true) (w .to-check)
   pub memory : Sized-memory c (w .last) (w .pulses) (w .written) (w .unions-passed)
 
 -- and so of the whole state
@@ -69,7 +71,7 @@ module _ (c : Circuit) where
 
   pub show-sized : (w : Wires) (o : ℕ) (v : Value) → Sized-wires c w → Sized-wires c (show w o v)
   unfolding show outs≔ is-dirty
-  show-sized w o v z = record { outs = length-set (w .outs) o v ∙ z .outs; dirty = z .dirty; queued = z .queued; stale = z .stale; waiting = z .waiting; memory = z .memory }
+  show-sized w o v z = record { outs = length-set (w .outs) o v ∙ z .outs; dirty = z .dirty; queued = z .queued; stale = z .stale; waiting = z .waiting; asked = z .asked; memory = z .memory }
 
   pub soil-sized : (w : Wires) (g : ℕ) → pure (kind-of-gate c g) ≡ true → Sized-wires c w → Sized-wires c (soil w g)
   unfolding soil dirty≔ is-dirty
@@ -80,6 +82,7 @@ module _ (c : Circuit) where
         queued = z .queued;
         stale = set-marked (λ h. pure (kind-of-gate c h) ≡ true) (w .dirty) g true (λ _. p) (z .stale);
         waiting = z .waiting;
+        asked = z .asked;
         memory = z .memory;
       }
 
@@ -92,12 +95,13 @@ module _ (c : Circuit) where
         queued = z .queued;
         stale = set-marked (λ h. pure (kind-of-gate c h) ≡ true) (w .dirty) g false (λ e. absurd (true≢false (sym e))) (z .stale);
         waiting = z .waiting;
+        asked = z .asked;
         memory = z .memory;
       }
 
-  pub watch-sized : (w : Wires) (i : ℕ) → Sized-wires c w → Sized-wires c (watch w i)
-  unfolding watch to-check≔ is-dirty
-  watch-sized w i z =
+  pub watch-sized : (w : Wires) (i : ℕ) → watching c i ≡ true → Sized-wires c w → Sized-wires c (watch w i)
+  unfolding watch to-check≔ is-dirty snoc
+  watch-sized w i q z =
       if-by (Sized-wires c) (getD (w .queued) i true || leb most-inputs (length (w .to-check))) (λ _. z) λ h.
       let e = either-false (getD (w .queued) i true) _ h .0 in
       record {
@@ -106,6 +110,7 @@ module _ (c : Circuit) where
         queued = length-set (w .queued) i true ∙ z .queued;
         stale = z .stale;
         waiting = omega (arith, z .waiting, snoc-length (w .to-check) i, mark-more (w .queued) i e);
+        asked = all-append (z .asked) (_∷·_ q [·]);
         memory = z .memory;
       }
 
@@ -119,6 +124,7 @@ module _ (c : Circuit) where
         queued = length-set (w .queued) i false ∙ z .queued;
         stale = z .stale;
         waiting = omega (arith, z .waiting, ap length e, marks-fewer (w .queued) i);
+        asked = all-rest (subst (All (λ i. watching c i ≡ true)) e (z .asked));
         memory = z .memory;
       }
 
@@ -166,13 +172,13 @@ module _ (c : Circuit) where
   -- ---- marking: what is kept by marking a pure gate and by queueing an input
 
   module _ (P : Wires → Type 0) (soiled : (w : Wires) (g : ℕ) → pure (kind-of-gate c g) ≡ true → P w → P (soil w g))
-      (watched : (w : Wires) (i : ℕ) → P w → P (watch w i)) where
+      (watched : (w : Wires) (i : ℕ) → watching c i ≡ true → P w → P (watch w i)) where
     mark-reader-keeps : (m : Marking) (i : ℕ) → P (m .wires) → P (mark-reader c m i .wires)
     unfolding mark-reader
     mark-reader-keeps m i p =
         if-by (λ (r : Marking). P (r .wires)) (pure (kind-of-gate c (gate-at-input c i)))
         (λ e. if-both (λ (r : Marking). P (r .wires)) _ (soiled (m .wires) (gate-at-input c i) e p) p)
-        (λ e. if-both (λ (r : Marking). P (r .wires)) _ (watched (m .wires) i p) p)
+        (λ e. if-by (λ (r : Marking). P (r .wires)) (watching c i) (λ q. watched (m .wires) i q p) (λ _. p))
 
     mark-on-keeps : (n : ℕ) (m : Marking) → P (m .wires) → P (mark-on c n m)
     unfolding mark-on

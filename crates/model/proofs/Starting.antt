@@ -23,6 +23,7 @@ use Rattle.model.specs.State.{Wires, State, Act, Send, idle, times≔, d
 use Rattle.model.specs.Wires.{shown, is-dirty, soil, watch, look, compute, refresh-all, invalidate}
 use Rattle.model.specs.Delays.{Moved}
 use Rattle.model.specs.Opening.{wires-stale, wires-fresh, wires-at-start, start, Opened, raised-to, fire, next-tick, begin-tick, delivered, lower, advanced, advance-buffer, advance-clock, advance-timer, open-tick}
+use Rattle.model.specs.Run.{Allowed}
 use Rattle.model.specs.Questions.{finite}
 use Rattle.model.proofs.Lists.{if-both, if-by, both-true, each-keeps, each-keeps-all, all-append, map-all, all-same, among-from, not-so, clash, among-none, neither-among, mark-kept, either-false, either-true}
 use Rattle.model.proofs.Sized.{Sized-wires, mark-readers-keeps}
@@ -41,10 +42,13 @@ zero-finite : finite 0 ≡ true
 unfolding finite value-opened
 zero-finite = refl
 
--- what a tick is given: a length that is finite, and stimuli that bring values only where they may
+-- what the script gives to a tick: a length that is finite, and stimuli that bring values only where they may
 pub record Given-fine (c : Circuit) (i : Given) : Type 0 where
   pub length : finite (i .dt) ≡ true
   pub stimuli : All (Brings c) (i .stimuli)
+
+abbrev pub Allowed-fine : Circuit → Allowed → Type 0
+Allowed-fine c i = Given-fine c (i .given)
 
 module _ (c : Circuit) (W : Wired c) where
   -- ---- the start
@@ -305,7 +309,7 @@ module _ (c : Circuit) (W : Wired c) where
     unfolding invalidate soil watch dirty≔ to-check≔ is-dirty
     invalidated-stale w g z p =
         mark-readers-keeps c (λ v. getD (v .dirty) g false ≡ true) (λ v h _ e. mark-kept false (v .dirty) h g e)
-        (λ v i e. if-both (λ (u : Wires). getD (u .dirty) g false ≡ true) _ e e) (soil w g) (output c g 0)
+        (λ v i q e. if-both (λ (u : Wires). getD (u .dirty) g false ≡ true) _ e e) (soil w g) (output c g 0)
         (getD-set-same (w .dirty) g true false (omega (arith, pure-in c g p, z .dirty)))
 
     pub invalidate-alike : (w : Wires) (g : ℕ) → Alike w (invalidate c w g)

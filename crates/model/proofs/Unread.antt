@@ -17,13 +17,12 @@ use Rattle.schedule.proofs.Told.{tick-opens}
 use Rattle.schedule.proofs.Begins.{Waits, tick-begins}
 use Rattle.model.specs.Base.{if_then_else_, keep, joined}
 use Rattle.model.specs.Circuit.{Circuit, circuit}
-use Rattle.model.specs.Script.{Given, script}
 use Rattle.model.specs.State.{State, Act, wires≔}
 use Rattle.model.specs.Wires.{refresh-all}
 use Rattle.model.specs.Opening.{start}
 use Rattle.model.specs.Unit.{World, state≔, raises-in}
 use Rattle.model.specs.Record.{read-outputs, log-record, write, close, record-opened}
-use Rattle.model.specs.Run.{most-steps, opening, closing, machine, world-at-start, ticks-of, last-stop, seen}
+use Rattle.model.specs.Run.{Allowed, ticks-get, opening, closing, machine, world-at-start, ticks-of, last-stop, seen}
 use Rattle.model.specs.Questions.{Areas, refusal}
 use Rattle.model.specs.Answer.{played, play, answer}
 use Rattle.model.specs.Fresh.{Begins-fresh}
@@ -34,15 +33,15 @@ use Rattle.model.proofs.InOrder.{write-fits, write-over, answer-is}
 use Rattle.model.proofs.Wired.{Wired}
 use Rattle.model.proofs.Right.{no-exception}
 use Rattle.model.proofs.Sound.{Sound, Brings}
-use Rattle.model.proofs.Starting.{Given-fine, start-sound}
+use Rattle.model.proofs.Starting.{Allowed-fine, start-sound}
 use Rattle.model.proofs.Twins.{read-near}
 use Rattle.model.proofs.Openings.{Same-tick, State-near, itself-near, open-tick-alike}
 use Rattle.model.proofs.Beginning.{Ready, opening-brings, body-brings, closing-ready, unit-fresh}
-use Rattle.model.proofs.Wiring.{wired, given-fine}
+use Rattle.model.proofs.Wiring.{wired, gets-fine}
 
-module _ (c : Circuit) (W : Wired c) (limit : ℕ) where
+module _ (c : Circuit) (W : Wired c) where
   abbrev S : Setup
-  S = plain (machine c limit)
+  S = plain (machine c)
 
   -- ---- a tick, from two worlds of which one was read
 
@@ -61,19 +60,19 @@ module _ (c : Circuit) (W : Wired c) (limit : ℕ) where
     logged : w .logged ≡ v .logged
 
   in-worlds :
-      {P : Type 0} (w v : World) → w .room ≡ v .room → {rs us : List (Raise State Act P)} → Raises-alike Same-tick rs us →
-      Raises-alike Same-record (raises-in w limit rs) (raises-in v limit us)
+      {P : Type 0} (left : ℕ) (w v : World) → w .room ≡ v .room → {rs us : List (Raise State Act P)} → Raises-alike Same-tick rs us →
+      Raises-alike Same-record (raises-in w left rs) (raises-in v left us)
   unfolding raises-in state≔
-  in-worlds w v e alike-none = alike-none
-  in-worlds w v e (alike-next t a p r) = alike-next (record { tick = sym t; left = refl; room = e }) a p (in-worlds w v e r)
+  in-worlds left w v e alike-none = alike-none
+  in-worlds left w v e (alike-next t a p r) = alike-next (record { tick = sym t; left = refl; room = e }) a p (in-worlds left w v e r)
 
-  opening-alike : (w v : World) (given : Given) → Given-fine c given → Worlds-near w v → Did-alike Same-record (opening c limit w given) (opening c limit v given)
+  opening-alike : (w v : World) (i : Allowed) → Allowed-fine c i → Worlds-near w v → Did-alike Same-record (opening c w i) (opening c v i)
   unfolding opening state≔
-  opening-alike w v given q n =
-      let o = open-tick-alike c W given (w .state) (v .state) q (n .first) (n .second) (n .near) in
+  opening-alike w v i q n =
+      let o = open-tick-alike c W (i .given) (w .state) (v .state) q (n .first) (n .second) (n .near) in
       record {
-        world = λ j. record { state = o .state j; left = limit; room = n .room j; logged = n .logged j };
-        raises = in-worlds w v (n .room) (o .raises);
+        world = λ j. record { state = o .state j; left = i .limit; room = n .room j; logged = n .logged j };
+        raises = in-worlds (i .limit) w v (n .room) (o .raises);
         stop = refl;
       }
 
@@ -100,21 +99,21 @@ module _ (c : Circuit) (W : Wired c) (limit : ℕ) where
           let d = write-over v r′ (sym (λ j. leb (8 * length (e j)) (m j)) ∙ h) in
           record { fits = a .1 ∙ sym (d .1); logged = a .0 ∙ sym (d .0) }
 
-  cut-record : (x y : World) → Same-record x y → log-record limit x (outcome S [] [] [] list-full) ≡ log-record limit y (outcome S [] [] [] list-full)
+  cut-record : (limit : ℕ) (x y : World) → Same-record x y → log-record limit x (outcome S [] [] [] list-full) ≡ log-record limit y (outcome S [] [] [] list-full)
   unfolding record-opened if_then_else_
-  cut-record x y e = λ j. e .tick j ∷ (limit - e .left j + 0) ∷ 0 ∷ 0 ∷ 0 ∷ list-full ∷ []
+  cut-record limit x y e = λ j. e .tick j ∷ (limit - e .left j + 0) ∷ 0 ∷ 0 ∷ 0 ∷ list-full ∷ []
 
   cut-closing :
-      (x y : World) → Same-record x y →
+      (i : Allowed) (x y : World) → Same-record x y →
       let o = outcome S [] [] [] list-full in
-      (closing c limit x o .fits ≡ closing c limit y o .fits) × (closing c limit x o .world .logged ≡ closing c limit y o .world .logged)
+      (closing c x i o .fits ≡ closing c y i o .fits) × (closing c x i o .world .logged ≡ closing c y i o .world .logged)
   unfolding closing close read-outputs state≔ if_then_else_
-  cut-closing x y e = let a = wrote-alike _ _ x y (cut-record x y e) (e .room) in (a .fits, a .logged)
+  cut-closing i x y e = let a = wrote-alike _ _ x y (cut-record (i .limit) x y e) (e .room) in (a .fits, a .logged)
 
-  alike-seen : {k k′ : Tick S} → Ticks-alike S Same-record k k′ → Seen-alike k k′
-  alike-seen (same e) = record { logged = ap (λ (k : Tick S). k .world .logged) e; stop = ap (λ (k : Tick S). k .stop) e }
-  alike-seen (cut x y r a b) =
-      let z = cut-closing x y r in
+  alike-seen : (i : Allowed) {k k′ : Tick S} → Ticks-alike S Same-record i k k′ → Seen-alike k k′
+  alike-seen i (same e) = record { logged = ap (λ (k : Tick S). k .world .logged) e; stop = ap (λ (k : Tick S). k .stop) e }
+  alike-seen i (cut x y r a b) =
+      let z = cut-closing i x y r in
       record {
         logged = ap (λ (w : World). w .logged) (a .world) ∙ z .1 ∙ sym (ap (λ (w : World). w .logged) (b .world));
         stop = a .stop ∙ ap (λ (f : Bool). cond f list-full log-full) (z .0) ∙ sym (b .stop);
@@ -127,9 +126,9 @@ module _ (c : Circuit) (W : Wired c) (limit : ℕ) where
   write-state w r = if-both (λ (k : Closed World). k .world .state ≡ w .state) _ refl refl
 
   -- the state that a tick without a stop hands on is the one that its last unit left, read
-  closed-state : (w : World) (late main : List (Turn S)) (carried : List (Activation S)) → closing c limit w (outcome S late main carried 0) .world .state ≡ wires≔ (w .state) (refresh-all c (w .state .wires))
+  closed-state : (w : World) (i : Allowed) (late main : List (Turn S)) (carried : List (Activation S)) → closing c w i (outcome S late main carried 0) .world .state ≡ wires≔ (w .state) (refresh-all c (w .state .wires))
   unfolding closing close read-outputs state≔ if_then_else_
-  closed-state w late main carried = write-state _ _
+  closed-state w i late main carried = write-state _ _
 
   read-state-near : (s : State) → Sound c no-exception [] s → State-near c W (wires≔ s (refresh-all c (s .wires))) s
   unfolding wires≔
@@ -137,15 +136,15 @@ module _ (c : Circuit) (W : Wired c) (limit : ℕ) where
 
   -- the world after a tick that began in v, and the same unread
   after-near :
-      (v : World) (given : Given) (came : List (Activation S)) → Given-fine c given → Waits S (Ready c W) (Brings c) came → Ready c W v →
-      let k = tick S v given came tt in k .stop ≡ 0 → Worlds-near (k .world) (unread c limit v given k) × Waits S (Ready c W) (Brings c) (k .carried)
+      (v : World) (i : Allowed) (came : List (Activation S)) → Allowed-fine c i → Waits S (Ready c W) (Brings c) came → Ready c W v →
+      let k = tick S v i came tt in k .stop ≡ 0 → Worlds-near (k .world) (unread c v i k) × Waits S (Ready c W) (Brings c) (k .carried)
   unfolding unread
-  after-near v given came q a z e =
-      let k = tick S v given came tt in
-      let h = tick-begins S (Ready c W) (Brings c) (Given-fine c) (opening-brings c W limit) (body-brings c W limit) (closing-ready c W limit) v given came tt q a z in
-      let u = left-by S (opening c limit v given .world) (k .late ++ k .main) in
+  after-near v i came q a z e =
+      let k = tick S v i came tt in
+      let h = tick-begins S (Ready c W) (Brings c) (Allowed-fine c) (opening-brings c W) (body-brings c W) (closing-ready c W) v i came tt q a z in
+      let u = left-by S (opening c v i .world) (k .late ++ k .main) in
       let s : k .world .state ≡ wires≔ (u .state) (refresh-all c (u .state .wires)) =
-      ap (λ (w : World). w .state) (tick-opens S v given came tt .leaves e) ∙ closed-state u (k .late) (k .main) (k .carried) in (
+      ap (λ (w : World). w .state) (tick-opens S v i came tt .leaves e) ∙ closed-state u i (k .late) (k .main) (k .carried) in (
         record {
           first = h .world e;
           second = h .left e;
@@ -163,44 +162,44 @@ module _ (c : Circuit) (W : Wired c) (limit : ℕ) where
     on : {k k′ : Tick S} {ks us : List (Tick S)} → Seen-alike k k′ → Runs-alike ks us → Runs-alike (k ∷ ks) (k′ ∷ us)
 
   -- the ticks that follow k in a run, and those that follow it unread, where it began in v
-  abbrev rest : List Given → Tick S → List (Tick S)
-  rest gs k = go-on S (k .stop) (run-on S gs (k .world) (k .carried) tt)
+  abbrev rest : List Allowed → Tick S → List (Tick S)
+  rest is k = go-on S (k .stop) (run-on S is (k .world) (k .carried) tt)
 
-  abbrev rest-unread : List Given → World → Given → Tick S → List (Tick S)
-  rest-unread gs v g k = go-on S (k .stop) (unread-on c limit gs (unread c limit v g k) (k .carried))
+  abbrev rest-unread : List Allowed → World → Allowed → Tick S → List (Tick S)
+  rest-unread is v i k = go-on S (k .stop) (unread-on c is (unread c v i k) (k .carried))
 
   -- a tick that was cut short is the last one
-  none-follows : {x : World} {k : Tick S} → Cut-at S x k → (ks : List (Tick S)) → go-on S (k .stop) ks ≡ []
-  none-follows {x} {k} d ks = go (closing c limit x (outcome S [] [] [] list-full) .fits) (d .stop)
+  none-follows : {i : Allowed} {x : World} {k : Tick S} → Cut-at S i x k → (ks : List (Tick S)) → go-on S (k .stop) ks ≡ []
+  none-follows {i} {x} {k} d ks = go (closing c x i (outcome S [] [] [] list-full) .fits) (d .stop)
     where
       go : (f : Bool) → k .stop ≡ cond f list-full log-full → go-on S (k .stop) ks ≡ []
       go true e = rw e
       go false e = rw e
 
-  abbrev Alike-from : List Given → Type 0
-  Alike-from gs =
-      (w v : World) (came : List (Activation S)) → Waits S (Ready c W) (Brings c) came → Worlds-near w v → Runs-alike (run-on S gs w came tt) (unread-on c limit gs v came)
+  abbrev Alike-from : List Allowed → Type 0
+  Alike-from is =
+      (w v : World) (came : List (Activation S)) → Waits S (Ready c W) (Brings c) came → Worlds-near w v → Runs-alike (run-on S is w came tt) (unread-on c is v came)
 
   rests-alike :
-      (gs : List Given) (v : World) (g : Given) {k k′ : Tick S} → Ticks-alike S Same-record k k′ →
-      (k′ .stop ≡ 0 → Worlds-near (k′ .world) (unread c limit v g k′) × Waits S (Ready c W) (Brings c) (k′ .carried)) → Alike-from gs →
-      Runs-alike (rest gs k) (rest-unread gs v g k′)
-  rests-alike gs v g {k} {k′} (same e) h rec = subst (λ (x : Tick S). Runs-alike (rest gs x) (rest-unread gs v g k′)) (sym e) (go (k′ .stop) refl)
+      (is : List Allowed) (v : World) (i : Allowed) {k k′ : Tick S} → Ticks-alike S Same-record i k k′ →
+      (k′ .stop ≡ 0 → Worlds-near (k′ .world) (unread c v i k′) × Waits S (Ready c W) (Brings c) (k′ .carried)) → Alike-from is →
+      Runs-alike (rest is k) (rest-unread is v i k′)
+  rests-alike is v i {k} {k′} (same e) h rec = subst (λ (x : Tick S). Runs-alike (rest is x) (rest-unread is v i k′)) (sym e) (go (k′ .stop) refl)
     where
-      go : (s : ℕ) → k′ .stop ≡ s → Runs-alike (go-on S s (run-on S gs (k′ .world) (k′ .carried) tt)) (go-on S s (unread-on c limit gs (unread c limit v g k′) (k′ .carried)))
-      go zero z = let m = h z in rec (k′ .world) (unread c limit v g k′) (k′ .carried) (m .1) (m .0)
+      go : (s : ℕ) → k′ .stop ≡ s → Runs-alike (go-on S s (run-on S is (k′ .world) (k′ .carried) tt)) (go-on S s (unread-on c is (unread c v i k′) (k′ .carried)))
+      go zero z = let m = h z in rec (k′ .world) (unread c v i k′) (k′ .carried) (m .1) (m .0)
       go (suc s) z = over
-  rests-alike gs v g {k} {k′} (cut x y r d b) h rec =
-      let e : rest gs k ≡ [] = none-follows d (run-on S gs (k .world) (k .carried) tt) in
-      let f : rest-unread gs v g k′ ≡ [] = none-follows b (unread-on c limit gs (unread c limit v g k′) (k′ .carried)) in
+  rests-alike is v i {k} {k′} (cut x y r d b) h rec =
+      let e : rest is k ≡ [] = none-follows d (run-on S is (k .world) (k .carried) tt) in
+      let f : rest-unread is v i k′ ≡ [] = none-follows b (unread-on c is (unread c v i k′) (k′ .carried)) in
       rw (e, f) over
 
-  runs-alike : (gs : List Given) → All (Given-fine c) gs → Alike-from gs
+  runs-alike : (is : List Allowed) → All (Allowed-fine c) is → Alike-from is
   unfolding run-on unread-on
   runs-alike [] [·] w v came a n = over
-  runs-alike (g ∷ gs) (_∷·_ q qs) w v came a n =
-      let t = tick-alike S Same-record w v g came tt (opening-alike w v g q n) in
-      on (alike-seen t) (rests-alike gs v g t (after-near v g came q a (n .second)) (runs-alike gs qs))
+  runs-alike (i ∷ is) (_∷·_ q qs) w v came a n =
+      let t = tick-alike S Same-record w v i came tt (opening-alike w v i q n) in
+      on (alike-seen i t) (rests-alike is v i t (after-near v i came q a (n .second)) (runs-alike is qs))
 
   -- ---- what is seen of it
 
@@ -209,7 +208,7 @@ module _ (c : Circuit) (W : Wired c) (limit : ℕ) where
   logs-alike over = refl
   logs-alike (on s r) = λ j. s .logged j ++ logs-alike r j
 
-  stops-alike : {ks us : List (Tick S)} → Runs-alike ks us → last-stop c limit ks ≡ last-stop c limit us
+  stops-alike : {ks us : List (Tick S)} → Runs-alike ks us → last-stop c ks ≡ last-stop c us
   unfolding last-stop
   stops-alike over = refl
   stops-alike (on s r) = λ j. if eqb (s .stop j) 0 then stops-alike r j else s .stop j
@@ -225,47 +224,47 @@ module _ (c : Circuit) (W : Wired c) (limit : ℕ) where
           ≡ length (if d then k′ ∷ keep (λ (t : Tick S). eqb (t .stop) 0) us else keep (λ (t : Tick S). eqb (t .stop) 0) us)
       go b d e h = if-alike (λ (x y : List (Tick S)). length x ≡ length y) b d e (λ _. ap suc h) (λ _. h)
 
-  seen-alike : {ks us : List (Tick S)} → Runs-alike ks us → seen c limit ks ≡ seen c limit us
+  seen-alike : {ks us : List (Tick S)} → Runs-alike ks us → seen c ks ≡ seen c us
   unfolding seen
   seen-alike r = λ j. record { log = logs-alike r j; stop = stops-alike r j; ticks = kept-alike r j }
 
-  start-near : (room : ℕ) → Worlds-near (world-at-start c limit room) (world-at-start c limit room)
+  start-near : (room : ℕ) → Worlds-near (world-at-start c room) (world-at-start c room)
   unfolding world-at-start
   start-near room =
       let z = start-sound c W in
       record { first = z; second = z; near = itself-near c W (start c); room = refl; logged = refl }
 
-  pub unread-same : (room : ℕ) (given : List Given) → All (Given-fine c) given → seen c limit (ticks-of c limit room given) ≡ seen c limit (unread-ticks c limit room given)
+  pub unread-same : (room : ℕ) (is : List Allowed) → All (Allowed-fine c) is → seen c (ticks-of c room is) ≡ seen c (unread-ticks c room is)
   unfolding ticks-of unread-ticks run
-  unread-same room given q = seen-alike (runs-alike given q (world-at-start c limit room) (world-at-start c limit room) [] [·] (start-near room))
+  unread-same room is q = seen-alike (runs-alike is q (world-at-start c room) (world-at-start c room) [] [·] (start-near room))
 
   -- ---- its units
 
   unread-begins :
-      (gs : List Given) → All (Given-fine c) gs → (v : World) (came : List (Activation S)) → Waits S (Ready c W) (Brings c) came → Ready c W v →
-      All (Tick-begins S (Ready c W) (Brings c)) (unread-on c limit gs v came)
+      (is : List Allowed) → All (Allowed-fine c) is → (v : World) (came : List (Activation S)) → Waits S (Ready c W) (Brings c) came → Ready c W v →
+      All (Tick-begins S (Ready c W) (Brings c)) (unread-on c is v came)
   unfolding unread-on
   unread-begins [] [·] v came a z = [·]
-  unread-begins (g ∷ gs) (_∷·_ q qs) v came a z =
-      let k = tick S v g came tt in
-      let h = tick-begins S (Ready c W) (Brings c) (Given-fine c) (opening-brings c W limit) (body-brings c W limit) (closing-ready c W limit) v g came tt q a z in
-      _∷·_ (h .begins) (go (k .stop) refl (λ m. unread-begins gs qs (unread c limit v g k) (k .carried) (m .1) (m .0 .second)) (after-near v g came q a z))
+  unread-begins (i ∷ is) (_∷·_ q qs) v came a z =
+      let k = tick S v i came tt in
+      let h = tick-begins S (Ready c W) (Brings c) (Allowed-fine c) (opening-brings c W) (body-brings c W) (closing-ready c W) v i came tt q a z in
+      _∷·_ (h .begins) (go (k .stop) refl (λ m. unread-begins is qs (unread c v i k) (k .carried) (m .1) (m .0 .second)) (after-near v i came q a z))
     where
       go :
-          (s : ℕ) → tick S v g came tt .stop ≡ s → {N : Type 0} {ts : List (Tick S)} → (N → All (Tick-begins S (Ready c W) (Brings c)) ts) →
-          (tick S v g came tt .stop ≡ 0 → N) → All (Tick-begins S (Ready c W) (Brings c)) (go-on S s ts)
+          (s : ℕ) → tick S v i came tt .stop ≡ s → {N : Type 0} {ts : List (Tick S)} → (N → All (Tick-begins S (Ready c W) (Brings c)) ts) →
+          (tick S v i came tt .stop ≡ 0 → N) → All (Tick-begins S (Ready c W) (Brings c)) (go-on S s ts)
       go zero e k q = k (q e)
       go (suc s) e k q = [·]
 
   unread-units-fresh :
-      (room : ℕ) (given : List Given) → All (Given-fine c) given →
-      All (λ (t : Tick S). All (λ (u : Turn S). Begins-fresh c (u .from) (u .unit .act)) (t .late ++ t .main)) (unread-ticks c limit room given)
+      (room : ℕ) (is : List Allowed) → All (Allowed-fine c) is →
+      All (λ (t : Tick S). All (λ (u : Turn S). Begins-fresh c (u .from) (u .unit .act)) (t .late ++ t .main)) (unread-ticks c room is)
   unfolding unread-ticks world-at-start
-  unread-units-fresh room given q =
-      all-map (λ k b. all-append (all-map sees (b .late)) (all-map sees (b .main))) (unread-begins given q (world-at-start c limit room) [] [·] (start-sound c W))
+  unread-units-fresh room is q =
+      all-map (λ k b. all-append (all-map sees (b .late)) (all-map sees (b .main))) (unread-begins is q (world-at-start c room) [] [·] (start-sound c W))
     where
       sees : (u : Turn S) → Turn-begins S (Ready c W) (Brings c) u → Begins-fresh c (u .from) (u .unit .act)
-      sees u b = unit-fresh c W limit (u .from) (u .unit .act) (b .act) (b .from)
+      sees u b = unit-fresh c W (u .from) (u .unit .act) (b .act) (b .from)
 
 -- For every circuit and script that are not refused, the answer is the same where reading for the record changes nothing,
 pub reading-unseen :
@@ -274,11 +273,11 @@ unfolding play play-unread
 reading-unseen areas room cb sb h =
     let a = accepted (some areas) cb sb h in
     let c = circuit (words cb) in
-    answer-is areas room cb sb h ∙ ap played (unread-same c (wired (some areas) cb sb a) most-steps room (script (c .constants) (words sb)) (given-fine (some areas) cb sb a))
+    answer-is areas room cb sb h ∙ ap played (unread-same c (wired (some areas) cb sb a) room (ticks-get c (words sb)) (gets-fine (some areas) cb sb a))
 
 -- and each of its units reads what is worked out afresh.
 pub unread-fresh : (areas : Areas) (room : ℕ) (cb sb : List ℕ) → refusal (some areas) cb sb ≡ 0 → Unread-run-fresh room cb sb
 unread-fresh areas room cb sb h =
     let a = accepted (some areas) cb sb h in
     let c = circuit (words cb) in
-    unread-units-fresh c (wired (some areas) cb sb a) most-steps room (script (c .constants) (words sb)) (given-fine (some areas) cb sb a)
+    unread-units-fresh c (wired (some areas) cb sb a) room (ticks-get c (words sb)) (gets-fine (some areas) cb sb a)

@@ -23,11 +23,12 @@ use Rattle.model.specs.Value.{as-int, le64, value-of}
 use Rattle.model.specs.Kinds.{In, value, kind-at, pure, time-source, receiving, kinds-opened}
 use Rattle.model.specs.Circuit.{Circuit, circuit, part, word-at, minus-one, source-of, reads, kind-of-gate, input, output, inputs-of, gate-at-input, source, stored-in, setting, gate-at-output, readers-of, gates-such}
 use Rattle.model.specs.Script.{stimulus, given, script}
+use Rattle.model.specs.Run.{allowed, ticks-get}
 use Rattle.model.specs.State.{Act}
 use Rattle.model.specs.Delays.{nat}
 use Rattle.model.specs.Exec.{var}
 use Rattle.model.specs.Questions.{Areas, within, finite, yes-all, question-1, question-3, good-constant, question-2, value-output, int-such-that, good-setting, good-input, names-constant, question-4, question-9, question-10, good-length}
-use Rattle.model.proofs.Lists.{if-both, both-true, all-keep, all-among, among-from, map-from, from-length, not-so, clash, among-first, among-later, among-either, among-none}
+use Rattle.model.proofs.Lists.{if-both, both-true, all-keep, all-among, among-from, map-from, from-length, not-so, clash, among-first, among-later, among-either, among-none, map-all}
 use Rattle.model.proofs.Sizes.{sizes}
 use Rattle.model.proofs.Laid.{offset, starts-at, no-kind, Laid, laid, joined-length, part-most, part-is, inputs-found}
 use Rattle.model.proofs.Asked.{Accepted}
@@ -36,7 +37,7 @@ use Rattle.model.proofs.Roomy.{few}
 use Rattle.model.proofs.Reals.{Real, nothing-real, truth-real, int-real, finite-real}
 use Rattle.model.proofs.Wired.{Wired}
 use Rattle.model.proofs.Sound.{Brings, other-outputs}
-use Rattle.model.proofs.Starting.{Given-fine}
+use Rattle.model.proofs.Starting.{Given-fine, Allowed-fine}
 
 -- ---- lists
 
@@ -460,7 +461,7 @@ module _ (c : Circuit) (constants : List Value) (real : (k : ℕ) → Real (getD
       let f = both-true (finite d) _ (both-true (finite d && le64 0 d) _ (t .0) .0) .0 in
       _∷·_ (record { length = f; stimuli = take-all n a }) (given-all ds ns (drop n bs) (t .1) (drop-all n a))
 
-pub given-fine :
+given-fine :
     (areas : Option Areas) (cb sb : List ℕ) → Accepted areas cb sb →
     let c = circuit (words cb) in All (Given-fine c) (script (c .constants) (words sb))
 unfolding script question-9 question-10
@@ -474,3 +475,9 @@ given-fine areas cb sb a =
     let s = both-true (all (λ g. eqb (kind-of-gate c g) 28) (part ws (2 + 2 * T) S)) _ (a .stimuli) .0 in
     given-all c (c .constants) real (laid (words cb)) (part ws 2 T) (part ws (2 + T) T) _ (both-true (all good-length (part ws 2 T)) _ t .0)
     (stimuli-bring c (c .constants) real (laid (words cb)) (part ws (2 + 2 * T) S) (part ws (2 + 2 * T + S) S) s)
+
+pub gets-fine :
+    (areas : Option Areas) (cb sb : List ℕ) → Accepted areas cb sb →
+    let c = circuit (words cb) in All (Allowed-fine c) (ticks-get c (words sb))
+unfolding allowed
+gets-fine areas cb sb a = map-all (Allowed-fine (circuit (words cb))) _ (given-fine areas cb sb a)

@@ -6,12 +6,11 @@ use Rattle.schedule.specs.Promise.{All, [·]}
 use Rattle.schedule.specs.Keeping.{Did-keep, Tick-keeps}
 use Rattle.schedule.proofs.Theorems.{run-keeps}
 use Rattle.model.specs.Circuit.{Circuit}
-use Rattle.model.specs.Script.{Given}
 use Rattle.model.specs.State.{State, Act}
 use Rattle.model.specs.Chain.{Chained}
 use Rattle.model.specs.Unit.{World, state≔, raises-in, finish-chain}
 use Rattle.model.specs.Record.{write, close}
-use Rattle.model.specs.Run.{opening, body, closing, machine, world-at-start, ticks-of}
+use Rattle.model.specs.Run.{Allowed, opening, body, closing, machine, world-at-start, ticks-of}
 use Rattle.model.proofs.Lists.{if-both, map-all}
 use Rattle.model.proofs.Laid.{Laid}
 use Rattle.model.proofs.Sized.{Sized}
@@ -32,22 +31,21 @@ module _ (c : Circuit) where
       let y = settle-sized c _ (wires-sized c z (publish-writes-sized c (r .state .wires) (z .wires))) in
       if-both (Did-keep World-sized) _ (record { world = y .state; raises = raises-in-sized w (r .left) _ (y .raises) }) (record { world = z; raises = [·] })
 
-  module _ (limit : ℕ) where
-    opening-sized : Laid c → (w : World) (given : Given) → World-sized w → Did-keep World-sized (opening c limit w given)
-    unfolding opening state≔
-    opening-sized laid w given z = let y = open-tick-sized c laid (w .state) given z in record { world = y .state; raises = raises-in-sized w limit _ (y .raises) }
+  opening-sized : Laid c → (w : World) (i : Allowed) → World-sized w → Did-keep World-sized (opening c w i)
+  unfolding opening state≔
+  opening-sized laid w i z = let y = open-tick-sized c laid (w .state) (i .given) z in record { world = y .state; raises = raises-in-sized w (i .limit) _ (y .raises) }
 
-    body-sized : (w : World) (a : Act) → World-sized w → Did-keep World-sized (body c limit w a)
-    unfolding body
-    body-sized w a z = finish-chain-sized w _ (run-unit-sized c w a z)
+  body-sized : (w : World) (a : Act) → World-sized w → Did-keep World-sized (body c w a)
+  unfolding body
+  body-sized w a z = finish-chain-sized w _ (run-unit-sized c w a z)
 
-    closing-sized : (w : World) (o : Outcome Act) → World-sized w → World-sized (closing c limit w o .world)
-    unfolding closing close write state≔
-    closing-sized w o z =
-        let y = read-outputs-sized c (w .state) (o .stop) z in
-        if-both (λ (k : Closed World). World-sized (k .world)) _ y y
+  closing-sized : (w : World) (i : Allowed) (o : Outcome Act) → World-sized w → World-sized (closing c w i o .world)
+  unfolding closing close write state≔
+  closing-sized w i o z =
+      let y = read-outputs-sized c (w .state) (o .stop) z in
+      if-both (λ (k : Closed World). World-sized (k .world)) _ y y
 
-    -- in every world of a run, of any script and with a log of any size
-    pub run-sized : Laid c → (room : ℕ) (given : List Given) → All (Tick-keeps (plain (machine c limit)) World-sized) (ticks-of c limit room given)
-    unfolding ticks-of world-at-start
-    run-sized laid room given = run-keeps (plain (machine c limit)) World-sized (opening-sized laid) body-sized closing-sized given _ (start-sized c)
+  -- in every world of a run, of any script and with a log of any size
+  pub run-sized : Laid c → (room : ℕ) (is : List Allowed) → All (Tick-keeps (plain (machine c)) World-sized) (ticks-of c room is)
+  unfolding ticks-of world-at-start
+  run-sized laid room is = run-keeps (plain (machine c)) World-sized (opening-sized laid) body-sized closing-sized is _ (start-sized c)

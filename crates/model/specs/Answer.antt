@@ -11,7 +11,7 @@ use Rattle.model.specs.Base.{among, base-opened}
 use Rattle.model.specs.Value.{value-opened}
 use Rattle.model.specs.Kinds.{kinds-opened}
 use Rattle.model.specs.Circuit.{Circuit, circuit, circuit-opened}
-use Rattle.model.specs.Script.{script, script-opened}
+use Rattle.model.specs.Script.{script-opened}
 use Rattle.model.specs.State.{state-opened}
 use Rattle.model.specs.Wires.{wires-opened}
 use Rattle.model.specs.Delays.{delays-opened}
@@ -21,7 +21,7 @@ use Rattle.model.specs.Settle.{settle-opened}
 use Rattle.model.specs.Opening.{opening-opened}
 use Rattle.model.specs.Unit.{unit-opened}
 use Rattle.model.specs.Record.{record-opened}
-use Rattle.model.specs.Run.{Played, most-steps, ticks-of, seen, run-opened}
+use Rattle.model.specs.Run.{Played, ticks-get, ticks-of, seen, run-opened}
 use Rattle.model.specs.Questions.{Areas, refusal, questions-opened}
 
 -- refused with the number of a question, or played
@@ -31,7 +31,7 @@ pub data Answer : Type 0 where
 
 -- the run of a script over a circuit, with a log of so many bytes
 unfoldable pub play : ℕ → Circuit → List ℕ → Played
-play room c script-words = seen c most-steps (ticks-of c most-steps room (script (c .constants) script-words))
+play room c script-words = seen c (ticks-of c room (ticks-get c script-words))
 
 -- by the number of the question that refuses it, 0 for none
 unfoldable pub answer-to : ℕ → ℕ → List ℕ → List ℕ → Answer

@@ -129,12 +129,12 @@ module _ (c : Circuit) where
   unfoldable pub exec-Toggle : State → ℕ → Stepped
   exec-Toggle s g = fires-next (set-output s (output c g 1) (Truth (not (truthy (shown (s .wires) (output c g 1)))))) (output c g 0)
 
-  -- pin 0 up, pin 1 down, each to its own output
+  -- pin 1, ExecDown, down and any other up, each to its own output
   unfoldable pub exec-Cycle : State → ℕ → ℕ → Stepped
   exec-Cycle s₀ g p =
       let s = readied s₀ g 2 1 in
       let now = as-int (pos 0) (shown (s .wires) (output c g 2)) in
-      fires-next (set-output s (output c g 2) (Int (cycle-next (eqb p 1) (as-int (pos 0) (read s g 2)) now))) (output c g p)
+      fires-next (set-output s (output c g 2) (Int (cycle-next (eqb p 1) (as-int (pos 0) (read s g 2)) now))) (output c g (if eqb p 1 then 1 else 0))
 
   -- The eight values are read, also for a second send of the gate in this tick, which is ignored. So at most 64 events are sent in a tick, one by each gate:
   -- the other test is never met (`roomy`).

@@ -15,12 +15,11 @@ use Rattle.model.specs.Base.{if_then_else_}
 use Rattle.model.specs.Value.{truthy, same}
 use Rattle.model.specs.Kinds.{pure}
 use Rattle.model.specs.Circuit.{Circuit, circuit, kind-of-gate, input, source, stored-in, gate-at-output}
-use Rattle.model.specs.Script.{script}
 use Rattle.model.specs.State.{Wires, Act}
 use Rattle.model.specs.Wires.{shown, refresh}
 use Rattle.model.specs.Chain.{run-chain}
 use Rattle.model.specs.Unit.{World, begin, enter}
-use Rattle.model.specs.Run.{most-steps, machine}
+use Rattle.model.specs.Run.{ticks-get, machine}
 use Rattle.model.specs.Questions.{value-output}
 use Rattle.model.specs.Order.{Numbered-tick, numbered-ticks}
 
@@ -79,11 +78,11 @@ module _ (c : Circuit) where
   fresh-opened = 0
 
 -- every unit of a tick, of its late pass and of its main pass
-abbrev pub Tick-fresh : (c : Circuit) (limit : ℕ) → Numbered-tick c limit → Type 0
-Tick-fresh c limit t = All (λ (u : Turn (numbered (machine c limit))). Begins-fresh c (u .from) (u .unit .act)) (t .late ++ t .main)
+abbrev pub Tick-fresh : (c : Circuit) → Numbered-tick c → Type 0
+Tick-fresh c t = All (λ (u : Turn (numbered (machine c))). Begins-fresh c (u .from) (u .unit .act)) (t .late ++ t .main)
 
 -- every unit begun in the run of a call, with a log of so many bytes; a stopped tick's too
 abbrev pub Whole-run-fresh : ℕ → List ℕ → List ℕ → Type 0
 Whole-run-fresh room circuit-bytes script-bytes =
     let c = circuit (words circuit-bytes) in
-    All (Tick-fresh c most-steps) (numbered-ticks c most-steps room (script (c .constants) (words script-bytes)))
+    All (Tick-fresh c) (numbered-ticks c room (ticks-get c (words script-bytes)))

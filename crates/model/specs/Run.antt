@@ -6,7 +6,7 @@ use lib.ListN.{length}
 use Rattle.schedule.specs.Schedule.{Did, Outcome, Closed, Place, Machine, plain, Tick, run}
 use Rattle.model.specs.Base.{if_then_else_, keep, joined}
 use Rattle.model.specs.Circuit.{Circuit, rank-of-gate}
-use Rattle.model.specs.Script.{Given}
+use Rattle.model.specs.Script.{Given, script}
 use Rattle.model.specs.State.{Act}
 use Rattle.model.specs.Opening.{open-tick, start}
 use Rattle.model.specs.Unit.{World, state≔, raises-in, run-unit, finish-chain}
@@ -22,32 +22,48 @@ pub record Played : Type 0 where
   pub stop : ℕ
   pub ticks : ℕ
 
-module _ (c : Circuit) (limit : ℕ) where
+-- What a tick gets: what the script gives to it, and the steps that it may make.
+pub record Allowed : Type 0 where
+  pub given : Given
+  pub limit : ℕ
+
+abbrev pub allow : ℕ → Given → Allowed
+allow limit g = record { given = g; limit = limit }
+
+-- the same number of steps for each
+unfoldable pub allowed : ℕ → List Given → List Allowed
+allowed limit gs = map (allow limit) gs
+
+-- what the ticks of a call get, by the words of its script
+abbrev pub ticks-get : Circuit → List ℕ → List Allowed
+ticks-get c script-words = allowed most-steps (script (c .constants) script-words)
+
+module _ (c : Circuit) where
   -- before the passes: no step was made
-  unfoldable pub opening : World → Given → Did World Act Place
-  opening w given =
-      let z = open-tick c (w .state) given in
-      record { world = state≔ w limit (z .state); raises = raises-in w limit (z .raises); stop = 0 }
+  unfoldable pub opening : World → Allowed → Did World Act Place
+  opening w i =
+      let z = open-tick c (w .state) (i .given) in
+      record { world = state≔ w (i .limit) (z .state); raises = raises-in w (i .limit) (z .raises); stop = 0 }
 
   -- what a unit does
   unfoldable pub body : World → Act → Did World Act (Unit {0})
   body w a = finish-chain c w (run-unit c w a)
 
   -- after the passes: the outputs are read, the record is written
-  unfoldable pub closing : World → Outcome Act → Closed World
-  closing w o = close limit (state≔ w (w .left) (read-outputs c (w .state) (o .stop))) o
+  unfoldable pub closing : World → Allowed → Outcome Act → Closed World
+  closing w i o = close (i .limit) (state≔ w (w .left) (read-outputs c (w .state) (o .stop))) o
 
-  -- The machine of a circuit, whose ticks may make `limit` steps each. A unit's rank is its gate's.
+  -- The machine of a circuit. A unit's rank is its gate's.
   abbrev pub machine : Machine
-  machine = record { W = World; In = Given; Act = Act; rank = λ a. rank-of-gate c (a .gate); opening = opening; body = body; closing = closing }
+  machine = record { W = World; In = Allowed; Act = Act; rank = λ a. rank-of-gate c (a .gate); opening = opening; body = body; closing = closing }
 
   -- before tick 1, with a log of so many bytes
   unfoldable pub world-at-start : ℕ → World
-  world-at-start room = record { state = start c; left = limit; room = room; logged = [] }
+  world-at-start room = record { state = start c; left = 0; room = room; logged = [] }
 
-  -- the ticks of a script
-  unfoldable pub ticks-of : ℕ → List Given → List (Tick (plain machine))
-  ticks-of room given = run (plain machine) given (world-at-start room)
+  -- the ticks of a script, each with the steps that it may make
+  unfoldable pub ticks-of : ℕ → List Allowed → List (Tick (plain machine))
+  ticks-of room is = run (plain machine) is (world-at-start room)
 
   -- the stop of the last tick, or 0
   unfoldable pub last-stop : List (Tick (plain machine)) → ℕ
@@ -64,5 +80,5 @@ module _ (c : Circuit) (limit : ℕ) where
       }
 
   unfoldable pub run-opened : ℕ
-  unfolding opening body closing world-at-start ticks-of last-stop seen
+  unfolding allowed opening body closing world-at-start ticks-of last-stop seen
   run-opened = 0

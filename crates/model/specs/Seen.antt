@@ -10,12 +10,12 @@ use Rattle.model.specs.declared.Value.{Value}
 use Rattle.model.specs.declared.Value.the-variants.{Nothing, Int, Float, Bool as Truth}
 use Rattle.model.specs.Base.{joined}
 use Rattle.model.specs.Circuit.{Circuit, circuit}
-use Rattle.model.specs.Script.{Given, script}
+use Rattle.model.specs.Script.{script}
 use Rattle.model.specs.State.{Wires}
 use Rattle.model.specs.Wires.{shown, is-dirty}
 use Rattle.model.specs.Chain.{run-chain}
 use Rattle.model.specs.Unit.{begin, enter}
-use Rattle.model.specs.Run.{machine, world-at-start, ticks-of}
+use Rattle.model.specs.Run.{Allowed, allowed, machine, world-at-start, ticks-of}
 use Rattle.model.specs.Answer.{checked, model-opened}
 use Rattle.model.specs.Order.{Numbered-tick, numbered-ticks}
 use Rattle.model.specs.Fresh.{read-output, afresh, fresh-opened}
@@ -47,26 +47,26 @@ pub record Tick-saw : Type 0 where
   pub late : List Saw
   pub main : List Saw
 
-module _ (c : Circuit) (limit : ℕ) where
+module _ (c : Circuit) where
   -- the wires when a unit begins, or when it is entered and has made so many steps
-  unfoldable pub wires-when : Option ℕ → Turn (numbered (machine c limit)) → Wires
+  unfoldable pub wires-when : Option ℕ → Turn (numbered (machine c)) → Wires
   wires-when none u = u .from .state .wires
   wires-when (some steps) u = run-chain c steps (begin c (u .unit .act)) (enter c (u .from .state) (u .unit .act)) .state .wires
 
   -- what a unit sees there at these outputs
-  unfoldable pub saw : Option ℕ → List ℕ → Turn (numbered (machine c limit)) → Saw
+  unfoldable pub saw : Option ℕ → List ℕ → Turn (numbered (machine c)) → Saw
   saw when os u =
       let w = wires-when when u in
       record { gate = u .unit .act .gate; shows = map (shown w) os; read = map (read-output c w) os; afresh = map (afresh c w) os }
 
-  unfoldable pub tick-saw : Option ℕ → List ℕ → Numbered-tick c limit → Tick-saw
+  unfoldable pub tick-saw : Option ℕ → List ℕ → Numbered-tick c → Tick-saw
   tick-saw when os t = record { stop = t .stop; late = map (saw when os) (t .late); main = map (saw when os) (t .main) }
 
 -- the run of a circuit and a script with these words, whose ticks may make `limit` steps
 unfoldable pub saw-in : List ℕ → List ℕ → ℕ → Option ℕ → List ℕ → List Tick-saw
 saw-in circuit-words script-words limit when os =
     let c = circuit circuit-words in
-    map (tick-saw c limit when os) (numbered-ticks c limit 65536 (script (c .constants) script-words))
+    map (tick-saw c when os) (numbered-ticks c 65536 (allowed limit (script (c .constants) script-words)))
 
 unfoldable pub saw-opened : ℕ
 unfolding model-opened fresh-opened wires-when saw tick-saw saw-in
@@ -274,32 +274,32 @@ one-each = 2 ∷ 2 ∷ 0 ∷ 0 ∷ 1 ∷ 1 ∷ 0 ∷ 4 ∷ 4 ∷ 0 ∷ []
 abbrev W : Circuit
 W = circuit write-behind
 
-abbrev given : List Given
-given = script (W .constants) one-each
+abbrev both-get : List Allowed
+both-get = allowed 100 (script (W .constants) one-each)
 
 -- whether the Select is stale in the world that the first tick leaves, read for its record
-unfoldable pub stale-when-read : List (Tick (plain (machine W 100))) → List Bool
+unfoldable pub stale-when-read : List (Tick (plain (machine W))) → List Bool
 stale-when-read [] = []
 stale-when-read (t ∷ ts) = is-dirty (t .world .state .wires) 2 ∷ []
 
 -- and unread
-unfoldable pub stale-when-unread : List Given → List Bool
+unfoldable pub stale-when-unread : List Allowed → List Bool
 stale-when-unread [] = []
-stale-when-unread (g ∷ gs) =
-    let w = world-at-start W 100 65536 in
-    is-dirty (unread W 100 w g (tick (plain (machine W 100)) w g [] tt) .state .wires) 2 ∷ []
+stale-when-unread (i ∷ is) =
+    let w = world-at-start W 65536 in
+    is-dirty (unread W w i (tick (plain (machine W)) w i [] tt) .state .wires) 2 ∷ []
 
 -- The first tick leaves the Select stale, and its record refreshes it.
-pub refreshed-for-the-record : (stale-when-unread given ≡ true ∷ []) × (stale-when-read (ticks-of W 100 65536 given) ≡ false ∷ [])
+pub refreshed-for-the-record : (stale-when-unread both-get ≡ true ∷ []) × (stale-when-read (ticks-of W 65536 both-get) ≡ false ∷ [])
 unfolding saw-opened unread-opened write-behind one-each stale-when-read stale-when-unread
 refreshed-for-the-record = (refl, refl)
 
 -- what the second Var shows after each tick
-unfoldable pub second-var : List (Tick (plain (machine W 100))) → List Value
-second-var ts = map (λ (t : Tick (plain (machine W 100))). shown (t .world .state .wires) 10) ts
+unfoldable pub second-var : List (Tick (plain (machine W))) → List Value
+second-var ts = map (λ (t : Tick (plain (machine W))). shown (t .world .state .wires) 10) ts
 
 -- Read or unread, the second tick's chain reads Int 1 there, and not the Int 9 that it wrote: settling has refreshed the Select before.
-pub read-or-unread : (second-var (ticks-of W 100 65536 given) ≡ Int 0 ∷ Int 1 ∷ []) × (second-var (unread-ticks W 100 65536 given) ≡ Int 0 ∷ Int 1 ∷ [])
+pub read-or-unread : (second-var (ticks-of W 65536 both-get) ≡ Int 0 ∷ Int 1 ∷ []) × (second-var (unread-ticks W 65536 both-get) ≡ Int 0 ∷ Int 1 ∷ [])
 unfolding saw-opened unread-opened write-behind one-each second-var
 read-or-unread = (refl, refl)
 

@@ -8,7 +8,7 @@ use Rattle.model.specs.Base.{joined}
 use Rattle.model.specs.Value.{narrow}
 use Rattle.model.specs.Circuit.{circuit}
 use Rattle.model.specs.Script.{script}
-use Rattle.model.specs.Run.{Played, ticks-of, seen}
+use Rattle.model.specs.Run.{Played, allowed, ticks-of, seen}
 use Rattle.model.specs.Answer.{Answer, refused, played, answer, model-opened}
 
 -- the arrays of a circuit and of a script, one behind the other, and what the call answers that is lent a log and three areas of 65,536 bytes each
@@ -100,6 +100,14 @@ rows =
     (plays
     ((1 ∷ 2 ∷ 1 ∷ 0 ∷ 0 ∷ 0 ∷ 0 ∷ 2 ∷ 0 ∷ 0 ∷ 0 ∷ 0 ∷ 1 ∷ 0 ∷ 0 ∷ 1 ∷ 0 ∷ 0 ∷ 0 ∷ 0 ∷ 1 ∷ 0 ∷ 0 ∷ 2 ∷ [])
     ∷ []) 0 1)
+    -- A Cycle's Count shrinks from 1,000,000 to 7 while 999,999 is shown: up gives 1. ExecDown fires the second output, Exec the first: a Toggle behind each.
+    ∷ row
+    ((6 ∷ 2 ∷ 5 ∷ 4 ∷ []) ∷ (1 ∷ 1 ∷ []) ∷ (1000000 ∷ 7 ∷ []) ∷ (28 ∷ 28 ∷ 28 ∷ 23 ∷ 22 ∷ 22 ∷ []) ∷ (0 ∷ 0 ∷ 0 ∷ 0 ∷ 0 ∷ 0 ∷ []) ∷ (-1 ∷ -1 ∷ 5 ∷ -1 ∷ -1 ∷ []) ∷ (0 ∷ 0 ∷ 0 ∷ 0 ∷ 0 ∷ []) ∷ (0 ∷ 2 ∷ 6 ∷ 7 ∷ []) ∷ (0 ∷ 2 ∷ 6 ∷ 8 ∷ []) ∷ [])
+    ((2 ∷ 4 ∷ []) ∷ (0 ∷ 0 ∷ []) ∷ (2 ∷ 2 ∷ []) ∷ (2 ∷ 1 ∷ 2 ∷ 0 ∷ []) ∷ (1 ∷ 0 ∷ 2 ∷ 0 ∷ []) ∷ [])
+    (plays
+    ((1 ∷ 2 ∷ 2 ∷ 0 ∷ 0 ∷ 0 ∷ 2 ∷ 1 ∷ 2 ∷ 2 ∷ 0 ∷ 0 ∷ 0 ∷ 0 ∷ 0 ∷ 1 ∷ 0 ∷ 0 ∷ 1 ∷ 0 ∷ 0 ∷ 0 ∷ 3 ∷ 0 ∷ 0 ∷ 0 ∷ 0 ∷ 0 ∷ 1000000 ∷ 0 ∷ 0 ∷ 999999 ∷ 0 ∷ 0 ∷ 0 ∷ 1 ∷ [])
+    ∷ (2 ∷ 2 ∷ 2 ∷ 0 ∷ 0 ∷ 0 ∷ 2 ∷ 0 ∷ 2 ∷ 2 ∷ 0 ∷ 0 ∷ 0 ∷ 0 ∷ 0 ∷ 1 ∷ 0 ∷ 0 ∷ 1 ∷ 0 ∷ 3 ∷ 0 ∷ 3 ∷ 0 ∷ 0 ∷ 0 ∷ 0 ∷ 0 ∷ 7 ∷ 0 ∷ 0 ∷ 1 ∷ 0 ∷ 1 ∷ 0 ∷ 1 ∷ [])
+    ∷ []) 0 2)
     -- A delivered event of rank 0 begins after the ranked late unit, a WorldEvent of rank 5.
     ∷ row
     ((3 ∷ 1 ∷ 11 ∷ 1 ∷ []) ∷ (1 ∷ []) ∷ (0 ∷ []) ∷ (28 ∷ 24 ∷ 26 ∷ []) ∷ (5 ∷ 0 ∷ 0 ∷ []) ∷ (-1 ∷ -1 ∷ -1 ∷ -1 ∷ -1 ∷ -1 ∷ -1 ∷ -1 ∷ -1 ∷ -1 ∷ -1 ∷ []) ∷ (0 ∷ 1 ∷ 0 ∷ 0 ∷ 0 ∷ 0 ∷ 0 ∷ 0 ∷ 0 ∷ 0 ∷ 1 ∷ []) ∷ (0 ∷ []) ∷ (0 ∷ []) ∷ [])
@@ -209,18 +217,34 @@ played-examples = (refl, refl)
 
 -- ---- the step limit, with a small number in place of 50,000,000
 
--- a WorldEvent calls three Reroutes, one behind the other: three steps
-unfoldable pub three-steps : ℕ → Played
-three-steps limit =
+-- In each tick a WorldEvent calls three Reroutes, one behind the other: three steps. The list says how many each tick may make.
+unfoldable pub three-steps : List ℕ → Played
+three-steps limits =
     let c = circuit (4 ∷ 0 ∷ 3 ∷ 3 ∷ 28 ∷ 2 ∷ 2 ∷ 2 ∷ 0 ∷ 0 ∷ 0 ∷ 0 ∷ -1 ∷ -1 ∷ -1 ∷ 0 ∷ 0 ∷ 0 ∷ 0 ∷ 2 ∷ 3 ∷ 0 ∷ 2 ∷ 4 ∷ []) in
-    seen c limit (ticks-of c limit 65536 (script (c .constants) (1 ∷ 1 ∷ 0 ∷ 1 ∷ 0 ∷ 0 ∷ [])))
+    seen c (ticks-of c 65536 (joined (map (λ limit. allowed limit (script (c .constants) (1 ∷ 1 ∷ 0 ∷ 1 ∷ 0 ∷ 0 ∷ []))) limits)))
 
 -- Three steps pass where three may be made.
-pub steps-pass : three-steps 3 ≡ record { log = 1 ∷ 3 ∷ 1 ∷ 0 ∷ 0 ∷ 0 ∷ 0 ∷ 2 ∷ 0 ∷ 0 ∷ 0 ∷ 0 ∷ 0 ∷ 0 ∷ 0 ∷ 0 ∷ 0 ∷ 0 ∷ []; stop = 0; ticks = 1 }
+pub steps-pass : three-steps (3 ∷ []) ≡ record { log = 1 ∷ 3 ∷ 1 ∷ 0 ∷ 0 ∷ 0 ∷ 0 ∷ 2 ∷ 0 ∷ 0 ∷ 0 ∷ 0 ∷ 0 ∷ 0 ∷ 0 ∷ 0 ∷ 0 ∷ 0 ∷ []; stop = 0; ticks = 1 }
 unfolding model-opened three-steps
 steps-pass = refl
 
 -- Where two may be made the third stops with 11: the steps include the one not made, and the units begun the one under way.
-pub runaway-stops : three-steps 2 ≡ record { log = 1 ∷ 3 ∷ 1 ∷ 0 ∷ 0 ∷ 11 ∷ 0 ∷ 2 ∷ []; stop = 11; ticks = 0 }
+pub runaway-stops : three-steps (2 ∷ []) ≡ record { log = 1 ∷ 3 ∷ 1 ∷ 0 ∷ 0 ∷ 11 ∷ 0 ∷ 2 ∷ []; stop = 11; ticks = 0 }
 unfolding model-opened three-steps
 runaway-stops = refl
+
+-- Each tick has a limit of its own: three steps of three, three of five, and the third of two stops.
+pub limits-differ :
+    three-steps (3 ∷ 5 ∷ 2 ∷ [])
+    ≡ record {
+      log =
+          joined (
+          (1 ∷ 3 ∷ 1 ∷ 0 ∷ 0 ∷ 0 ∷ 0 ∷ 2 ∷ 0 ∷ 0 ∷ 0 ∷ 0 ∷ 0 ∷ 0 ∷ 0 ∷ 0 ∷ 0 ∷ 0 ∷ [])
+          ∷ (2 ∷ 3 ∷ 1 ∷ 0 ∷ 0 ∷ 0 ∷ 0 ∷ 2 ∷ 0 ∷ 0 ∷ 0 ∷ 0 ∷ 0 ∷ 0 ∷ 0 ∷ 0 ∷ 0 ∷ 0 ∷ [])
+          ∷ (3 ∷ 3 ∷ 1 ∷ 0 ∷ 0 ∷ 11 ∷ 0 ∷ 2 ∷ [])
+          ∷ []);
+      stop = 11;
+      ticks = 2;
+    }
+unfolding model-opened three-steps
+limits-differ = refl

@@ -5,7 +5,7 @@ use mathlib.Core.Bool.{Bool, true, false, cond}
 use mathlib.Core.List.{List, [], _∷_, _++_, map}
 use lib.Dec.{leb, ltb}
 use lib.ListN.{length, length-map}
-use Rattle.schedule.specs.Schedule.{Raise, Filed, full, filed, room, most-waiting, most-delivered, list-full, Setup, Activation, Place, to-late, to-delivered, to-pending, push, push-all, carries, activate-late, activate-main, activate-open, Raising, raising, raise-on, raise-all}
+use Rattle.schedule.specs.Schedule.{Raise, Filed, full, filed, room, most-waiting, most-delivered, list-full, Setup, Activation, Place, to-late, to-delivered, to-pending, push, push-all, carries, activate-late, activate-main, activate-open, Raising, raise-on, raise-all}
 use Rattle.lists.specs.declared.Filed.the-variants.{Full}
 use Rattle.model.specs.Base.{snoc}
 use Rattle.model.specs.Circuit.{Circuit, rank-of-gate}
@@ -28,15 +28,15 @@ unfolding snoc
 map-snoc f [] a = refl
 map-snoc f (x ∷ l) a = ap (λ (r : List _). f x ∷ r) (map-snoc f l a)
 
-module _ (c : Circuit) (limit : ℕ) where
+module _ (c : Circuit) where
   abbrev S : Setup
-  S = bare c limit
+  S = bare c
 
   abbrev E : Type 0
   E = Activation S
 
   abbrev w : Act → E
-  w = waiting c limit
+  w = waiting c
 
   room-through : {Q : Type 0} (h : Lists → Q) (l : List Act) (most : ℕ) (k : Lists) → room (map w l) most (h k) ≡ through h (room l most k)
   room-through h l most k = rw length-map (go (ltb (length l) most))
@@ -69,32 +69,32 @@ module _ (c : Circuit) (limit : ℕ) where
 
   -- ---- `activate`
 
-  pub late-files : (u : E) (a : Act) (l : Lists) → activate-late S u (w a) (for-late c limit l) ≡ through (for-late c limit) (activate c Late a l)
+  pub late-files : (u : E) (a : Act) (l : Lists) → activate-late S u (w a) (for-late c l) ≡ through (for-late c) (activate c Late a l)
   unfolding activate-late activate
   late-files u a l =
       ap (λ (x : List E). room (map w (l .late)) most-waiting (record { late = x; delivered = map w (l .delivered) })) (push-by-rank a (l .late))
-      ∙ room-through (for-late c limit) (l .late) most-waiting (late≔ l (by-rank c a (l .late)))
+      ∙ room-through (for-late c) (l .late) most-waiting (late≔ l (by-rank c a (l .late)))
 
-  pub main-files : (u : E) (a : Act) (l : Lists) → activate-main S u (w a) (for-main c limit l) ≡ through (for-main c limit) (activate c (After (rank-of-gate c (u .act .gate))) a l)
+  pub main-files : (u : E) (a : Act) (l : Lists) → activate-main S u (w a) (for-main c l) ≡ through (for-main c) (activate c (After (rank-of-gate c (u .act .gate))) a l)
   unfolding activate-main activate carries
   main-files u a l =
-      cond-through (for-main c limit) (leb (rank-of-gate c (a .gate)) (rank-of-gate c (u .act .gate))) _ _
+      cond-through (for-main c) (leb (rank-of-gate c (a .gate)) (rank-of-gate c (u .act .gate))) _ _
       (ap (λ (x : List E). room (map w (l .carried)) most-waiting (record { pending = map w (l .pending); carried = x })) (sym (map-snoc w (l .carried) a))
-      ∙ room-through (for-main c limit) (l .carried) most-waiting (carried≔ l (snoc (l .carried) a)))
+      ∙ room-through (for-main c) (l .carried) most-waiting (carried≔ l (snoc (l .carried) a)))
       (ap (λ (x : List E). room (map w (l .pending)) most-waiting (record { pending = x; carried = map w (l .carried) })) (push-by-rank a (l .pending))
-      ∙ room-through (for-main c limit) (l .pending) most-waiting (pending≔ l (by-rank c a (l .pending))))
+      ∙ room-through (for-main c) (l .pending) most-waiting (pending≔ l (by-rank c a (l .pending))))
 
-  pub open-files : (p : Place) (a : Act) (l : Lists) → activate-open S p (w a) (for-both c limit l) ≡ through (for-both c limit) (put-to c p a l)
+  pub open-files : (p : Place) (a : Act) (l : Lists) → activate-open S p (w a) (for-both c l) ≡ through (for-both c) (put-to c p a l)
   unfolding activate-open activate deliver put-to
   open-files to-late a l =
       ap (λ (x : List E). room (map w (l .late)) most-waiting (record { lateq = record { late = x; delivered = map w (l .delivered) }; pending = map w (l .pending) })) (push-by-rank a (l .late))
-      ∙ room-through (for-both c limit) (l .late) most-waiting (late≔ l (by-rank c a (l .late)))
+      ∙ room-through (for-both c) (l .late) most-waiting (late≔ l (by-rank c a (l .late)))
   open-files to-delivered a l =
       ap (λ (x : List E). room (map w (l .delivered)) most-delivered (record { lateq = record { late = map w (l .late); delivered = x }; pending = map w (l .pending) })) (sym (map-snoc w (l .delivered) a))
-      ∙ room-through (for-both c limit) (l .delivered) most-delivered (delivered≔ l (snoc (l .delivered) a))
+      ∙ room-through (for-both c) (l .delivered) most-delivered (delivered≔ l (snoc (l .delivered) a))
   open-files to-pending a l =
-      ap (λ (x : List E). room (map w (l .pending)) most-waiting (record { lateq = for-late c limit l; pending = x })) (push-by-rank a (l .pending))
-      ∙ room-through (for-both c limit) (l .pending) most-waiting (pending≔ l (by-rank c a (l .pending)))
+      ap (λ (x : List E). room (map w (l .pending)) most-waiting (record { lateq = for-late c l; pending = x })) (push-by-rank a (l .pending))
+      ∙ room-through (for-both c) (l .pending) most-waiting (pending≔ l (by-rank c a (l .pending)))
 
   -- ---- raising: the queue, the world and the stop that the scheduler comes to
   module _ {P Q : Type 0} (h : Lists → Q) (there : P → E → Q → Filed Q) (here : P → Act → Lists → Filed Lists) (files : (p : P) (a : Act) (l : Lists) → there p (w a) (h l) ≡ through h (here p a l)) (v : World) (left : ℕ) where

@@ -5,7 +5,7 @@ use mathlib.Core.List.{List, [], _∷_}
 use mathlib.Core.Option.{Option, none, some}
 use native.Mathlib.Omega.{arith}
 use lib.ListN.{length}
-use Rattle.schedule.specs.Schedule.{empty, took, next-late, activate-late, late-pass, pass}
+use Rattle.schedule.specs.Schedule.{empty, took, next-late, activate-late, late-pass}
 use Rattle.model.specs.Circuit.{Circuit}
 use Rattle.model.specs.State.{Act as Unit-act}
 use Rattle.model.specs.Unit.{World}
@@ -50,35 +50,35 @@ next-in l = next-of (l .late) (l .delivered)
 abbrev rest-in : Lists → Lists
 rest-in l = rest-of l (l .late)
 
-module _ (c : Circuit) (limit : ℕ) where
-  empty-late : (k d p q : List Unit-act) → none ≡ next-of k d → next-late (bare c limit) (for-late c limit (four k d p q)) ≡ empty
+module _ (c : Circuit) where
+  empty-late : (k d p q : List Unit-act) → none ≡ next-of k d → next-late (bare c) (for-late c (four k d p q)) ≡ empty
   unfolding next-late next-of
   empty-late [] [] p q e = refl
   empty-late [] (a ∷ d) p q e = cc
   empty-late (b ∷ k) d p q e = cc
 
-  took-late : (k d p q : List Unit-act) (x : Unit-act) → some x ≡ next-of k d → next-late (bare c limit) (for-late c limit (four k d p q)) ≡ took (waiting c limit x) (for-late c limit (rest-of (four k d p q) k))
+  took-late : (k d p q : List Unit-act) (x : Unit-act) → some x ≡ next-of k d → next-late (bare c) (for-late c (four k d p q)) ≡ took (waiting c x) (for-late c (rest-of (four k d p q) k))
   unfolding next-late next-of rest-of
   took-late [] [] p q x e = cc
   took-late [] (a ∷ d) p q x e = let f : x ≡ a = cc in rw f refl
   took-late (b ∷ k) d p q x e = let f : x ≡ b = cc in rw f refl
 
   abbrev pub Going-late : Contents → Contents → World → ℕ → ℕ → Type 0
-  Going-late a b w left n = Going c limit (for-late c limit) (next-late (bare c limit)) (activate-late (bare c limit)) (λ _. Late) (λ u x l. late-files c limit (waiting c limit u) x l) a b w left n
+  Going-late a b w left n = Going c (for-late c) (next-late (bare c)) (activate-late (bare c)) (λ _. Late) (λ u x l. late-files c (waiting c u) x l) a b w left n
 
 -- The late pass under way since the areas a, with so many steps that the tick might make: b are the areas now, n units may still begin, and the tick may make so many steps more.
 pub record Lately (c : Circuit) (a b : Contents) (left₀ left n : ℕ) : Type 0 where
-  pub going : (limit : ℕ) (w : World) → w .state ≡ a .state → w .left ≡ left₀ → Going-late c limit a b w left n
+  pub going : (w : World) → w .state ≡ a .state → w .left ≡ left₀ → Going-late c a b w left n
   pub later : later (b .lists) ≡ later (a .lists)
 
 -- how many units may still begin
 going-rest : {c : Circuit} {a b : Contents} {left₀ left n : ℕ} → Lately c a b left₀ left n → n ≡ units-left b
-going-rest {c} {a} {b} {left₀} {left} {n} g = g .going 0 (record { state = a .state; left = left₀; room = 0; logged = [] }) refl refl .rest
+going-rest {c} {a} {b} {left₀} {left} {n} g = g .going (record { state = a .state; left = left₀; room = 0; logged = [] }) refl refl .rest
 
 -- it came to this
 abbrev pub Late-done : Circuit → Contents → Contents → Ran → ℕ → Type 0
 Late-done c a b r left₀ =
-    ((limit : ℕ) (w : World) → w .state ≡ a .state → w .left ≡ left₀ → Passes c limit (for-late c limit) a b r w (late-pass (bare c limit) (units-left a) tt (for-late c limit (a .lists)) w 0))
+    ((w : World) → w .state ≡ a .state → w .left ≡ left₀ → Passes c (for-late c) a b r w (late-pass (bare c) (units-left a) tt (for-late c (a .lists)) w 0))
     × ((b .lists .pending ≡ a .lists .pending) × (b .lists .carried ≡ a .lists .carried))
 
 both-later : (l k : Lists) → later l ≡ later k → (l .pending ≡ k .pending) × (l .carried ≡ k .carried)
@@ -88,7 +88,7 @@ module _ (c : Circuit) where
   pub late-first : (a : Contents) (left n : ℕ) → n ≡ units-left a → Lately c a a left left n
   late-first a left n e =
       record {
-        going = λ limit w s f. subst (λ (m : ℕ). Going-late c limit a a w left m) (sym e) (going-first c limit (for-late c limit) (next-late (bare c limit)) (activate-late (bare c limit)) (λ _. Late) (λ u x l. late-files c limit (waiting c limit u) x l) a w left s f);
+        going = λ w s f. subst (λ (m : ℕ). Going-late c a a w left m) (sym e) (going-first c (for-late c) (next-late (bare c)) (activate-late (bare c)) (λ _. Late) (λ u x l. late-files c (waiting c u) x l) a w left s f);
         later = refl;
       }
 
@@ -104,7 +104,7 @@ module _ (c : Circuit) where
         let p : none ≡ next-in (U .lists) = ap (act-next c (U .events)) (sym h) ∙ t .next in
         let l = U .lists in
         let same : U₁ ≡ U = t .rest ∙ ap (with-lists U) (rest-empty (l .late) (l .delivered) (l .pending) (l .carried) p) in (
-          λ limit w s v. turn-none c limit (for-late c limit) (next-late (bare c limit)) (activate-late (bare c limit)) (λ _. Late) (λ u x l₁. late-files c limit (waiting c limit u) x l₁) vs U U₁ D a r w left n same (empty-late c limit (l .late) (l .delivered) (l .pending) (l .carried) p) f o (g .going limit w s v),
+          λ w s v. turn-none c (for-late c) (next-late (bare c)) (activate-late (bare c)) (λ _. Late) (λ u x l₁. late-files c (waiting c u) x l₁) vs U U₁ D a r w left n same (empty-late c (l .late) (l .delivered) (l .pending) (l .carried) p) f o (g .going w s v),
           both-later (U₁ .lists) (a .lists) (ap (λ (u : Units). later (u .lists)) same ∙ g .later),
         )
 
@@ -128,7 +128,7 @@ module _ (c : Circuit) where
       late-on s =
           let l = U .lists in
           record {
-            going = λ limit w i j. turn-on c limit (for-late c limit) (next-late (bare c limit)) (activate-late (bare c limit)) (λ _. Late) (λ u x l₁. late-files c limit (waiting c limit u) x l₁) vs U U₁ D a b₁ r w left act-here (rest-in l) (t .rest) (took-late c limit (l .late) (l .delivered) (l .pending) (l .carried) act-here taken-here) works-here n s z (g .going limit w i j);
+            going = λ w i j. turn-on c (for-late c) (next-late (bare c)) (activate-late (bare c)) (λ _. Late) (λ u x l₁. late-files c (waiting c u) x l₁) vs U U₁ D a b₁ r w left act-here (rest-in l) (t .rest) (took-late c (l .late) (l .delivered) (l .pending) (l .carried) act-here taken-here) works-here n s z (g .going w i j);
             later = later-here;
           }
 
@@ -137,7 +137,7 @@ module _ (c : Circuit) where
       unfolding late-pass
       late-stop s =
           let l = U .lists in (
-            λ limit w i j. turn-stop c limit (for-late c limit) (next-late (bare c limit)) (activate-late (bare c limit)) (λ _. Late) (λ u x l₁. late-files c limit (waiting c limit u) x l₁) vs U U₁ D a b₁ r w left act-here (rest-in l) (t .rest) (took-late c limit (l .late) (l .delivered) (l .pending) (l .carried) act-here taken-here) works-here n s z (g .going limit w i j),
+            λ w i j. turn-stop c (for-late c) (next-late (bare c)) (activate-late (bare c)) (λ _. Late) (λ u x l₁. late-files c (waiting c u) x l₁) vs U U₁ D a b₁ r w left act-here (rest-in l) (t .rest) (took-late c (l .late) (l .delivered) (l .pending) (l .carried) act-here taken-here) works-here n s z (g .going w i j),
             both-later (b₁ .lists) (a .lists) later-here,
           )
 
@@ -146,6 +146,6 @@ module _ (c : Circuit) where
   unfolding late-pass
   late-end a b r left₀ left n z e g =
       let l = b .lists in (
-        λ limit w i j. turn-over c limit (for-late c limit) (next-late (bare c limit)) (activate-late (bare c limit)) (λ _. Late) (λ u x l₁. late-files c limit (waiting c limit u) x l₁) a b r w left n (next-in l) (empty-late c limit (l .late) (l .delivered) (l .pending) (l .carried)) (rest-in l) (took-late c limit (l .late) (l .delivered) (l .pending) (l .carried)) (e .0) (e .1) z (g .going limit w i j),
+        λ w i j. turn-over c (for-late c) (next-late (bare c)) (activate-late (bare c)) (λ _. Late) (λ u x l₁. late-files c (waiting c u) x l₁) a b r w left n (next-in l) (empty-late c (l .late) (l .delivered) (l .pending) (l .carried)) (rest-in l) (took-late c (l .late) (l .delivered) (l .pending) (l .carried)) (e .0) (e .1) z (g .going w i j),
         both-later (b .lists) (a .lists) (g .later),
       )

@@ -3,7 +3,6 @@ use Prim.Native.Nat.{ℕ, zero, suc}
 use mathlib.Core.Path.{_≡_, refl, sym, ap, _∙_}
 use mathlib.Core.Bool.{Bool, true, false}
 use mathlib.Core.List.{List, [], _∷_, _++_, append-assoc}
-use mathlib.Core.Option.{none}
 use lib.Dec.{eqb}
 use Rattle.schedule.specs.Schedule.{Filed, Setup, Activation, list-full, Took, empty, took, Raising, raise-all, Passed, no-turn, pass, acts}
 use Rattle.model.specs.Base.{if_then_else_}
@@ -11,7 +10,7 @@ use Rattle.model.specs.Circuit.{Circuit}
 use Rattle.model.specs.State.{Act, wires≔}
 use Rattle.model.specs.Chain.{Chained}
 use Rattle.model.specs.Settle.{publish-writes, settle}
-use Rattle.model.specs.Unit.{World, state≔, begin, run-unit, finish-chain}
+use Rattle.model.specs.Unit.{World, state≔, run-unit, finish-chain}
 use Rattle.model.specs.Run.{body}
 use Rattle.units.specs.declared.Place.{Place}
 use Rattle.units.specs.View.{Lists}
@@ -21,9 +20,9 @@ use Rattle.unit.specs.Unit.{Result, with-left, finished, finished-chain, ran}
 use Rattle.passes.specs.Waiting.{bare, waiting}
 use Rattle.passes.proofs.Filing.{through, raised-as}
 
-module _ (c : Circuit) (limit : ℕ) where
+module _ (c : Circuit) where
   abbrev S : Setup
-  S = bare c limit
+  S = bare c
 
   abbrev E : Type 0
   E = Activation S
@@ -36,7 +35,7 @@ module _ (c : Circuit) (limit : ℕ) where
     pub world : k .world ≡ state≔ v (z .left) (z .state)
     pub stop : k .stop ≡ z .stop
 
-  module _ {Q : Type 0} (h : Lists → Q) (to : Place) (there : E → Q → Filed Q) (files : (a : Act) (l : Lists) → there (waiting c limit a) (h l) ≡ through h (activate c to a l)) where
+  module _ {Q : Type 0} (h : Lists → Q) (to : Place) (there : E → Q → Filed Q) (files : (a : Act) (l : Lists) → there (waiting c a) (h l) ≡ through h (activate c to a l)) where
     pub chain-raises : (v : World) (r : Chained) (l : Lists) →
         let d = finish-chain c v r in
         Raises h (raise-all S (λ _. there) (d .raises) tt (h l) (d .world) (d .stop)) v (finished-chain c to r l)
@@ -49,7 +48,7 @@ module _ (c : Circuit) (limit : ℕ) where
             Raises h (raise-all S (λ _. there) (d .raises) tt (h l) (d .world) (d .stop)) v (finished-chain c to r l)
         go true e =
             let z = settle c (wires≔ (r .state) (publish-writes c (r .state .wires))) in
-            let i = raised-as c limit h (λ _. there) (λ _. activate c to) (λ _. files) v (r .left) (z .raises) l (z .state) in
+            let i = raised-as c h (λ _. there) (λ _. activate c to) (λ _. files) v (r .left) (z .raises) l (z .state) in
             rw e (record { queue = i .queue; world = i .world; stop = i .stop })
         go false e = rw e (record { queue = refl; world = refl; stop = refl })
 
@@ -76,15 +75,15 @@ module _ (c : Circuit) (limit : ℕ) where
         begun = i .begun ∙ ap (λ (x : List Act). before ++ x) (j .begun) ∙ sym (append-assoc before then₁ (acts S (r .turns)));
       }
 
-  module _ {Q : Type 0} (h : Lists → Q) (next : Q → Took E Q) (act : E → E → Q → Filed Q) (to : Act → Place) (files : (u a : Act) (l : Lists) → act (waiting c limit u) (waiting c limit a) (h l) ≡ through h (activate c (to u) a l)) where
+  module _ {Q : Type 0} (h : Lists → Q) (next : Q → Took E Q) (act : E → E → Q → Filed Q) (to : Act → Place) (files : (u a : Act) (l : Lists) → act (waiting c u) (waiting c a) (h l) ≡ through h (activate c (to u) a l)) where
     -- the next one begins and runs
     pub turn :
-        (n : ℕ) (w : World) (l : Lists) (a : Act) (rest : Lists) → next (h l) ≡ took (waiting c limit a) (h rest) →
+        (n : ℕ) (w : World) (l : Lists) (a : Act) (rest : Lists) → next (h l) ≡ took (waiting c a) (h rest) →
         let z = ran c (to a) (w .left) a (w .state) rest in
         Like (pass S next act (suc n) tt (h l) w 0) (pass S next act n tt (h (z .lists)) (state≔ w (z .left) (z .state)) (z .stop)) (a ∷ [])
     unfolding pass body run-unit ran
     turn n w l a rest e =
-        let i = chain-raises h (to a) (act (waiting c limit a)) (files a) w (run-unit c w a) rest in
+        let i = chain-raises h (to a) (act (waiting c a)) (files a) w (run-unit c w a) rest in
         rw (e, i .queue, i .world, i .stop) (record { world = refl; queue = refl; stop = refl; left = refl; begun = refl })
 
     -- nothing waits

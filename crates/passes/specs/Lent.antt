@@ -15,13 +15,13 @@ use Rattle.passes.specs.Taking.{one-begun, Works}
 
 abbrev pub Passes-late : Circuit → Contents → Contents → ℕ → Ran → Type 0
 Passes-late c a b left r =
-    (limit : ℕ) (w : World) → w .state ≡ a .state → w .left ≡ left
-    → Passes c limit (for-late c limit) a b r w (late-pass (bare c limit) (units-left a) tt (for-late c limit (a .lists)) w 0)
+    (w : World) → w .state ≡ a .state → w .left ≡ left
+    → Passes c (for-late c) a b r w (late-pass (bare c) (units-left a) tt (for-late c (a .lists)) w 0)
 
 abbrev pub Passes-main : Circuit → Contents → Contents → ℕ → Ran → Type 0
 Passes-main c a b left r =
-    (limit : ℕ) (w : World) → w .state ≡ a .state → w .left ≡ left
-    → Passes c limit (for-main c limit) a b r w (main-pass (bare c limit) (units-left a) tt (for-main c limit (a .lists)) w 0)
+    (w : World) → w .state ≡ a .state → w .left ≡ left
+    → Passes c (for-main c) a b r w (main-pass (bare c) (units-left a) tt (for-main c (a .lists)) w 0)
 
 -- the late pass leaves what is pending and what is carried
 abbrev pub Leaves-main : Contents → Contents → Type 0

@@ -26,9 +26,9 @@ abbrev pub units-left : Contents → ℕ
 units-left a = most-units - length (a .kept .begun)
 
 -- The areas a became b, with the answer r, as the pass p, from the world w on; h is what waits for it.
-pub record Passes (c : Circuit) (limit : ℕ) {Q : Type 0} (h : Lists → Q) (a b : Contents) (r : Ran) (w : World) (p : Passed (bare c limit) Q) : Type 0 where
+pub record Passes (c : Circuit) {Q : Type 0} (h : Lists → Q) (a b : Contents) (r : Ran) (w : World) (p : Passed (bare c) Q) : Type 0 where
   pub world : p .world ≡ state≔ w (r .left) (b .state)
   pub queue : p .queue ≡ h (b .lists)
   pub stop : p .stop ≡ r .stop
   pub left : p .left ≡ units-left b
-  pub kept : b .kept ≡ with-begun (a .kept) (a .kept .begun ++ map begun-as (acts (bare c limit) (p .turns)))
+  pub kept : b .kept ≡ with-begun (a .kept) (a .kept .begun ++ map begun-as (acts (bare c) (p .turns)))

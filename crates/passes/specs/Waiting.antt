@@ -1,5 +1,4 @@
 -- What waits in the areas, as the scheduler has it: activations without identities.
-use Prim.Native.Nat.{ℕ}
 use mathlib.Core.List.{map}
 use Rattle.schedule.specs.Schedule.{Setup, plain, Activation, LateQ, MainQ, OpenQ}
 use Rattle.model.specs.Circuit.{Circuit}
@@ -7,10 +6,10 @@ use Rattle.model.specs.State.{Act}
 use Rattle.model.specs.Run.{machine}
 use Rattle.units.specs.View.{Lists}
 
-module _ (c : Circuit) (limit : ℕ) where
+module _ (c : Circuit) where
   -- the machine of a circuit, scheduled without identities
   abbrev pub bare : Setup
-  bare = plain (machine c limit)
+  bare = plain (machine c)
 
   -- an activation
   abbrev pub waiting : Act → Activation bare

@@ -4,11 +4,10 @@ use mathlib.Core.Bool.{Bool, true, false}
 use mathlib.Core.List.{List, [], _∷_}
 use mathlib.Core.Option.{Option}
 use Prim.Native.Nat.{ℕ, zero, suc}
-use lib.ListN.{set}
-use Rattle.schedule.specs.Schedule.{Raise, Outcome, Closed, Machine, Setup, plain, MainQ, OpenQ, Activation, raise-all, pass, push-all, activate-open, next-late, activate-late, next-main, activate-main, late-pass, main-pass, most-units, outcome, tick}
+use Rattle.schedule.specs.Schedule.{Raise, Outcome, Closed, plain, Activation, tick}
 use Rattle.schedule.specs.Promise.{All, [·], _∷·_}
 use Rattle.schedule.specs.Keeping.{Did-keep}
-use Rattle.schedule.proofs.Keeps.{raise-all-keeps, pass-keeps}
+use Rattle.schedule.proofs.Keeps.{tick-keeps}
 use Rattle.model.specs.declared.Value.{Value}
 use Rattle.model.specs.Base.{each}
 use Rattle.model.specs.Circuit.{Circuit, gate-at-input, inputs-of, gates}
@@ -21,34 +20,11 @@ use Rattle.model.specs.Settle.{Settled, calm, raise, publish-writes, pulse, com
 use Rattle.model.specs.Opening.{wires-fresh, wires-at-start, start, next-tick, begin-tick, lower, open-tick}
 use Rattle.model.specs.Unit.{World, state≔, raises-in, enter, run-unit, finish-chain}
 use Rattle.model.specs.Record.{read-outputs, write, close}
-use Rattle.model.specs.Run.{opening, body, closing, machine}
+use Rattle.model.specs.Run.{Allowed, opening, body, closing, machine}
 use Rattle.model.proofs.Lists.{all-pass, if-both, each-keeps, all-append, map-all}
 use Rattle.model.proofs.Checks.{detect-keeps}
 use Rattle.model.proofs.Walks.{run-chain-keeps, check-on-keeps, Opened-keeps, open-tick-keeps}
 use Rattle.model.proofs.Sized.{behind-keeps, mark-readers-keeps}
-
--- ---- the scheduler: what holds when a tick has opened, and is kept by each unit and by the record, holds after the tick
-
-module _ (S : Setup) where
-  open Setup S using (Tag)
-  open Machine (S .machine) using (W, In, Act, opening as opens, body as runs, closing as closes)
-
-  module _ (P : W → Type 0) (ran : (w : W) (a : Act) → P w → Did-keep P (runs w a)) where
-    pub tick-ends :
-        ((w : W) (o : Outcome Act) → P w → P (closes w o .world)) →
-        (w : W) (i : In) (came : List (Activation S)) (t : Tag) → Did-keep P (opens w i) → P (tick S w i came t .world)
-    unfolding tick late-pass main-pass
-    tick-ends closed w i came t h =
-        let d = opens w i in
-        let q₀ : OpenQ (Activation S) = record { lateq = record { late = push-all S came []; delivered = [] }; pending = [] } in
-        let o = raise-all S (activate-open S) (d .raises) t q₀ (d .world) (d .stop) in
-        let a = raise-all-keeps S P (activate-open S) (d .raises) t q₀ (d .world) (d .stop) (h .world) (h .raises) in
-        let l = pass S (next-late S) (activate-late S) most-units (o .next) (o .queue .lateq) (o .world) (o .stop) in
-        let b = pass-keeps S P ran (next-late S) (activate-late S) most-units (o .next) (o .queue .lateq) (o .world) (o .stop) a in
-        let q : MainQ (Activation S) = record { pending = o .queue .pending; carried = [] } in
-        let m = pass S (next-main S) (activate-main S) (l .left) (l .next) q (l .world) (l .stop) in
-        let e = pass-keeps S P ran (next-main S) (activate-main S) (l .left) (l .next) q (l .world) (l .stop) (b .world) in
-        closed (m .world) (outcome S (l .turns) (m .turns) (m .queue .carried) (m .stop)) (e .world)
 
 -- ---- the number of the tick
 
@@ -131,7 +107,7 @@ module _ (c : Circuit) (n : ℕ) where
   ready-at w i z = behind-keeps c (Wires-at n) (refresh c) refresh-at w i z
 
   mark-readers-at : (w : Wires) (o : ℕ) → Wires-at n w → Wires-at n (mark-readers c w o)
-  mark-readers-at = mark-readers-keeps c (Wires-at n) (λ w g _ z. soil-at w g z) watch-at
+  mark-readers-at = mark-readers-keeps c (Wires-at n) (λ w g _ z. soil-at w g z) (λ w i _ z. watch-at w i z)
 
   invalidate-at : (w : Wires) (g : ℕ) → Wires-at n w → Wires-at n (invalidate c w g)
   unfolding invalidate
@@ -317,19 +293,19 @@ module _ (c : Circuit) (n : ℕ) where
       let y = settle-at _ (wires-at z (publish-writes-at (r .state .wires) (z .wires))) in
       if-both (Did-keep World-at) _ (record { world = y .state; raises = raises-in-at w (r .left) _ (y .raises) }) (record { world = z; raises = [·] })
 
-  opening-at : (limit : ℕ) (w : World) (given : Given) → State-at n (begin-tick (w .state) (given .dt)) → Did-keep World-at (opening c limit w given)
+  opening-at : (w : World) (i : Allowed) → State-at n (begin-tick (w .state) (i .given .dt)) → Did-keep World-at (opening c w i)
   unfolding opening state≔
-  opening-at limit w given z =
-      let y = open-tick-at (w .state) given z in
-      record { world = y .state; raises = raises-in-at w limit _ (y .raises) }
+  opening-at w i z =
+      let y = open-tick-at (w .state) (i .given) z in
+      record { world = y .state; raises = raises-in-at w (i .limit) _ (y .raises) }
 
-  body-at : (limit : ℕ) (w : World) (a : Act) → World-at w → Did-keep World-at (body c limit w a)
+  body-at : (w : World) (a : Act) → World-at w → Did-keep World-at (body c w a)
   unfolding body
-  body-at limit w a z = finish-chain-at w _ (run-unit-at w a z)
+  body-at w a z = finish-chain-at w _ (run-unit-at w a z)
 
-  closing-at : (limit : ℕ) (w : World) (o : Outcome Act) → World-at w → World-at (closing c limit w o .world)
+  closing-at : (w : World) (i : Allowed) (o : Outcome Act) → World-at w → World-at (closing c w i o .world)
   unfolding closing close write state≔
-  closing-at limit w o z =
+  closing-at w i o z =
       let y = read-outputs-at (w .state) (o .stop) z in
       if-both (λ (k : Closed World). World-at (k .world)) _ y y
 
@@ -340,12 +316,12 @@ begins-next s dt = record { wires = record { number = refl } }
 
 -- A tick counts up the number of ticks by one, also one that is stopped.
 pub tick-by-one :
-    (c : Circuit) (limit : ℕ) (w : World) (i : Given) (came : List (Activation (plain (machine c limit)))) →
-    tick (plain (machine c limit)) w i came tt .world .state .wires .tick ≡ suc (w .state .wires .tick)
-tick-by-one c limit w i came =
+    (c : Circuit) (w : World) (i : Allowed) (came : List (Activation (plain (machine c)))) →
+    tick (plain (machine c)) w i came tt .world .state .wires .tick ≡ suc (w .state .wires .tick)
+tick-by-one c w i came =
     let n = suc (w .state .wires .tick) in
-    tick-ends (plain (machine c limit)) (World-at c n) (body-at c n limit) (closing-at c n limit) w i came tt
-    (opening-at c n limit w i (begins-next (w .state) (i .dt))) .wires .number
+    tick-keeps (plain (machine c)) (World-at c n) (body-at c n) (closing-at c n) w i came tt
+    (opening-at c n w i (begins-next (w .state) (i .given .dt))) .world .wires .number
 
 -- A run starts at tick 0.
 pub start-at-zero : (c : Circuit) → start c .wires .tick ≡ 0

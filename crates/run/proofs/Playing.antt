@@ -3,17 +3,16 @@ use Prim.Native.Nat.{ℕ, _+_, _-_, _*_, _≤_, _<_}
 use mathlib.Core.Path.{_≡_, refl, sym, ap, _∙_, subst}
 use mathlib.Core.List.{List, [], _∷_, map}
 use native.Mathlib.Omega.{arith}
-use lib.ListN.{length, getD, drop, drop-of-length-le, replicate}
+use lib.ListN.{length, getD, drop, replicate}
 use Rattle.words.specs.Words.{words}
 use Rattle.words.proofs.Laws.{lengths}
-use Rattle.schedule.specs.Schedule.{tick, run}
+use Rattle.schedule.specs.Schedule.{tick}
 use Rattle.model.specs.Base.{sum}
 use Rattle.model.specs.Circuit.{Circuit, part, word-at}
-use Rattle.model.specs.Script.{Given, script}
 use Rattle.model.specs.State.{idle, Delay}
 use Rattle.model.specs.Unit.{World}
 use Rattle.model.specs.Opening.{start, wires-at-start}
-use Rattle.model.specs.Run.{seen, world-at-start}
+use Rattle.model.specs.Run.{Allowed, allow, world-at-start}
 use Rattle.wires.specs.View.{Values}
 use Rattle.units.specs.View.{Units}
 use Rattle.units.specs.Calls.{empty}
@@ -21,9 +20,9 @@ use Rattle.areas.specs.Areas.{Contents}
 use Rattle.opening.specs.Opening.{stimuli-of}
 use Rattle.passes.specs.Waiting.{bare, waiting}
 use Rattle.ticks.specs.Ticks.{Ticks}
-use Rattle.run.specs.Running.{Running, Logged, Good-script, givens}
+use Rattle.run.specs.Running.{Running, Logged, Good-script, gets, seen-of}
 use Rattle.run.proofs.Turns.{running-first, running-on, running-stop, running-end}
-use Rattle.run.proofs.Scripts.{used, script-next, used-fits, used-by-next, script-length}
+use Rattle.run.proofs.Scripts.{used, script-next, gets-next, gets-over, used-fits, used-by-next, script-length}
 use Rattle.run.proofs.Counting.{tick-by-one, start-at-zero}
 
 -- ---- the start of the areas
@@ -38,7 +37,7 @@ started c v u ds r s e f g = (rw (e, f, g) refl, rw f refl)
 
 -- After k ticks, with so many stimuli used and so many words of records: the run so far, the number of the last tick, and that the records are in the log.
 pub record Playing (c : Circuit) (limit : ℕ) (ws : List ℕ) (k taken at : ℕ) (a : Contents) (before log : List ℕ) : Type 0 where
-  pub running : Running c limit (givens c ws) (world-at-start c limit (length before)) k a before log at
+  pub running : Running c (gets c limit ws) (world-at-start c (length before)) k a before log at
   pub number : a .state .wires .tick ≡ k
   pub taken-is : taken ≡ used (part ws (2 + word-at ws 0) (word-at ws 0)) k
   pub room : at * 8 ≤ length before
@@ -52,7 +51,7 @@ pub playing-first :
 unfolding world-at-start
 playing-first c limit ws a log e f =
     record {
-      running = running-first c limit (givens c ws) (world-at-start c limit (length log)) log a log refl (sym e) refl f;
+      running = running-first c (gets c limit ws) (world-at-start c (length log)) log a log refl (sym e) refl f;
       number = rw e (start-at-zero c);
       taken-is = none-used (part ws (2 + word-at ws 0) (word-at ws 0));
       room = omega arith;
@@ -78,7 +77,7 @@ module _ (c : Circuit) (limit : ℕ) (ws : List ℕ) (good : Good-script c ws) (
   abbrev pub Plays : ℕ → ℕ → ℕ → ℕ → ℕ → ℕ → ℕ → Contents → Contents → List ℕ → List ℕ → Type 0
   Plays gates constants n dt at size stop a b log after =
       (w : World) → w .state ≡ a .state → w .room ≡ length log - 8 * at →
-      Ticks c limit a b log after at size stop w (tick (bare c limit) w (record { dt = dt; stimuli = stimuli-of c ws gates constants n }) (map (waiting c limit) (a .lists .carried)) tt)
+      Ticks c a b log after at size stop w (tick (bare c) w (allow limit (record { dt = dt; stimuli = stimuli-of c ws gates constants n })) (map (waiting c) (a .lists .carried)) tt)
 
   module _ (k taken at : ℕ) (a : Contents) (log : List ℕ) (p : Playing c limit ws k taken at a before log) (same : length log ≡ length before) (h : k < T) where
     at-word : k < word-at ws 0
@@ -96,14 +95,14 @@ module _ (c : Circuit) (limit : ℕ) (ws : List ℕ) (good : Good-script c ws) (
 
     module _ (n dt : ℕ) (en : n ≡ getD ws (2 + T + k) 0) (ed : dt ≡ getD ws (2 + k) 0) (size stop : ℕ) (b : Contents) (after : List ℕ)
         (t : Plays (2 + 2 * T + taken) (2 + 2 * T + S + taken) n dt at size stop a b log after) where
-      abbrev given : Given
-      given = record { dt = dt; stimuli = stimuli-of c ws (2 + 2 * T + taken) (2 + 2 * T + S + taken) n }
+      abbrev i : Allowed
+      i = allow limit (record { dt = dt; stimuli = stimuli-of c ws (2 + 2 * T + taken) (2 + 2 * T + S + taken) n })
 
-      gets : drop k (givens c ws) ≡ given ∷ drop (k + 1) (givens c ws)
+      next : drop k (gets c limit ws) ≡ i ∷ drop (k + 1) (gets c limit ws)
       unfolding word-at
-      gets = rw (ed, en, p .taken-is, eT, eS) (script-next c ws good k at-word)
+      next = gets-next c limit ws k _ (rw (ed, en, p .taken-is, eT, eS) (script-next c ws good k at-word))
 
-      abbrev did : Ticks c limit a b log after at size stop (p .running .world) (tick (bare c limit) (p .running .world) given (map (waiting c limit) (a .lists .carried)) tt)
+      abbrev did : Ticks c a b log after at size stop (p .running .world) (tick (bare c) (p .running .world) i (map (waiting c) (a .lists .carried)) tt)
       did = t (p .running .world) (p .running .state) (p .running .room ∙ ap (λ (x : ℕ). x - 8 * at) (sym same))
 
       -- the record is in the log
@@ -115,24 +114,24 @@ module _ (c : Circuit) (limit : ℕ) (ws : List ℕ) (good : Good-script c ws) (
       unfolding word-at
       playing-on e =
           record {
-            running = running-on c limit (givens c ws) (world-at-start c limit (length before)) before k a log at (p .running) given b after size gets (subst (λ (s : ℕ). Ticks c limit a b log after at size s (p .running .world) (tick (bare c limit) (p .running .world) given (map (waiting c limit) (a .lists .carried)) tt)) e did);
-            number = (let x = ap (λ s. s .wires .tick) (did .state) in let y = tick-by-one c limit (p .running .world) given (map (waiting c limit) (a .lists .carried)) in let z = ap (λ s. s .wires .tick) (p .running .state) in let u = p .number in omega arith);
+            running = running-on c (gets c limit ws) (world-at-start c (length before)) before k a log at (p .running) i b after size next (subst (λ (s : ℕ). Ticks c a b log after at size s (p .running .world) (tick (bare c) (p .running .world) i (map (waiting c) (a .lists .carried)) tt)) e did);
+            number = (let x = ap (λ s. s .wires .tick) (did .state) in let y = tick-by-one c (p .running .world) i (map (waiting c) (a .lists .carried)) in let z = ap (λ s. s .wires .tick) (p .running .state) in let u = p .number in omega arith);
             taken-is = (let x = used-by-next c ws good k at-word in let y = p .taken-is in let z : n ≡ getD ws (2 + getD ws 0 0 + k) 0 = en ∙ ap (λ (m : ℕ). getD ws (2 + m + k) 0) eT in omega arith);
             room = record-in;
           }
 
       -- a stop
-      pub playing-stop : (stop ≡ 0 → ⊥) → Logged (seen c limit (run (bare c limit) (givens c ws) (world-at-start c limit (length before)))) before after (at + size) stop k × ((at + size) * 8 ≤ length before)
-      playing-stop e = (running-stop c limit (givens c ws) (world-at-start c limit (length before)) before k a log at (p .running) given b after size stop gets e did, record-in)
+      pub playing-stop : (stop ≡ 0 → ⊥) → Logged (seen-of c limit ws (length before)) before after (at + size) stop k × ((at + size) * 8 ≤ length before)
+      playing-stop e = (running-stop c (gets c limit ws) (world-at-start c (length before)) before k a log at (p .running) i b after size stop next e did, record-in)
 
   -- the script's end
   pub playing-end :
       (k taken at : ℕ) (a : Contents) (log : List ℕ) → Playing c limit ws k taken at a before log → T ≤ k → k ≤ T →
-      Logged (seen c limit (run (bare c limit) (givens c ws) (world-at-start c limit (length before)))) before log at 0 T × (at * 8 ≤ length before)
+      Logged (seen-of c limit ws (length before)) before log at 0 T × (at * 8 ≤ length before)
   unfolding word-at
   playing-end k taken at a log p h g =
       let e : k ≡ T = omega arith in (
-        subst (λ (m : ℕ). Logged (seen c limit (run (bare c limit) (givens c ws) (world-at-start c limit (length before)))) before log at 0 m) e
-            (running-end c limit (givens c ws) (world-at-start c limit (length before)) before k a log at (p .running) (drop-of-length-le (givens c ws) {i = k} (let l = script-length c ws good in omega arith))),
+        subst (λ (m : ℕ). Logged (seen-of c limit ws (length before)) before log at 0 m) e
+            (running-end c (gets c limit ws) (world-at-start c (length before)) before k a log at (p .running) (gets-over c limit ws k (let l = script-length c ws good in omega arith))),
         p .room,
       )

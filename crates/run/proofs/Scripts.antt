@@ -6,17 +6,18 @@ use mathlib.Core.List.{List, [], _∷_}
 use native.Mathlib.Omega.{arith}
 use lib.Dec.{ltb, eqb}
 use borrow.Author.Tests.{ltb-true, ltb-false, eqb-true}
-use lib.ListN.{length, getD, take, drop, length-drop, List·getD-eq-default}
+use lib.ListN.{length, getD, take, drop, length-drop, drop-of-length-le, List·getD-eq-default}
 use lib.Seq.{drop-drop, getD-drop, getD-take, length-take-le}
 use Rattle.words.specs.Words.{words}
 use Rattle.model.specs.Base.{all, both, sum}
 use Rattle.model.specs.Circuit.{Circuit, part, word-at, kind-of-gate}
-use Rattle.model.specs.Script.{stimulus, given, script}
+use Rattle.model.specs.Script.{Given, stimulus, given, script}
 use Rattle.model.specs.State.{Act}
+use Rattle.model.specs.Run.{Allowed, allow, allowed}
 use Rattle.model.specs.Questions.{names-constant}
 use Rattle.model.proofs.Lists.{both-true}
 use Rattle.opening.specs.Opening.{stimuli-of}
-use Rattle.run.specs.Running.{Good-script}
+use Rattle.run.specs.Running.{Good-script, gets}
 
 -- ---- parts of lists
 
@@ -231,3 +232,25 @@ module _ (c : Circuit) (ws : List ℕ) (good : Good-script c ws) where
           let p = good .few-gates in
           let q = good .few-constants in
           ap₂ (stimulus (c .constants)) (let z : x ≡ x % 2 ^ 16 = omega arith in z) (let z : y ≡ y % 2 ^ 16 = omega arith in z)
+
+-- ---- with the steps that each tick may make
+
+allowed-drop : (limit : ℕ) (gs : List Given) (k : ℕ) → drop k (allowed limit gs) ≡ allowed limit (drop k gs)
+unfolding allowed
+allowed-drop limit gs zero = refl
+allowed-drop limit [] (suc k) = refl
+allowed-drop limit (g ∷ gs) (suc k) = allowed-drop limit gs k
+
+pub gets-next :
+    (c : Circuit) (limit : ℕ) (ws : List ℕ) (k : ℕ) (g : Given) → drop k (script (c .constants) ws) ≡ g ∷ drop (k + 1) (script (c .constants) ws) →
+    drop k (gets c limit ws) ≡ allow limit g ∷ drop (k + 1) (gets c limit ws)
+unfolding allowed
+gets-next c limit ws k g e =
+    let gs = script (c .constants) ws in
+    allowed-drop limit gs k ∙ ap (allowed limit) e ∙ ap (λ (is : List Allowed). allow limit g ∷ is) (sym (allowed-drop limit gs (k + 1)))
+
+pub gets-over : (c : Circuit) (limit : ℕ) (ws : List ℕ) (k : ℕ) → length (script (c .constants) ws) ≤ k → drop k (gets c limit ws) ≡ []
+unfolding allowed
+gets-over c limit ws k h =
+    let gs = script (c .constants) ws in
+    allowed-drop limit gs k ∙ ap (allowed limit) (drop-of-length-le gs {i = k} h)

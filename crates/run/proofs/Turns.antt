@@ -11,9 +11,8 @@ use Rattle.words.specs.Words.{words, tail}
 use Rattle.schedule.specs.Schedule.{Setup, Activation, Tick, tick, go-on, run, run-on}
 use Rattle.model.specs.Base.{if_then_else_, keep, joined}
 use Rattle.model.specs.Circuit.{Circuit}
-use Rattle.model.specs.Script.{Given}
 use Rattle.model.specs.Unit.{World}
-use Rattle.model.specs.Run.{Played, last-stop, seen}
+use Rattle.model.specs.Run.{Played, Allowed, last-stop, seen}
 use Rattle.areas.specs.Areas.{Contents}
 use Rattle.passes.specs.Waiting.{bare, waiting}
 use Rattle.ticks.specs.Ticks.{Ticks}
@@ -27,19 +26,19 @@ log-grows xs ys ws log at size n e =
     ∙ ap (λ (l : List ℕ). l ++ ys ++ drop (at + size) (xs ++ drop at ws)) (take-at xs (drop at ws) at n)
     ∙ ap (λ (l : List ℕ). xs ++ ys ++ l) (sym (drop-drop size at (xs ++ drop at ws)) ∙ ap (drop size) (drop-at xs (drop at ws) at n) ∙ drop-drop size at ws)
 
-module _ (c : Circuit) (limit : ℕ) where
+module _ (c : Circuit) where
   abbrev S : Setup
-  S = bare c limit
+  S = bare c
 
   -- ---- what is seen, tick by tick
 
   -- a tick without a stop
-  seen-on : (t : Tick S) (ts : List (Tick S)) → t .stop ≡ 0 → seen c limit (t ∷ go-on S (t .stop) ts) ≡ more (t .world .logged) 1 (seen c limit ts)
+  seen-on : (t : Tick S) (ts : List (Tick S)) → t .stop ≡ 0 → seen c (t ∷ go-on S (t .stop) ts) ≡ more (t .world .logged) 1 (seen c ts)
   unfolding seen last-stop joined keep if_then_else_ more
-  seen-on t ts e = rw e (ap (λ (n : ℕ). record { log = t .world .logged ++ seen c limit ts .log; stop = seen c limit ts .stop; ticks = n }) (let x : suc (seen c limit ts .ticks) ≡ 1 + seen c limit ts .ticks = omega arith in x))
+  seen-on t ts e = rw e (ap (λ (n : ℕ). record { log = t .world .logged ++ seen c ts .log; stop = seen c ts .stop; ticks = n }) (let x : suc (seen c ts .ticks) ≡ 1 + seen c ts .ticks = omega arith in x))
 
   -- a stop
-  seen-stop : (t : Tick S) (ts : List (Tick S)) → (t .stop ≡ 0 → ⊥) → seen c limit (t ∷ go-on S (t .stop) ts) ≡ record { log = t .world .logged; stop = t .stop; ticks = 0 }
+  seen-stop : (t : Tick S) (ts : List (Tick S)) → (t .stop ≡ 0 → ⊥) → seen c (t ∷ go-on S (t .stop) ts) ≡ record { log = t .world .logged; stop = t .stop; ticks = 0 }
   unfolding seen last-stop joined keep if_then_else_
   seen-stop t ts e = rw (none (t .stop) e, ne-eqb (t .stop) 0 e) (ap (λ (l : List ℕ). record { log = l; stop = t .stop; ticks = 0 }) (append-nil (t .world .logged)))
     where
@@ -56,9 +55,9 @@ module _ (c : Circuit) (limit : ℕ) where
   nothing-before p = ap (λ (n : ℕ). record { log = p .log; stop = p .stop; ticks = n }) (zero-add (p .ticks))
 
   -- ---- a run under way
-  module _ (givens : List Given) (w : World) (before : List ℕ) where
+  module _ (is : List Allowed) (w : World) (before : List ℕ) where
     -- its start
-    pub running-first : (a : Contents) (log : List ℕ) → log ≡ before → w .state ≡ a .state → w .room ≡ length before → a .lists .carried ≡ [] → Running c limit givens w 0 a before log 0
+    pub running-first : (a : Contents) (log : List ℕ) → log ≡ before → w .state ≡ a .state → w .room ≡ length before → a .lists .carried ≡ [] → Running c is w 0 a before log 0
     unfolding more run
     running-first a log same e f g =
         record {
@@ -69,25 +68,25 @@ module _ (c : Circuit) (limit : ℕ) where
           size = refl;
           words = ap words same;
           tail = ap tail same;
-          seen = rw g (sym (nothing-before (seen c limit (run S givens w))));
+          seen = rw g (sym (nothing-before (seen c (run S is w))));
         }
 
-    module _ (k : ℕ) (a : Contents) (log : List ℕ) (at : ℕ) (r : Running c limit givens w k a before log at) where
+    module _ (k : ℕ) (a : Contents) (log : List ℕ) (at : ℕ) (r : Running c is w k a before log at) where
       -- the next tick
-      abbrev pub ticked : Given → Tick S
-      ticked i = tick S (r .world) i (map (waiting c limit) (a .lists .carried)) tt
+      abbrev pub ticked : Allowed → Tick S
+      ticked i = tick S (r .world) i (map (waiting c) (a .lists .carried)) tt
 
       next-tick :
-          (i : Given) → drop k givens ≡ i ∷ drop (k + 1) givens →
-          seen c limit (run-on S (drop k givens) (r .world) (map (waiting c limit) (a .lists .carried)) tt)
-          ≡ seen c limit (ticked i ∷ go-on S (ticked i .stop) (run-on S (drop (k + 1) givens) (ticked i .world) (ticked i .carried) tt))
+          (i : Allowed) → drop k is ≡ i ∷ drop (k + 1) is →
+          seen c (run-on S (drop k is) (r .world) (map (waiting c) (a .lists .carried)) tt)
+          ≡ seen c (ticked i ∷ go-on S (ticked i .stop) (run-on S (drop (k + 1) is) (ticked i .world) (ticked i .carried) tt))
       unfolding run-on
-      next-tick i e = ap (λ (g : List Given). seen c limit (run-on S g (r .world) (map (waiting c limit) (a .lists .carried)) tt)) e
+      next-tick i e = ap (λ (js : List Allowed). seen c (run-on S js (r .world) (map (waiting c) (a .lists .carried)) tt)) e
 
       -- it came to no stop
       pub running-on :
-          (i : Given) (b : Contents) (after : List ℕ) (size : ℕ) → drop k givens ≡ i ∷ drop (k + 1) givens → Ticks c limit a b log after at size 0 (r .world) (ticked i) →
-          Running c limit givens w (k + 1) b before after (at + size)
+          (i : Allowed) (b : Contents) (after : List ℕ) (size : ℕ) → drop k is ≡ i ∷ drop (k + 1) is → Ticks c a b log after at size 0 (r .world) (ticked i) →
+          Running c is w (k + 1) b before after (at + size)
       running-on i b after size e t =
           record {
             world = ticked i .world;
@@ -97,16 +96,16 @@ module _ (c : Circuit) (limit : ℕ) where
             size = length-append (r .records) (ticked i .world .logged) ∙ (let x = r .size in let y = t .logged in omega arith);
             words = t .log ∙ log-grows (r .records) (ticked i .world .logged) (words before) (words log) at size (r .size) (r .words);
             tail = t .behind ∙ r .tail;
-            seen = r .seen ∙ ap (more (r .records) k) (next-tick i e ∙ seen-on (ticked i) _ (t .stopped)) ∙ more-more (r .records) (ticked i .world .logged) k 1 _ ∙ ap (λ (x : List (Activation S)). more (r .records ++ ticked i .world .logged) (k + 1) (seen c limit (run-on S (drop (k + 1) givens) (ticked i .world) x tt))) (t .carried);
+            seen = r .seen ∙ ap (more (r .records) k) (next-tick i e ∙ seen-on (ticked i) _ (t .stopped)) ∙ more-more (r .records) (ticked i .world .logged) k 1 _ ∙ ap (λ (x : List (Activation S)). more (r .records ++ ticked i .world .logged) (k + 1) (seen c (run-on S (drop (k + 1) is) (ticked i .world) x tt))) (t .carried);
           }
 
       -- it came to a stop, which ends the run
       pub running-stop :
-          (i : Given) (b : Contents) (after : List ℕ) (size stop : ℕ) → drop k givens ≡ i ∷ drop (k + 1) givens → (stop ≡ 0 → ⊥) → Ticks c limit a b log after at size stop (r .world) (ticked i) →
-          Logged (seen c limit (run S givens w)) before after (at + size) stop k
+          (i : Allowed) (b : Contents) (after : List ℕ) (size stop : ℕ) → drop k is ≡ i ∷ drop (k + 1) is → (stop ≡ 0 → ⊥) → Ticks c a b log after at size stop (r .world) (ticked i) →
+          Logged (seen c (run S is w)) before after (at + size) stop k
       unfolding more
       running-stop i b after size stop e f t =
-          let p : seen c limit (run S givens w) ≡ more (r .records) k (record { log = ticked i .world .logged; stop = ticked i .stop; ticks = 0 })
+          let p : seen c (run S is w) ≡ more (r .records) k (record { log = ticked i .world .logged; stop = ticked i .stop; ticks = 0 })
           = r .seen ∙ ap (more (r .records) k) (next-tick i e ∙ seen-stop (ticked i) _ (λ y. f (sym (t .stopped) ∙ y))) in
           record {
             stop = ap (λ (x : Played). x .stop) p ∙ t .stopped;
@@ -117,12 +116,12 @@ module _ (c : Circuit) (limit : ℕ) where
           }
 
       -- the script has ended
-      pub running-end : drop k givens ≡ [] → Logged (seen c limit (run S givens w)) before log at 0 k
+      pub running-end : drop k is ≡ [] → Logged (seen c (run S is w)) before log at 0 k
       unfolding more run-on seen last-stop joined keep
       running-end e =
-          let p : seen c limit (run S givens w) ≡ more (r .records) k (record { log = []; stop = 0; ticks = 0 })
-          = r .seen ∙ ap (λ (g : List Given). more (r .records) k (seen c limit (run-on S g (r .world) (map (waiting c limit) (a .lists .carried)) tt))) e in
-          let q : seen c limit (run S givens w) .log ≡ r .records = ap (λ (x : Played). x .log) p ∙ append-nil (r .records) in
+          let p : seen c (run S is w) ≡ more (r .records) k (record { log = []; stop = 0; ticks = 0 })
+          = r .seen ∙ ap (λ (js : List Allowed). more (r .records) k (seen c (run-on S js (r .world) (map (waiting c) (a .lists .carried)) tt))) e in
+          let q : seen c (run S is w) .log ≡ r .records = ap (λ (x : Played). x .log) p ∙ append-nil (r .records) in
           record {
             stop = ap (λ (x : Played). x .stop) p;
             ticks = ap (λ (x : Played). x .ticks) p ∙ (omega arith);

@@ -10,11 +10,11 @@ use Rattle.words.specs.Slices.{Ref, Slice, before, after, was}
 use Rattle.schedule.specs.Schedule.{run, run-on}
 use Rattle.model.specs.Base.{all, sum}
 use Rattle.model.specs.Circuit.{Circuit, part, word-at, kind-of-gate}
-use Rattle.model.specs.Script.{Given, script}
+use Rattle.model.specs.Script.{script}
 use Rattle.model.specs.Questions.{names-constant}
 use Rattle.model.specs.Opening.{start}
 use Rattle.model.specs.Unit.{World}
-use Rattle.model.specs.Run.{Played, seen, world-at-start}
+use Rattle.model.specs.Run.{Played, Allowed, allowed, seen, world-at-start}
 use Rattle.links.specs.Links.{net}
 use Rattle.links.specs.Lent.{net-of}
 use Rattle.areas.specs.Areas.{Contents, areas}
@@ -25,8 +25,8 @@ use Rattle.run.specs.declared.Outcome.{Outcome}
 unfoldable pub more : List ℕ → ℕ → Played → Played
 more log k p = record { log = log ++ p .log; stop = p .stop; ticks = k + p .ticks }
 
--- After k ticks of a run from the world w on: the areas are a, and the log, which held `before`, has so many words of records.
-pub record Running (c : Circuit) (limit : ℕ) (gs : List Given) (w : World) (k : ℕ) (a : Contents) (before log : List ℕ) (at : ℕ) : Type 0 where
+-- After k ticks of a run from the world w on, whose ticks get this: the areas are a, and the log, which held `before`, has so many words of records.
+pub record Running (c : Circuit) (is : List Allowed) (w : World) (k : ℕ) (a : Contents) (before log : List ℕ) (at : ℕ) : Type 0 where
   pub world : World
   pub state : world .state ≡ a .state
   pub room : world .room ≡ length before - 8 * at
@@ -34,7 +34,7 @@ pub record Running (c : Circuit) (limit : ℕ) (gs : List Given) (w : World) (k 
   pub size : length records ≡ at
   pub words : words log ≡ records ++ drop at (words before)
   pub tail : tail log ≡ tail before
-  pub seen : seen c limit (run (bare c limit) gs w) ≡ more records k (seen c limit (run-on (bare c limit) (drop k gs) world (map (waiting c limit) (a .lists .carried)) tt))
+  pub seen : seen c (run (bare c) is w) ≡ more records k (seen c (run-on (bare c) (drop k is) world (map (waiting c) (a .lists .carried)) tt))
 
 -- What was seen of a run, in the log: its records stand before the rest, which is as it was.
 pub record Logged (p : Played) (before log : List ℕ) (at end k : ℕ) : Type 0 where
@@ -44,13 +44,13 @@ pub record Logged (p : Played) (before log : List ℕ) (at end k : ℕ) : Type 0
   pub words : words log ≡ p .log ++ drop at (words before)
   pub tail : tail log ≡ tail before
 
--- what a script with these words gives to its ticks
-abbrev pub givens : Circuit → List ℕ → List Given
-givens c ws = script (c .constants) ws
+-- what the ticks of a script with these words get, where each may make so many steps
+abbrev pub gets : Circuit → ℕ → List ℕ → List Allowed
+gets c limit ws = allowed limit (script (c .constants) ws)
 
 -- what is seen of its run over c, with a log of so many bytes
 abbrev pub seen-of : Circuit → ℕ → List ℕ → ℕ → Played
-seen-of c limit ws room = seen c limit (run (bare c limit) (givens c ws) (world-at-start c limit room))
+seen-of c limit ws room = seen c (run (bare c) (gets c limit ws) (world-at-start c room))
 
 -- the same in a contract: the log shows it, and r says how it came out
 abbrev pub Logs : Slice → Slice → Slice → ℕ → Outcome → Type 0

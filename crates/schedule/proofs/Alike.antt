@@ -2,8 +2,7 @@
 use mathlib.Core.Path.{_≡_, refl, sym, ap, subst}
 use mathlib.Core.List.{List, [], _∷_}
 use Prim.Native.Nat.{ℕ}
-use Rattle.schedule.specs.Schedule.{list-full, most-units, Raise, Machine, Setup, Filed, full, filed, OpenQ, Activation, push-all, activate-open, Raising, raising, raise-on, raise-all, pass, late-pass, main-pass, outcome, Tick, tick}
-use Rattle.schedule.proofs.Steps.{tick-of}
+use Rattle.schedule.specs.Schedule.{list-full, most-units, Raise, Machine, Setup, Filed, full, filed, OpenQ, Activation, push-all, activate-open, Raising, raising, raise-on, raise-all, pass, late-pass, main-pass, outcome, Tick, tick-of, tick}
 use Rattle.schedule.specs.Keeping.{Raises-alike, alike-none, alike-next, Did-alike, Cut-at, Ticks-alike, same, cut}
 
 module _ (S : Setup) where
@@ -58,34 +57,34 @@ module _ (S : Setup) where
   waiting₀ came = record { lateq = record { late = push-all S came []; delivered = [] }; pending = [] }
 
   -- the rest of a tick, of what its opening raised
-  rest : List (Activation S) → Tag → Raising S (OpenQ (Activation S)) → Tick S
-  rest came t o =
+  rest : In → List (Activation S) → Tag → Raising S (OpenQ (Activation S)) → Tick S
+  rest i came t o =
       let l = late-pass S most-units (o .next) (o .queue .lateq) (o .world) (o .stop) in
       let m = main-pass S (l .left) (l .next) (record { pending = o .queue .pending; carried = [] }) (l .world) (l .stop) in
-      tick-of S came t o l m (outcome S (l .turns) (m .turns) (m .queue .carried) (m .stop))
+      tick-of S i came t (o .raised) (l .turns) m (outcome S (l .turns) (m .turns) (m .queue .carried) (m .stop))
 
   -- after a full list nothing begins
-  rest-cut : (came es : List (Activation S)) (t n : Tag) (q : OpenQ (Activation S)) (x : W) → Cut-at S x (rest came t (full-at es q n x))
+  rest-cut : (i : In) (came es : List (Activation S)) (t n : Tag) (q : OpenQ (Activation S)) (x : W) → Cut-at S i x (rest i came t (full-at es q n x))
   unfolding rest late-pass main-pass pass
-  rest-cut came es t n q x = record { world = refl; stop = refl }
+  rest-cut i came es t n q x = record { world = refl; stop = refl }
 
   rest-alike :
-      (R : W → W → Type 0) (came : List (Activation S)) (t : Tag) {o o′ : Raising S (OpenQ (Activation S))} → Both R o o′ →
-      Ticks-alike S R (rest came t o) (rest came t o′)
-  rest-alike R came t (equal h) = same (ap (rest came t) h)
-  rest-alike R came t (stuck es q n x y r h h′) =
+      (R : W → W → Type 0) (i : In) (came : List (Activation S)) (t : Tag) {o o′ : Raising S (OpenQ (Activation S))} → Both R o o′ →
+      Ticks-alike S R i (rest i came t o) (rest i came t o′)
+  rest-alike R i came t (equal h) = same (ap (rest i came t) h)
+  rest-alike R i came t (stuck es q n x y r h h′) =
       cut x y r
-      (subst (λ o. Cut-at S x (rest came t o)) (sym h) (rest-cut came es t n q x))
-      (subst (λ o. Cut-at S y (rest came t o)) (sym h′) (rest-cut came es t n q y))
+      (subst (λ o. Cut-at S i x (rest i came t o)) (sym h) (rest-cut i came es t n q x))
+      (subst (λ o. Cut-at S i y (rest i came t o)) (sym h′) (rest-cut i came es t n q y))
 
   pub tick-alike :
       (R : W → W → Type 0) (w v : W) (i : In) (came : List (Activation S)) (t : Tag) →
-      Did-alike R (opening w i) (opening v i) → Ticks-alike S R (tick S w i came t) (tick S v i came t)
+      Did-alike R (opening w i) (opening v i) → Ticks-alike S R i (tick S w i came t) (tick S v i came t)
   unfolding tick rest
   tick-alike R w v i came t h =
       let d = opening w i in
       let d′ = opening v i in
-      rest-alike R came t
+      rest-alike R i came t
       (subst (Both R (raise-all S (activate-open S) (d .raises) t (waiting₀ came) (d .world) (d .stop)))
       (λ j. raise-all S (activate-open S) (d′ .raises) t (waiting₀ came) (h .world j) (h .stop j))
       (raise-both R (activate-open S) (d .world) (d .stop) (h .raises) t (waiting₀ came)))

@@ -181,7 +181,7 @@ module _ (S : Setup) where
           subst Open-waits (sym (room-is (q .pending) most-waiting f .0)) (record { lateq = h .lateq; pending = push-waits e (q .pending) p (h .pending) })
 
       -- ---- what closing keeps too
-      module _ (closed : (w : W) (o : Outcome Act) → P w → P (closes w o .world)) where
+      module _ (closed : (w : W) (i : In) (o : Outcome Act) → P w → P (closes w i o .world)) where
         pub tick-begins : (w : W) (i : In) (came : List (Activation S)) (t : Tag) → R i → Waits came → P w → Hands-on w i (tick S w i came t)
         unfolding tick late-pass main-pass
         tick-begins w i came t r a p =
@@ -200,11 +200,11 @@ module _ (S : Setup) where
             (record { queue = record { pending = g₀ .queue .pending; carried = [·] }; world = g₁ .goes .world }) in
             let z = outcome S (l .turns) (m .turns) (m .queue .carried) (m .stop) in
             let f = passes-follow S o (d .world) (raise-steps S (activate-open S) (d .raises) t q₀ (d .world) (d .stop) .world) in
-            let ended : tick S w i came t .stop ≡ 0 → m .stop ≡ 0 = fitted (closes (m .world) z .fits) (m .stop) in
+            let ended : tick S w i came t .stop ≡ 0 → m .stop ≡ 0 = fitted (closes (m .world) i z .fits) (m .stop) in
             record {
               begins = record { late = g₁ .turns; main = g₂ .turns };
               carried = g₂ .goes .queue .carried;
-              world = λ e. closed (m .world) z (g₂ .goes .world (ended e));
+              world = λ e. closed (m .world) i z (g₂ .goes .world (ended e));
               left = λ e. subst P (f .world (ended e)) (g₂ .goes .world (ended e));
             }
 

@@ -5,9 +5,8 @@ use mathlib.Core.Bool.{Bool, true, false, cond}
 use Prim.Native.Nat.{ℕ, zero, suc}
 use lib.ListN.{length, length-map}
 use lib.Dec.{leb, ltb, eqb}
-use Rattle.schedule.specs.Schedule.{Setup, plain, Machine, Raise, Outcome, most-units, most-waiting, most-delivered, list-full, Took, empty, took, Filed, full, filed, room, LateQ, MainQ, OpenQ, Place, to-late, to-delivered, to-pending, Activation, rank-of, push, push-all, carries, activate-late, activate-main, activate-open, Raising, raising, raise-on, raise-all, Turn, Passed, turning, no-turn, pass-on, pass, next-late, next-late′, late-pass, next-main, next-main′, main-pass, Tick, acts, outcome, tick, go-on, run-on, run}
+use Rattle.schedule.specs.Schedule.{Setup, plain, Machine, Raise, Outcome, most-units, most-waiting, most-delivered, list-full, Took, empty, took, Filed, full, filed, room, LateQ, MainQ, OpenQ, Place, to-late, to-delivered, to-pending, Activation, rank-of, push, push-all, carries, activate-late, activate-main, activate-open, Raising, raising, raise-on, raise-all, Turn, Passed, turning, no-turn, pass-on, pass, next-late, next-late′, late-pass, next-main, next-main′, main-pass, Tick, acts, outcome, tick-of, tick, go-on, run-on, run}
 use Rattle.schedule.specs.Erasure.{bare, bare-turn, bare-tick}
-use Rattle.schedule.proofs.Steps.{tick-of}
 
 -- What is worked out of each element of two lists in a row.
 pub map-append : {A B : Type 0} (f : A → B) (k l : List A) → map f (k ++ l) ≡ map f k ++ map f l
@@ -226,19 +225,19 @@ module _ (S : Setup) where
   abbrev outcome₀ : Passed S₀ (LateQ E₀) → Passed S₀ (MainQ E₀) → Outcome Act
   outcome₀ l m = outcome S₀ (l .turns) (m .turns) (m .queue .carried) (m .stop)
 
-  abbrev end₀ : List E₀ → Raising S₀ (OpenQ E₀) → Passed S₀ (LateQ E₀) → Passed S₀ (MainQ E₀) → Outcome Act → Tick S₀
-  end₀ c o l m r = tick-of S₀ c tt o l m r
+  abbrev end₀ : In → List E₀ → Raising S₀ (OpenQ E₀) → Passed S₀ (LateQ E₀) → Passed S₀ (MainQ E₀) → Outcome Act → Tick S₀
+  end₀ i c o l m r = tick-of S₀ i c tt (o .raised) (l .turns) m r
 
   -- a tick from its parts, each of which is another
   end-is :
-      (c : List E₀) (o o₁ : Raising S₀ (OpenQ E₀)) (l₁ : Passed S₀ (LateQ E₀)) (m₁ : Passed S₀ (MainQ E₀)) (r : Outcome Act) →
+      (i : In) (c : List E₀) (o o₁ : Raising S₀ (OpenQ E₀)) (l₁ : Passed S₀ (LateQ E₀)) (m₁ : Passed S₀ (MainQ E₀)) (r : Outcome Act) →
       o ≡ o₁ → late₀ o₁ ≡ l₁ → main₀ o₁ l₁ ≡ m₁ → outcome₀ l₁ m₁ ≡ r →
-      end₀ c o (late₀ o) (main₀ o (late₀ o)) (outcome₀ (late₀ o) (main₀ o (late₀ o))) ≡ end₀ c o₁ l₁ m₁ r
-  end-is c o o₁ l₁ m₁ r eo el em er =
-      ap (λ (o : Raising S₀ (OpenQ E₀)). end₀ c o (late₀ o) (main₀ o (late₀ o)) (outcome₀ (late₀ o) (main₀ o (late₀ o)))) eo
-      ∙ ap (λ (l : Passed S₀ (LateQ E₀)). end₀ c o₁ l (main₀ o₁ l) (outcome₀ l (main₀ o₁ l))) el
-      ∙ ap (λ (m : Passed S₀ (MainQ E₀)). end₀ c o₁ l₁ m (outcome₀ l₁ m)) em
-      ∙ ap (end₀ c o₁ l₁ m₁) er
+      end₀ i c o (late₀ o) (main₀ o (late₀ o)) (outcome₀ (late₀ o) (main₀ o (late₀ o))) ≡ end₀ i c o₁ l₁ m₁ r
+  end-is i c o o₁ l₁ m₁ r eo el em er =
+      ap (λ (o : Raising S₀ (OpenQ E₀)). end₀ i c o (late₀ o) (main₀ o (late₀ o)) (outcome₀ (late₀ o) (main₀ o (late₀ o)))) eo
+      ∙ ap (λ (l : Passed S₀ (LateQ E₀)). end₀ i c o₁ l (main₀ o₁ l) (outcome₀ l (main₀ o₁ l))) el
+      ∙ ap (λ (m : Passed S₀ (MainQ E₀)). end₀ i c o₁ l₁ m (outcome₀ l₁ m)) em
+      ∙ ap (end₀ i c o₁ l₁ m₁) er
 
   tick-bare : (w : W) (i : In) (c : List E₁) (t : Tag) → tick S₀ w i (map b c) tt ≡ bare-tick S (tick S w i c t)
   unfolding tick
@@ -247,7 +246,7 @@ module _ (S : Setup) where
       let o = raise-all S (activate-open S) (d .raises) t (record { lateq = record { late = push-all S c []; delivered = [] }; pending = [] }) (d .world) (d .stop) in
       let l = late-pass S most-units (o .next) (o .queue .lateq) (o .world) (o .stop) in
       let m = main-pass S (l .left) (l .next) (record { pending = o .queue .pending; carried = [] }) (l .world) (l .stop) in
-      end-is (map b c) _ (bare-raising bare-open o) (bare-passed bare-late l) (bare-passed bare-main m) (outcome S (l .turns) (m .turns) (m .queue .carried) (m .stop))
+      end-is i (map b c) _ (bare-raising bare-open o) (bare-passed bare-late l) (bare-passed bare-main m) (outcome S (l .turns) (m .turns) (m .queue .carried) (m .stop))
       (ap (open₀ w i) (push-all-bare c []) ∙ raise-all-bare bare-open (activate-open S) (activate-open S₀) activate-open-bare (d .raises) t _ (d .world) (d .stop))
       (late-pass-bare most-units (o .next) (o .queue .lateq) (o .world) (o .stop))
       (main-pass-bare (l .left) (l .next) (record { pending = o .queue .pending; carried = [] }) (l .world) (l .stop))

@@ -1,4 +1,4 @@
--- What opening, body and closing keep holds wherever a unit begins, and after each tick, of a whole run; what opening and body keep, up to each closing.
+-- What opening, body and closing keep holds wherever a unit begins, and after each tick, of a whole run; what holds when a tick has opened and is kept by body, up to its closing.
 use mathlib.Core.Path.{_≡_, refl, sym, subst}
 use mathlib.Core.List.{List, [], _∷_}
 use Prim.Native.Nat.{ℕ, zero, suc}
@@ -17,13 +17,13 @@ module _ (S : Setup) where
     pub world : P (k .world)
 
   -- P holds wherever a unit of the tick k began, and in the world before it was closed
-  pub record Tick-closes (P : W → Type 0) (k : Tick S) : Type 0 where
+  pub record Tick-closes (P : W → Type 0) (i : In) (k : Tick S) : Type 0 where
     pub late : All (λ (u : Turn S). P (u .from)) (k .late)
     pub main : All (λ (u : Turn S). P (u .from)) (k .main)
     pub before : W
     pub holds : P before
     pub done : Outcome Act
-    pub world : k .world ≡ closes before done .world
+    pub world : k .world ≡ closes before i done .world
 
   -- what was raised in worlds that keep it
   module _ (P : W → Type 0) where
@@ -73,13 +73,12 @@ module _ (S : Setup) where
               record { turns = _∷·_ p (r .turns); world = r .world }
       pass-keeps (suc n) t q w (suc s) p = record { turns = [·]; world = p }
 
-  -- what opening and body keep
-  module _ (P : W → Type 0) (opened : (w : W) (i : In) → P w → Did-keep P (opens w i)) (ran : (w : W) (a : Act) → P w → Did-keep P (runs w a)) where
-    pub tick-closes : (w : W) (i : In) (came : List (Activation S)) (t : Tag) → P w → Tick-closes P (tick S w i came t)
+  -- what holds when a tick has opened, and is kept by body
+  module _ (P : W → Type 0) (ran : (w : W) (a : Act) → P w → Did-keep P (runs w a)) where
+    pub tick-closes : (w : W) (i : In) (came : List (Activation S)) (t : Tag) → Did-keep P (opens w i) → Tick-closes P i (tick S w i came t)
     unfolding tick late-pass main-pass
-    tick-closes w i came t p =
+    tick-closes w i came t h =
         let d = opens w i in
-        let h = opened w i p in
         let q₀ : OpenQ (Activation S) = record { lateq = record { late = push-all S came []; delivered = [] }; pending = [] } in
         let o = raise-all S (activate-open S) (d .raises) t q₀ (d .world) (d .stop) in
         let a = raise-all-keeps P (activate-open S) (d .raises) t q₀ (d .world) (d .stop) (h .world) (h .raises) in
@@ -97,25 +96,28 @@ module _ (S : Setup) where
           world = refl;
         }
 
-    -- what closing keeps too
-    module _ (closed : (w : W) (o : Outcome Act) → P w → P (closes w o .world)) where
-      tick-keeps : (w : W) (i : In) (came : List (Activation S)) (t : Tag) → P w → Tick-keeps S P (tick S w i came t)
-      tick-keeps w i came t p =
-          let h = tick-closes w i came t p in
-          record { late = h .late; main = h .main; world = subst P (sym (h .world)) (closed (h .before) (h .done) (h .holds)) }
+    -- and by closing
+    module _ (closed : (w : W) (i : In) (o : Outcome Act) → P w → P (closes w i o .world)) where
+      pub tick-keeps : (w : W) (i : In) (came : List (Activation S)) (t : Tag) → Did-keep P (opens w i) → Tick-keeps S P (tick S w i came t)
+      tick-keeps w i came t o =
+          let h = tick-closes w i came t o in
+          record { late = h .late; main = h .main; world = subst P (sym (h .world)) (closed (h .before) i (h .done) (h .holds)) }
 
-      run-on-keeps : (is : List In) (w : W) (came : List (Activation S)) (t : Tag) → P w → All (Tick-keeps S P) (run-on S is w came t)
-      unfolding run-on
-      run-on-keeps [] w came t p = [·]
-      run-on-keeps (i ∷ is) w came t p =
-          let k = tick S w i came t in
-          let h = tick-keeps w i came t p in
-          _∷·_ h (go (k .stop) (run-on-keeps is (k .world) (k .carried) (k .next) (h .world)))
-        where
-          go : (s : ℕ) {ts : List (Tick S)} → All (Tick-keeps S P) ts → All (Tick-keeps S P) (go-on S s ts)
-          go zero a = a
-          go (suc s) a = [·]
+  -- and by opening, of a run
+  module _ (P : W → Type 0) (opened : (w : W) (i : In) → P w → Did-keep P (opens w i)) (ran : (w : W) (a : Act) → P w → Did-keep P (runs w a))
+      (closed : (w : W) (i : In) (o : Outcome Act) → P w → P (closes w i o .world)) where
+    run-on-keeps : (is : List In) (w : W) (came : List (Activation S)) (t : Tag) → P w → All (Tick-keeps S P) (run-on S is w came t)
+    unfolding run-on
+    run-on-keeps [] w came t p = [·]
+    run-on-keeps (i ∷ is) w came t p =
+        let k = tick S w i came t in
+        let h = tick-keeps P ran closed w i came t (opened w i p) in
+        _∷·_ h (go (k .stop) (run-on-keeps is (k .world) (k .carried) (k .next) (h .world)))
+      where
+        go : (s : ℕ) {ts : List (Tick S)} → All (Tick-keeps S P) ts → All (Tick-keeps S P) (go-on S s ts)
+        go zero a = a
+        go (suc s) a = [·]
 
-      pub run-keeps : (is : List In) (w : W) → P w → All (Tick-keeps S P) (run S is w)
-      unfolding run
-      run-keeps is w p = run-on-keeps is w [] _ p
+    pub run-keeps : (is : List In) (w : W) → P w → All (Tick-keeps S P) (run S is w)
+    unfolding run
+    run-keeps is w p = run-on-keeps is w [] _ p

@@ -8,7 +8,7 @@ use native.Mathlib.Omega.{arith}
 use lib.ListN.{length}
 use lib.Dec.{leb, ltb, eqb}
 use borrow.Author.Tests.{ltb-true, eq-eqb}
-use Rattle.schedule.specs.Schedule.{Setup, Machine, Raise, Outcome, Took, empty, took, Filed, full, filed, room, most-waiting, list-full, log-full, LateQ, MainQ, OpenQ, Place, to-late, to-delivered, to-pending, Activation, rank-of, push, carries, activate-main, activate-open, next-main, next-main′, Raising, raise-on, raise-all, Turn, Passed, turning, no-turn, pass-on, pass, Tick}
+use Rattle.schedule.specs.Schedule.{Setup, Machine, Raise, Took, empty, took, Filed, full, filed, room, most-waiting, list-full, MainQ, OpenQ, Place, to-late, to-delivered, to-pending, Activation, rank-of, push, carries, activate-main, activate-open, next-main, next-main′, Raising, raise-on, raise-all, Turn, Passed, turning, no-turn, pass-on, pass}
 use Rattle.schedule.specs.Promise.{Of-told, Ran-as-told, Raised-as-told}
 
 -- a queue that was filed is the one that there was room for
@@ -21,7 +21,7 @@ room-is l most {q} {q₁} h = go (ltb (length l) most) refl h
 
 module _ (S : Setup) where
   open Setup S using (Tag, after)
-  open Machine (S .machine) using (W, Act, rank, body, closing)
+  open Machine (S .machine) using (W, Act, rank, body)
 
   -- ---- taking and putting
 
@@ -165,22 +165,3 @@ module _ (S : Setup) where
             let rest = rec (k .next) (k .queue) (k .world) (k .stop) in
             record { steps = turn h (r .steps) (λ z. eq-eqb _ _ (r .stopped z)) (refl, r .told) (rest .steps); units = omega (arith, rest .units) }
     pass-steps (suc n) t q w (suc s) = record { steps = broke; units = omega arith }
-
-  -- ---- a tick
-
-  -- by its parts: what its opening raised, its two passes, and what its record is made of
-  abbrev pub tick-of : List (Activation S) → Tag → Raising S (OpenQ (Activation S)) → Passed S (LateQ (Activation S)) → Passed S (MainQ (Activation S)) → Outcome Act → Tick S
-  tick-of came t o l m r =
-      let z = closing (m .world) r in
-      record {
-        came = came;
-        first = t;
-        opened = o .raised;
-        late = l .turns;
-        main = m .turns;
-        waiting = m .queue .pending;
-        carried = m .queue .carried;
-        next = m .next;
-        world = z .world;
-        stop = cond (z .fits) (m .stop) log-full;
-      }

@@ -42,7 +42,7 @@ pub run-keeps :
     (S : Setup) (P : S .machine .W → Type 0) →
     ((w : S .machine .W) (i : S .machine .In) → P w → Did-keep P (S .machine .opening w i)) →
     ((w : S .machine .W) (a : S .machine .Act) → P w → Did-keep P (S .machine .body w a)) →
-    ((w : S .machine .W) (o : Outcome (S .machine .Act)) → P w → P (S .machine .closing w o .world)) →
+    ((w : S .machine .W) (i : S .machine .In) (o : Outcome (S .machine .Act)) → P w → P (S .machine .closing w i o .world)) →
     (is : List (S .machine .In)) (w : S .machine .W) → P w → All (Tick-keeps S P) (run S is w)
 run-keeps = kept-in-run
 
@@ -51,12 +51,12 @@ pub run-begins :
     (S : Setup) (P : S .machine .W → Type 0) (Q : S .machine .Act → Type 0) (R : S .machine .In → Type 0) →
     ((w : S .machine .W) (i : S .machine .In) → R i → P w → Did-bring P Q (S .machine .opening w i)) →
     ((w : S .machine .W) (a : S .machine .Act) → Q a → P w → Did-bring P Q (S .machine .body w a)) →
-    ((w : S .machine .W) (o : Outcome (S .machine .Act)) → P w → P (S .machine .closing w o .world)) →
+    ((w : S .machine .W) (i : S .machine .In) (o : Outcome (S .machine .Act)) → P w → P (S .machine .closing w i o .world)) →
     (is : List (S .machine .In)) (w : S .machine .W) → All R is → P w → All (Tick-begins S P Q) (run S is w)
 run-begins = begun-in-run
 
 -- Two ticks whose openings do the same, but for the worlds in which they raise, are the same, or both end as a tick does that a full list stops in its opening.
 pub tick-alike :
     (S : Setup) (R : S .machine .W → S .machine .W → Type 0) (w v : S .machine .W) (i : S .machine .In) (came : List (Activation S)) (t : S .Tag) →
-    Did-alike R (S .machine .opening w i) (S .machine .opening v i) → Ticks-alike S R (tick S w i came t) (tick S v i came t)
+    Did-alike R (S .machine .opening w i) (S .machine .opening v i) → Ticks-alike S R i (tick S w i came t) (tick S v i came t)
 tick-alike = opened-alike

@@ -62,7 +62,7 @@ module _ (S : Setup) where
         came = refl;
         waiting = refl;
         carried = refl;
-        stopped = fitted (closing (m .world) (outcome S (l .turns) (m .turns) (m .queue .carried) (m .stop)) .fits) (m .stop);
+        stopped = fitted (closing (m .world) i (outcome S (l .turns) (m .turns) (m .queue .carried) (m .stop)) .fits) (m .stop);
         units = omega (arith, late .units, main .units);
       }
 

@@ -115,7 +115,7 @@ module _ (S : Setup) where
       let b = passes-follow o (d .world) (a .world) in
       let late = pass-steps S (next-late S) (activate-late S) most-units (o .next) (o .queue .lateq) (o .world) (o .stop) in
       let main = pass-steps S (next-main S) (activate-main S) (l .left) (l .next) q (l .world) (l .stop) in
-      let f : Bool = closing (m .world) (outcome S (l .turns) (m .turns) (m .queue .carried) (m .stop)) .fits in
+      let f : Bool = closing (m .world) i (outcome S (l .turns) (m .turns) (m .queue .carried) (m .stop)) .fits in
       let from : m .stop ≡ 0 → o .stop ≡ 0 = λ h. passes-from S (next-late S) (activate-late S) (late .steps) (passes-from S (next-main S) (activate-main S) (main .steps) h) in
       record {
         opened = (a .told .0, a .told .1, λ h. a .told .2 (from (fitted f (m .stop) h)));
@@ -123,7 +123,7 @@ module _ (S : Setup) where
         leaves =
             λ h.
             let z : m .stop ≡ 0 = fitted f (m .stop) h in
-            λ j. closing (b .world z j) (outcome S (l .turns) (m .turns) (m .queue .carried) (z j)) .world;
+            λ j. closing (b .world z j) i (outcome S (l .turns) (m .turns) (m .queue .carried) (z j)) .world;
       }
 
   -- ---- the ticks of a run

@@ -38,7 +38,7 @@ machine p =
       opening = λ w i. did w i 0;
       body = λ w a. did w (map (λ (b : ℕ). (b, tt)) (p .raises a)) (p .stops a);
       closing =
-          λ w o.
+          λ w i o.
           let fits = ltb (length (w .log)) (p .records) in
           record { world = record { count = w .count; log = cond fits (w .log ++ (o ∷ [])) (w .log) }; fits = fits };
     }

@@ -30,7 +30,7 @@ pub record Did-alike {W Act P : Type 0} (R : W → W → Type 0) (d d′ : Did W
   pub stop : d .stop ≡ d′ .stop
 
 module _ (S : Setup) where
-  open Machine (S .machine) using (W, Act, closing)
+  open Machine (S .machine) using (W, In, Act, closing)
 
   -- P holds in the world after a tick, and in each in which a unit of it began
   pub record Tick-keeps (P : W → Type 0) (k : Tick S) : Type 0 where
@@ -49,11 +49,11 @@ module _ (S : Setup) where
     pub main : All (Turn-begins P Q) (k .main)
 
   -- a tick whose world and stop are those of one that a full list stopped in its opening, at the world x
-  pub record Cut-at (x : W) (k : Tick S) : Type 0 where
-    pub world : k .world ≡ closing x (outcome S [] [] [] list-full) .world
-    pub stop : k .stop ≡ cond (closing x (outcome S [] [] [] list-full) .fits) list-full log-full
+  pub record Cut-at (i : In) (x : W) (k : Tick S) : Type 0 where
+    pub world : k .world ≡ closing x i (outcome S [] [] [] list-full) .world
+    pub stop : k .stop ≡ cond (closing x i (outcome S [] [] [] list-full) .fits) list-full log-full
 
-  -- two ticks that are the same, or end as if both were stopped in their opening, at worlds that R relates
-  pub data Ticks-alike (R : W → W → Type 0) (k k′ : Tick S) : Type 0 where
-    same : k ≡ k′ → Ticks-alike R k k′
-    cut : (x y : W) → R x y → Cut-at x k → Cut-at y k′ → Ticks-alike R k k′
+  -- two ticks, each of which got i, that are the same, or end as if both were stopped in their opening, at worlds that R relates
+  pub data Ticks-alike (R : W → W → Type 0) (i : In) (k k′ : Tick S) : Type 0 where
+    same : k ≡ k′ → Ticks-alike R i k k′
+    cut : (x y : W) → R x y → Cut-at i x k → Cut-at i y k′ → Ticks-alike R i k k′

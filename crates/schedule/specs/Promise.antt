@@ -92,7 +92,7 @@ module _ (S : Setup) where
     -- its units follow its opening, and one another, a stopped tick's too
     pub units : Follow (opening w i .world) (t .late ++ t .main)
     -- without a stop its record is written in the world that the last one left
-    pub leaves : t .stop ≡ 0 → t .world ≡ closing (left-by (opening w i .world) (t .late ++ t .main)) (outcome S (t .late) (t .main) (t .carried) 0) .world
+    pub leaves : t .stop ≡ 0 → t .world ≡ closing (left-by (opening w i .world) (t .late ++ t .main)) i (outcome S (t .late) (t .main) (t .carried) 0) .world
 
   -- The ticks of a script from the world w on: one for each that the script gives, each in the world that the one before it left; a stop ends them, and only a stop.
   pub data Follows : List In → W → List (Tick S) → Type 0 where

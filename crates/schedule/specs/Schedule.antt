@@ -70,8 +70,8 @@ pub record Machine : Type 1 where
   pub opening : W → In → Did W Act Place
   -- What a unit does. It has run where its own stop is 0.
   pub body : W → Act → Did W Act (Unit {0})
-  -- the record of the tick is written
-  pub closing : W → Outcome Act → Closed W
+  -- the record of the tick is written, which got this
+  pub closing : W → In → Outcome Act → Closed W
 
 -- ---- identities
 
@@ -294,19 +294,15 @@ module _ (S : Setup) where
   abbrev pub outcome : List Turn → List Turn → List Activation → ℕ → Outcome Act
   outcome late main carried stop = record { late = acts late; main = acts main; carried = map (λ (e : Activation). e .act) carried; stop = stop }
 
-  -- what was carried in goes to the late list first, so it comes first within its rank; the record is written at the end, after a stop too
-  unfoldable pub tick : W → In → List Activation → Tag → Tick
-  tick w i came t =
-      let d = opening w i in
-      let o = raise-all activate-open (d .raises) t (record { lateq = record { late = push-all came []; delivered = [] }; pending = [] }) (d .world) (d .stop) in
-      let l = late-pass most-units (o .next) (o .queue .lateq) (o .world) (o .stop) in
-      let m = main-pass (l .left) (l .next) (record { pending = o .queue .pending; carried = [] }) (l .world) (l .stop) in
-      let z = closing (m .world) (outcome (l .turns) (m .turns) (m .queue .carried) (m .stop)) in
+  -- a tick by its parts: what it got, what came, what its opening raised, its late units, its main pass, and what its record is made of
+  abbrev pub tick-of : In → List Activation → Tag → List Activation → List Turn → Passed (MainQ Activation) → Outcome Act → Tick
+  tick-of i came t opened late m r =
+      let z = closing (m .world) i r in
       record {
         came = came;
         first = t;
-        opened = o .raised;
-        late = l .turns;
+        opened = opened;
+        late = late;
         main = m .turns;
         waiting = m .queue .pending;
         carried = m .queue .carried;
@@ -314,6 +310,15 @@ module _ (S : Setup) where
         world = z .world;
         stop = cond (z .fits) (m .stop) log-full;
       }
+
+  -- what was carried in goes to the late list first, so it comes first within its rank; the record is written at the end, after a stop too
+  unfoldable pub tick : W → In → List Activation → Tag → Tick
+  tick w i came t =
+      let d = opening w i in
+      let o = raise-all activate-open (d .raises) t (record { lateq = record { late = push-all came []; delivered = [] }; pending = [] }) (d .world) (d .stop) in
+      let l = late-pass most-units (o .next) (o .queue .lateq) (o .world) (o .stop) in
+      let m = main-pass (l .left) (l .next) (record { pending = o .queue .pending; carried = [] }) (l .world) (l .stop) in
+      tick-of i came t (o .raised) (l .turns) m (outcome (l .turns) (m .turns) (m .queue .carried) (m .stop))
 
   -- a stop ends the run
   abbrev pub go-on : ℕ → List Tick → List Tick

@@ -3,4 +3,3 @@ pub mod Making
 pub mod Wiring
 pub mod Timing
 pub mod Arms
-pub mod Far

@@ -1,9 +1,9 @@
 -- Steps that change the wires alone: one law for each way out of a function.
-use Prim.Native.Nat.{ℕ, _+_, _^_, _<_}
+use Prim.Native.Nat.{ℕ, _^_, _<_}
 use mathlib.Core.Path.{_≡_, refl, sym, ap, _∙_, subst}
 use mathlib.Core.Bool.{Bool, true, false, not}
 use native.Mathlib.Omega.{arith}
-use borrow.Author.Tests.{ltb-true}
+use borrow.Author.Tests.{ltb-true, eq-eqb, ne-eqb}
 use lib.Dec.{T, eqb}
 use lib.IntN.{ℤ, pos, negsuc, natAbs}
 use lib.ListN.{getD, set}
@@ -125,17 +125,23 @@ module _ (c : Circuit) (g : ℕ) (v : Values) where
   -- ---- Cycle
 
   pub cycles :
-      (p i o o₀ n : ℕ) (x y : Value) (now count : ℤ) (v₁ v₂ : Values) → SFits w64 now → SFits w64 count → (i ≡ input c g 2) × (i < 131072) → (o ≡ output c g 2) × (o < 131072) →
+      (p q i o o₀ n : ℕ) (x y : Value) (now count : ℤ) (v₁ v₂ : Values) → SFits w64 now → SFits w64 count → (i ≡ input c g 2) × (i < 131072) → (o ≡ output c g 2) × (o < 131072) →
       v₁ ≡ with-wires v (ready c (v .wires) i) → x ≡ shown (v₁ .wires) o → now ≡ as-int (pos 0) x → y ≡ look c (v₁ .wires) i → count ≡ as-int (pos 0) y →
-      n ≡ cycle-next (eqb p 1) (toZ w64 (ofZ w64 count)) (toZ w64 (ofZ w64 now)) → v₂ ≡ with-wires v₁ (set-out c (v₁ .wires) o (Int n)) → (o₀ ≡ output c g 0) × (o₀ < 131072) →
-      (u : Units) (d : Delays) → Makes (together v u d) (together v₂ u d) (Fires (o₀ + p)) (exec-Cycle c (together v u d .state) g p)
+      n ≡ cycle-next (eqb p 1) (toZ w64 (ofZ w64 count)) (toZ w64 (ofZ w64 now)) → v₂ ≡ with-wires v₁ (set-out c (v₁ .wires) o (Int n)) → q ≡ (if eqb p 1 then 1 else 0) →
+      (o₀ ≡ output c g q) × (o₀ < 131072) → (u : Units) (d : Delays) → Makes (together v u d) (together v₂ u d) (Fires o₀) (exec-Cycle c (together v u d .state) g p)
   unfolding exec-Cycle set-output readied read each from wires≔
-  cycles p i o o₀ n x y now count v₁ v₂ fn fc ei eo e₁ ex en ey ec e₃ e₂ e₀ u d =
+  cycles p q i o o₀ n x y now count v₁ v₂ fn fc ei eo e₁ ex en ey ec e₃ e₂ eq e₀ u d =
       let w₁ : Wires = ready c (v .wires) (input c g 2) in
       let w : Wires = set-out c w₁ (output c g 2) (Int (cycle-next (eqb p 1) (as-int (pos 0) (look c w₁ (input c g 2))) (as-int (pos 0) (shown w₁ (output c g 2))))) in
       let m : n ≡ cycle-next (eqb p 1) count now = rw (toZ-ofZ fn, toZ-ofZ fc) at e₃ in
-      let q : v₂ ≡ with-wires v w = rw (← ei .0, ← eo .0, e₂, m, en, ec, ex, ey, e₁) in
-      makes-fires v v₂ w (o₀ + p) (output c g p) q (pin-added (e₀ .0)) u d
-    where
-      pin-added : o₀ ≡ output c g 0 → o₀ + p ≡ output c g p
-      pin-added e = let z : output c g 0 + p ≡ output c g p = unfold output in omega arith in ap (λ (k : ℕ). k + p) e ∙ z
+      let r : v₂ ≡ with-wires v w = rw (← ei .0, ← eo .0, e₂, m, en, ec, ex, ey, e₁) in
+      makes-fires v v₂ w o₀ (output c g (if eqb p 1 then 1 else 0)) r (e₀ .0 ∙ ap (output c g) eq) u d
+
+-- the output that pin p fires
+pub fires-down : (p : ℕ) → p ≡ 1 → _≡_ {A = ℕ} 1 (if eqb p 1 then 1 else 0)
+unfolding if_then_else_
+fires-down p h = rw (eq-eqb p 1 h)
+
+pub fires-up : (p : ℕ) → (p ≡ 1 → ⊥) → _≡_ {A = ℕ} 0 (if eqb p 1 then 1 else 0)
+unfolding if_then_else_
+fires-up p h = rw (ne-eqb p 1 h)

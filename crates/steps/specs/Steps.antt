@@ -1,5 +1,4 @@
 -- What the code's step answers, and what it makes of the areas.
-use Prim.Native.Nat.{ℕ, _^_, min}
 use mathlib.Core.Path.{_≡_}
 use mathlib.Core.Bool.{true, false}
 use mathlib.Core.Option.{none, some}
@@ -19,7 +18,3 @@ stepped s Full = record { state = s; next = none; full = true }
 pub record Makes (a b : Contents) (r : Step) (d : Stepped) : Type 0 where
   pub state : b ≡ with-state a (d .state)
   pub answer : stepped (d .state) r ≡ d
-
--- No circuit has an input from 2 ^ 63 on, and the code takes them all for this one.
-unfoldable pub near : ℕ → ℕ
-near i = min i (2 ^ 63)

@@ -1,7 +1,7 @@
 // One step of a chain: a gate, entered through one of its inputs, by kind.
 ghost use mathlib.Core.Path.{_≡_};
 ghost use mathlib.Core.Bool.{true};
-ghost use Prim.Native.Nat.{_-_, _^_, _≤_};
+ghost use Prim.Native.Nat.{_-_};
 ghost use lib.Dec.{eqb};
 ghost use Rattle.model.specs.Circuit.{kind-of-gate, input};
 ghost use Rattle.model.specs.Exec.{var, exec-Buffer, exec-Stopwatch, exec-Queue, exec-VarGet, exec-VarSet, exec-Branch, exec-Union, exec-Toggle, exec-Cycle, exec-SendEvent, exec-gate};
@@ -10,7 +10,7 @@ ghost use Rattle.links.specs.Lent.{Linked, net-of, Room};
 ghost use Rattle.states.specs.View.{is-queue, queue-countdown};
 ghost use Rattle.states.specs.Lent.{Slots, Slots-stay};
 ghost use Rattle.areas.specs.Lent.{Over-all, Over-values, Over-delays, Over-values-delays, Over-values-units, All-lent};
-ghost use Rattle.steps.specs.Steps.{Makes, near};
+ghost use Rattle.steps.specs.Steps.{Makes};
 use cycle::cycle_next;
 use links::gate_at_input;
 use links::input;
@@ -39,9 +39,6 @@ use wires::written::record_write;
 use words::counting::less;
 
 pub mod reading;
-
-// No circuit has an input from here on.
-const FAR: usize = 0x8000_0000_0000_0000;
 
 // What a step comes to: the output to fire next; the chain ends there; or a list was full.
 pub enum Step {
@@ -127,9 +124,9 @@ fn exec_toggle(links: &[usize], values: &mut [u8], g: usize) -> Step
     Step::Fires(output(links, g, 0))
 }
 
-// 23 Cycle, entered through pin p: pin 0 up, pin 1 down, each to its own output.
+// 23 Cycle, entered through pin p: pin 1 down, any other up, each to its own output.
 fn exec_cycle(links: &[usize], values: &mut [u8], g: usize, p: usize) -> Step
-    requires { ⌜ Linked links × Room values × (p ≤ 2 ^ 63) ⌝ }
+    requires { ⌜ Linked links × Room values ⌝ }
     ensures { λ r. ⌜ Over-values links values (λ c old new. Makes old new r (exec-Cycle c (old .state) g p)) ⌝ }
 {
     let i = input(links, g, 2);
@@ -139,7 +136,10 @@ fn exec_cycle(links: &[usize], values: &mut [u8], g: usize, p: usize) -> Step
     let count = as_int(look(links, values, i), 0);
     let n = cycle_next(p == 1, count, now);
     set_out(links, values, o, Value::Int(n));
-    Step::Fires(output(links, g, 0) + p)
+    if p == 1 {
+        return Step::Fires(output(links, g, 1));
+    }
+    Step::Fires(output(links, g, 0))
 }
 
 // ---- buffers, Stopwatches, Queues
@@ -212,13 +212,6 @@ fn pin(links: &[usize], g: usize, i: usize) -> usize
     less(i, input(links, g, 0))
 }
 
-// Input i, and one input for all that no circuit has.
-fn near(i: usize) -> usize
-    ensures { λ r. ⌜ (r ≡ near i) × (r ≤ 2 ^ 63) ⌝ }
-{
-    if i < FAR { i } else { FAR }
-}
-
 // The gate that has input i, entered through it.
 pub fn exec(
     links: &[usize],
@@ -228,12 +221,11 @@ pub fn exec(
     i: usize,
 ) -> Step
     requires { ⌜ All-lent links values units delays ⌝ }
-    ensures { λ r. ⌜ Over-all links values units delays (λ c old new. Makes old new r (exec-gate c (old .state) (near i))) ⌝ }
+    ensures { λ r. ⌜ Over-all links values units delays (λ c old new. Makes old new r (exec-gate c (old .state) i)) ⌝ }
     ensures { λ _. ⌜ Slots-stay links delays ⌝ }
 {
-    let j = near(i);
-    let g = gate_at_input(links, j);
-    let p = pin(links, g, j);
+    let g = gate_at_input(links, i);
+    let p = pin(links, g, i);
     match kind_of_gate(links, g) {
         2 => Step::Fires(output(links, g, 0)),
         11 | 13 => exec_buffer(links, delays, g),

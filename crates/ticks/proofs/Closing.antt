@@ -16,7 +16,7 @@ use Rattle.model.specs.Script.{Given}
 use Rattle.model.specs.State.{Act, State}
 use Rattle.model.specs.Unit.{World, state≔}
 use Rattle.model.specs.Record.{steps, log-record, write, close, read-outputs}
-use Rattle.model.specs.Run.{closing}
+use Rattle.model.specs.Run.{Allowed, closing}
 use Rattle.units.specs.View.{Begun}
 use Rattle.areas.specs.Areas.{Contents, Kept, with-state, with-went}
 use Rattle.chain.specs.declared.Ran.{Ran}
@@ -42,43 +42,43 @@ leb-same i j k n f g = go (leb i j) refl
         other true y = let z = leb-false i j h in let x = g (leb-true k n y) in absurd (omega arith)
         other false y = leb-false k n y
 
-module _ (c : Circuit) (limit : ℕ) where
+module _ (c : Circuit) where
   abbrev S : Setup
-  S = bare c limit
+  S = bare c
 
   -- nothing is carried as the passes begin
   pub carries-nothing : (a : Contents) (given : Given) → opened c a given .lists .carried ≡ []
   unfolding opened opened-into reopened
   carries-nothing a given = opening-carries c _ _ _
 
-  module _ (w : World) (given : Given) (a a₁ a₂ a₃ : Contents) (r₁ r₂ : Ran) (came : a₁ ≡ with-went (reopened c a) (opened c a given)) where
+  module _ (w : World) (i : Allowed) (a a₁ a₂ a₃ : Contents) (r₁ r₂ : Ran) (came : a₁ ≡ with-went (reopened c a) (opened c a (i .given))) where
     abbrev q : OpenQ (Activation S)
-    q = for-both c limit (a₁ .lists)
+    q = for-both c (a₁ .lists)
 
     abbrev v : World
-    v = state≔ w limit (a₁ .state)
+    v = state≔ w (i .limit) (a₁ .state)
 
     abbrev s : ℕ
-    s = stop-of (opened c a given .answer)
+    s = stop-of (opened c a (i .given) .answer)
 
     -- the main pass, from what the late pass left
     main-is :
-        Passes c limit (for-late c limit) a₁ a₂ r₁ v (late-from c limit q v s) → a₂ .lists .pending ≡ a₁ .lists .pending → a₂ .lists .carried ≡ a₁ .lists .carried →
-        main-from c limit q v s ≡ main-pass S (units-left a₂) tt (for-main c limit (a₂ .lists)) (state≔ v (r₁ .left) (a₂ .state)) (r₁ .stop)
+        Passes c (for-late c) a₁ a₂ r₁ v (late-from c q v s) → a₂ .lists .pending ≡ a₁ .lists .pending → a₂ .lists .carried ≡ a₁ .lists .carried →
+        main-from c q v s ≡ main-pass S (units-left a₂) tt (for-main c (a₂ .lists)) (state≔ v (r₁ .left) (a₂ .state)) (r₁ .stop)
     main-is p e f =
-        let none : a₂ .lists .carried ≡ [] = f ∙ ap (λ (x : Contents). x .lists .carried) came ∙ carries-nothing a given in
+        let none : a₂ .lists .carried ≡ [] = f ∙ ap (λ (x : Contents). x .lists .carried) came ∙ carries-nothing a (i .given) in
         rw (p .left, p .world, p .stop, e, none) refl
 
     -- ---- the record
-    module _ (same : w .state ≡ a .state) (late : Passes c limit (for-late c limit) a₁ a₂ r₁ v (late-from c limit q v s)) (e : a₂ .lists .pending ≡ a₁ .lists .pending) (f : a₂ .lists .carried ≡ a₁ .lists .carried)
-        (main : Passes c limit (for-main c limit) a₂ a₃ r₂ (state≔ v (r₁ .left) (a₂ .state)) (main-pass S (units-left a₂) tt (for-main c limit (a₂ .lists)) (state≔ v (r₁ .left) (a₂ .state)) (r₁ .stop)))
-        (h : Head) (ended : State) (reads : ended ≡ read-outputs c (a₃ .state) (r₂ .stop)) (h₁ : h .tick ≡ ended .wires .tick) (h₂ : h .steps ≡ limit - r₂ .left + (if eqb (r₂ .stop) 11 then 1 else 0))
+    module _ (same : w .state ≡ a .state) (late : Passes c (for-late c) a₁ a₂ r₁ v (late-from c q v s)) (e : a₂ .lists .pending ≡ a₁ .lists .pending) (f : a₂ .lists .carried ≡ a₁ .lists .carried)
+        (main : Passes c (for-main c) a₂ a₃ r₂ (state≔ v (r₁ .left) (a₂ .state)) (main-pass S (units-left a₂) tt (for-main c (a₂ .lists)) (state≔ v (r₁ .left) (a₂ .state)) (r₁ .stop)))
+        (h : Head) (ended : State) (reads : ended ≡ read-outputs c (a₃ .state) (r₂ .stop)) (h₁ : h .tick ≡ ended .wires .tick) (h₂ : h .steps ≡ i .limit - r₂ .left + (if eqb (r₂ .stop) 11 then 1 else 0))
         (h₃ : h .late ≡ length (a₂ .kept .begun)) (h₄ : h .main ≡ length (a₃ .kept .begun) - length (a₂ .kept .begun)) (h₅ : h .carried ≡ length (a₃ .lists .carried)) (h₆ : h .stop ≡ r₂ .stop) where
       abbrev l : Passed S (LateQ (Activation S))
-      l = late-from c limit q v s
+      l = late-from c q v s
 
       abbrev m : Passed S (MainQ (Activation S))
-      m = main-pass S (units-left a₂) tt (for-main c limit (a₂ .lists)) (state≔ v (r₁ .left) (a₂ .state)) (r₁ .stop)
+      m = main-pass S (units-left a₂) tt (for-main c (a₂ .lists)) (state≔ v (r₁ .left) (a₂ .state)) (r₁ .stop)
 
       begun₂ : a₂ .kept .begun ≡ map begun-as (acts S (l .turns))
       unfolding reopened
@@ -91,17 +91,17 @@ module _ (c : Circuit) (limit : ℕ) where
       abbrev u : World
       u = state≔ w (r₂ .left) ended
 
-      closed-is : closed-from c limit q v s ≡ write u (record-of h (a₃ .kept .begun) (ended .wires .outs))
+      closed-is : closed-from c i q v s ≡ write u (record-of h (a₃ .kept .begun) (ended .wires .outs))
       unfolding closing close state≔ steps if_then_else_
       closed-is =
-          ap (λ (x : Passed S (MainQ (Activation S))). closing c limit (x .world) (outcome S (l .turns) (x .turns) (x .queue .carried) (x .stop))) (main-is late e f)
-          ∙ rw (main .world, main .queue, main .stop) (ap (λ (x : State). write (state≔ w (r₂ .left) x) (log-record limit (state≔ w (r₂ .left) x) (outcome S (l .turns) (m .turns) (map (waiting c limit) (a₃ .lists .carried)) (r₂ .stop)))) (sym reads))
-          ∙ ap (write u) (record-is c limit u (l .turns) (m .turns) (map (waiting c limit) (a₃ .lists .carried)) (r₂ .stop) h (a₃ .kept .begun)
+          ap (λ (x : Passed S (MainQ (Activation S))). closing c (x .world) i (outcome S (l .turns) (x .turns) (x .queue .carried) (x .stop))) (main-is late e f)
+          ∙ rw (main .world, main .queue, main .stop) (ap (λ (x : State). write (state≔ w (r₂ .left) x) (log-record (i .limit) (state≔ w (r₂ .left) x) (outcome S (l .turns) (m .turns) (map (waiting c) (a₃ .lists .carried)) (r₂ .stop)))) (sym reads))
+          ∙ ap (write u) (record-is c (i .limit) u (l .turns) (m .turns) (map (waiting c) (a₃ .lists .carried)) (r₂ .stop) h (a₃ .kept .begun)
           h₁ (h₂ ∙ refl) (h₃ ∙ counted (acts S (l .turns)) (a₂ .kept .begun) begun₂)
-          (h₄ ∙ more) (h₅ ∙ sym (length-map (a₃ .lists .carried) (waiting c limit))) h₆ begun₃)
+          (h₄ ∙ more) (h₅ ∙ sym (length-map (a₃ .lists .carried) (waiting c))) h₆ begun₃)
         where
           counted : (as₁ : List Act) (b : List Begun) → b ≡ map begun-as as₁ → length b ≡ length as₁
-          counted as₁ b i = ap length i ∙ length-map as₁ begun-as
+          counted as₁ b k = ap length k ∙ length-map as₁ begun-as
 
           more : length (a₃ .kept .begun) - length (a₂ .kept .begun) ≡ length (acts S (m .turns))
           more =
@@ -118,11 +118,9 @@ module _ (c : Circuit) (limit : ℕ) where
         abbrev b : Contents
         b = with-state a₃ ended
 
-        t-of : Tick-of c limit (tick S w given (map (waiting c limit) (a .lists .carried)) tt) q v s
+        t-of : Tick-of c i (tick S w i (map (waiting c) (a .lists .carried)) tt) q v s
         t-of =
-            let i = tick-is c limit w given a same in
-            let o = opened c a given in
-            subst (λ (x : Contents). Tick-of c limit (tick S w given (map (waiting c limit) (a .lists .carried)) tt) (for-both c limit (x .lists)) (state≔ w limit (x .state)) s) (sym came) i
+            subst (λ (x : Contents). Tick-of c i (tick S w i (map (waiting c) (a .lists .carried)) tt) (for-both c (x .lists)) (state≔ w (i .limit) (x .state)) s) (sym came) (tick-is c w i a same)
 
         same-fit : leb (8 * length rs) (u .room) ≡ fits before at rs
         unfolding fits state≔
@@ -131,15 +129,15 @@ module _ (c : Circuit) (limit : ℕ) where
         -- it fits
         pub ticks-fit :
             fits before at rs ≡ true →
-            Ticks c limit a b before after at (length rs) (r₂ .stop) w (tick S w given (map (waiting c limit) (a .lists .carried)) tt)
+            Ticks c a b before after at (length rs) (r₂ .stop) w (tick S w i (map (waiting c) (a .lists .carried)) tt)
         unfolding write if_then_else_ state≔
         ticks-fit y =
             let z = t-of in
             let n : leb (8 * length rs) (u .room) ≡ true = same-fit ∙ y in
-            let k : closed-from c limit q v s ≡ record { world = record { state = ended; left = r₂ .left; room = w .room - 8 * length rs; logged = rs }; fits = true } = closed-is ∙ rw n in
+            let k : closed-from c i q v s ≡ record { world = record { state = ended; left = r₂ .left; room = w .room - 8 * length rs; logged = rs }; fits = true } = closed-is ∙ rw n in
             let g = z .world ∙ ap (λ (x : Closed World). x .world) k in
             record {
-              stopped = z .stop ∙ ap (λ (x : Closed World). cond (x .fits) (main-from c limit q v s .stop) log-full) k ∙ ap (λ (x : Passed S (MainQ (Activation S))). x .stop) (main-is late e f) ∙ main .stop;
+              stopped = z .stop ∙ ap (λ (x : Closed World). cond (x .fits) (main-from c q v s .stop) log-full) k ∙ ap (λ (x : Passed S (MainQ (Activation S))). x .stop) (main-is late e f) ∙ main .stop;
               carried = z .carried ∙ ap (λ (x : Passed S (MainQ (Activation S))). x .queue .carried) (main-is late e f) ∙ ap (λ (x : MainQ (Activation S)). x .carried) (main .queue);
               state = ap (λ (x : World). x .state) g;
               room = ap (λ (x : World). x .room + 8 * length rs) g ∙ (let j = leb-true (8 * length rs) (w .room) n in omega arith);
@@ -151,15 +149,15 @@ module _ (c : Circuit) (limit : ℕ) where
         -- it does not fit
         pub ticks-full :
             fits before at rs ≡ false →
-            Ticks c limit a b before after at 0 log-full w (tick S w given (map (waiting c limit) (a .lists .carried)) tt)
+            Ticks c a b before after at 0 log-full w (tick S w i (map (waiting c) (a .lists .carried)) tt)
         unfolding write if_then_else_ state≔
         ticks-full y =
             let z = t-of in
             let n : leb (8 * length rs) (u .room) ≡ false = same-fit ∙ y in
-            let k : closed-from c limit q v s ≡ record { world = record { state = ended; left = r₂ .left; room = w .room; logged = [] }; fits = false } = closed-is ∙ rw n in
+            let k : closed-from c i q v s ≡ record { world = record { state = ended; left = r₂ .left; room = w .room; logged = [] }; fits = false } = closed-is ∙ rw n in
             let g = z .world ∙ ap (λ (x : Closed World). x .world) k in
             record {
-              stopped = z .stop ∙ ap (λ (x : Closed World). cond (x .fits) (main-from c limit q v s .stop) log-full) k;
+              stopped = z .stop ∙ ap (λ (x : Closed World). cond (x .fits) (main-from c q v s .stop) log-full) k;
               carried = z .carried ∙ ap (λ (x : Passed S (MainQ (Activation S))). x .queue .carried) (main-is late e f) ∙ ap (λ (x : MainQ (Activation S)). x .carried) (main .queue);
               state = ap (λ (x : World). x .state) g;
               room = ap (λ (x : World). x .room + 8 * 0) g ∙ (omega arith);

@@ -7,12 +7,11 @@ use lib.ListN.{length, length-map}
 use Rattle.schedule.specs.Schedule.{Setup, Activation, LateQ, MainQ, OpenQ, most-units, log-full, push-all, activate-open, Raising, raise-all, Turn, Passed, late-pass, main-pass, Tick, acts, outcome, tick, Closed}
 use Rattle.schedule.proofs.Erase.{map-append}
 use Rattle.model.specs.Circuit.{Circuit}
-use Rattle.model.specs.Script.{Given}
 use Rattle.model.specs.State.{Act, State}
 use Rattle.model.specs.Opening.{open-tick}
 use Rattle.model.specs.Unit.{World, state≔, raises-in}
 use Rattle.model.specs.Record.{steps, head, units-begun, outputs-shown, log-record}
-use Rattle.model.specs.Run.{opening, closing}
+use Rattle.model.specs.Run.{Allowed, opening, closing}
 use Rattle.units.specs.View.{Begun}
 use Rattle.areas.specs.Areas.{Contents}
 use Rattle.opening.specs.Opening.{put-to, opened-into, reopened, opened}
@@ -23,32 +22,32 @@ use Rattle.passes.proofs.Filing.{push-all-by-rank, open-files, Raised, raised-a
 use Rattle.log.specs.declared.Head.{Head}
 use Rattle.log.specs.Log.{record-of}
 
-module _ (c : Circuit) (limit : ℕ) where
+module _ (c : Circuit) where
   abbrev S : Setup
-  S = bare c limit
+  S = bare c
 
   -- what waits as a tick begins
   abbrev queue-at-start : List Act → OpenQ (Activation S)
-  queue-at-start came = record { lateq = record { late = push-all S (map (waiting c limit) came) []; delivered = [] }; pending = [] }
+  queue-at-start came = record { lateq = record { late = push-all S (map (waiting c) came) []; delivered = [] }; pending = [] }
 
   -- the opening raises as the areas file
-  abbrev opens : World → Given → List Act → Raising S (OpenQ (Activation S))
-  opens w given came =
-      let d = opening c limit w given in raise-all S (activate-open S) (d .raises) tt (queue-at-start came) (d .world) (d .stop)
+  abbrev opens : World → Allowed → List Act → Raising S (OpenQ (Activation S))
+  opens w i came =
+      let d = opening c w i in raise-all S (activate-open S) (d .raises) tt (queue-at-start came) (d .world) (d .stop)
 
   opening-raises :
-      (w : World) (given : Given) (a : Contents) → w .state ≡ a .state →
-      Raised c limit (for-both c limit) (activate-open S) (put-to c) (open-files c limit) w limit (opens w given (a .lists .carried)) (opened c a given)
+      (w : World) (i : Allowed) (a : Contents) → w .state ≡ a .state →
+      Raised c (for-both c) (activate-open S) (put-to c) (open-files c) w (i .limit) (opens w i (a .lists .carried)) (opened c a (i .given))
   unfolding opening opened opened-into reopened
-  opening-raises w given a e =
-      let z = open-tick c (w .state) given in
+  opening-raises w i a e =
+      let z = open-tick c (w .state) (i .given) in
       subst
-      (λ (x : State). Raised c limit (for-both c limit) (activate-open S) (put-to c) (open-files c limit) w limit (opens w given (a .lists .carried)) (opened-into c (open-tick c x given) (reopened c a .lists)))
+      (λ (x : State). Raised c (for-both c) (activate-open S) (put-to c) (open-files c) w (i .limit) (opens w i (a .lists .carried)) (opened-into c (open-tick c x (i .given)) (reopened c a .lists)))
       e
       (subst
-      (λ (x : List (Activation S)). Raised c limit (for-both c limit) (activate-open S) (put-to c) (open-files c limit) w limit (raise-all S (activate-open S) (raises-in w limit (z .raises)) tt (record { lateq = record { late = x; delivered = [] }; pending = [] }) (state≔ w limit (z .state)) 0) (opened-into c z (reopened c a .lists)))
-      (sym (push-all-by-rank c limit (a .lists .carried) []))
-      (raised-as c limit (for-both c limit) (activate-open S) (put-to c) (open-files c limit) w limit (z .raises) (reopened c a .lists) (z .state)))
+      (λ (x : List (Activation S)). Raised c (for-both c) (activate-open S) (put-to c) (open-files c) w (i .limit) (raise-all S (activate-open S) (raises-in w (i .limit) (z .raises)) tt (record { lateq = record { late = x; delivered = [] }; pending = [] }) (state≔ w (i .limit) (z .state)) 0) (opened-into c z (reopened c a .lists)))
+      (sym (push-all-by-rank c (a .lists .carried) []))
+      (raised-as c (for-both c) (activate-open S) (put-to c) (open-files c) w (i .limit) (z .raises) (reopened c a .lists) (z .state)))
 
   -- what follows the opening: the late pass, the main pass, the record
   abbrev pub late-from : OpenQ (Activation S) → World → ℕ → Passed S (LateQ (Activation S))
@@ -57,48 +56,48 @@ module _ (c : Circuit) (limit : ℕ) where
   abbrev pub main-from : OpenQ (Activation S) → World → ℕ → Passed S (MainQ (Activation S))
   main-from q v s = let l = late-from q v s in main-pass S (l .left) tt (record { pending = q .pending; carried = [] }) (l .world) (l .stop)
 
-  abbrev pub closed-from : OpenQ (Activation S) → World → ℕ → Closed World
-  closed-from q v s =
+  abbrev pub closed-from : Allowed → OpenQ (Activation S) → World → ℕ → Closed World
+  closed-from i q v s =
       let l = late-from q v s in
       let m = main-from q v s in
-      closing c limit (m .world) (outcome S (l .turns) (m .turns) (m .queue .carried) (m .stop))
+      closing c (m .world) i (outcome S (l .turns) (m .turns) (m .queue .carried) (m .stop))
 
   -- a tick is its passes and its closing, from what its opening came to
-  pub record Tick-of (t : Tick S) (q : OpenQ (Activation S)) (v : World) (s : ℕ) : Type 0 where
+  pub record Tick-of (i : Allowed) (t : Tick S) (q : OpenQ (Activation S)) (v : World) (s : ℕ) : Type 0 where
     pub carried : t .carried ≡ main-from q v s .queue .carried
-    pub world : t .world ≡ closed-from q v s .world
-    pub stop : t .stop ≡ cond (closed-from q v s .fits) (main-from q v s .stop) log-full
+    pub world : t .world ≡ closed-from i q v s .world
+    pub stop : t .stop ≡ cond (closed-from i q v s .fits) (main-from q v s .stop) log-full
 
   tick-opens :
-      (w : World) (given : Given) (came : List Act) →
-      let k = opens w given came in
-      Tick-of (tick S w given (map (waiting c limit) came) tt) (k .queue) (k .world) (k .stop)
+      (w : World) (i : Allowed) (came : List Act) →
+      let k = opens w i came in
+      Tick-of i (tick S w i (map (waiting c) came) tt) (k .queue) (k .world) (k .stop)
   unfolding tick
-  tick-opens w given came = record { carried = refl; world = refl; stop = refl }
+  tick-opens w i came = record { carried = refl; world = refl; stop = refl }
 
   pub tick-is :
-      (w : World) (given : Given) (a : Contents) → w .state ≡ a .state →
-      let o = opened c a given in
-      Tick-of (tick S w given (map (waiting c limit) (a .lists .carried)) tt) (for-both c limit (o .lists)) (state≔ w limit (o .state)) (stop-of (o .answer))
-  tick-is w given a e =
-      let i = opening-raises w given a e in
-      let t = tick S w given (map (waiting c limit) (a .lists .carried)) tt in
-      let k = opens w given (a .lists .carried) in
-      let o = opened c a given in
-      subst (λ (x : OpenQ (Activation S)). Tick-of t x (state≔ w limit (o .state)) (stop-of (o .answer))) (i .queue)
-      (subst (λ (x : World). Tick-of t (k .queue) x (stop-of (o .answer))) (i .world)
-      (subst (λ (x : ℕ). Tick-of t (k .queue) (k .world) x) (i .stop) (tick-opens w given (a .lists .carried))))
+      (w : World) (i : Allowed) (a : Contents) → w .state ≡ a .state →
+      let o = opened c a (i .given) in
+      Tick-of i (tick S w i (map (waiting c) (a .lists .carried)) tt) (for-both c (o .lists)) (state≔ w (i .limit) (o .state)) (stop-of (o .answer))
+  tick-is w i a e =
+      let r = opening-raises w i a e in
+      let t = tick S w i (map (waiting c) (a .lists .carried)) tt in
+      let k = opens w i (a .lists .carried) in
+      let o = opened c a (i .given) in
+      subst (λ (x : OpenQ (Activation S)). Tick-of i t x (state≔ w (i .limit) (o .state)) (stop-of (o .answer))) (r .queue)
+      (subst (λ (x : World). Tick-of i t (k .queue) x (stop-of (o .answer))) (r .world)
+      (subst (λ (x : ℕ). Tick-of i t (k .queue) (k .world) x) (r .stop) (tick-opens w i (a .lists .carried))))
 
   -- ---- the record
 
   -- the record of a tick, by what the areas hold
   pub record-is :
-      (v : World) (late : List (Turn S)) (main : List (Turn S)) (carried : List (Activation S)) (stop : ℕ) (h : Head) (begun : List Begun) →
+      (limit : ℕ) (v : World) (late : List (Turn S)) (main : List (Turn S)) (carried : List (Activation S)) (stop : ℕ) (h : Head) (begun : List Begun) →
       h .tick ≡ v .state .wires .tick → h .steps ≡ steps limit v stop → h .late ≡ length (acts S late) → h .main ≡ length (acts S main) → h .carried ≡ length carried → h .stop ≡ stop →
       begun ≡ map begun-as (acts S late) ++ map begun-as (acts S main) →
       log-record limit v (outcome S late main carried stop) ≡ record-of h begun (v .state .wires .outs)
   unfolding log-record head units-begun outputs-shown record-of
-  record-is v late main carried stop h begun e₁ e₂ e₃ e₄ e₅ e₆ e₇ =
+  record-is limit v late main carried stop h begun e₁ e₂ e₃ e₄ e₅ e₆ e₇ =
       let as₁ = acts S late ++ acts S main in
       let b : begun ≡ map begun-as as₁ = e₇ ∙ sym (map-append begun-as (acts S late) (acts S main)) in
       let n : length (map (λ (e : Activation S). e .act) carried) ≡ h .carried = length-map carried (λ (e : Activation S). e .act) ∙ sym e₅ in

@@ -6,7 +6,7 @@ use mathlib.Core.List.{List, append-nil}
 use native.Mathlib.Omega.{arith}
 use borrow.Author.Tests.{ne-eqb}
 use lib.ListN.{length}
-use Rattle.schedule.specs.Schedule.{no-turn, pass, next-late, next-main, activate-late, activate-main, late-pass, main-pass}
+use Rattle.schedule.specs.Schedule.{no-turn, next-late, next-main, activate-late, activate-main, late-pass, main-pass}
 use Rattle.lists.specs.declared.Filed.{Filed as Answer}
 use Rattle.lists.specs.declared.Filed.the-variants.{Full, Done}
 use Rattle.model.specs.Base.{if_then_else_}
@@ -34,10 +34,10 @@ use Rattle.ticks.specs.Stages.{Ran-late, Ran-main, steps-made, outputs-r
 
 -- no turn is made after a stop
 no-turns :
-    (c : Circuit) (k : ℕ) {Q : Type 0} (h : Lists → Q) (a : Contents) (left stop : ℕ) (w : World) → w .state ≡ a .state → w .left ≡ left →
-    Passes c k h a a (record { left = left; stop = stop }) w (no-turn (bare c k) (units-left a) tt (h (a .lists)) w stop)
+    (c : Circuit) {Q : Type 0} (h : Lists → Q) (a : Contents) (left stop : ℕ) (w : World) → w .state ≡ a .state → w .left ≡ left →
+    Passes c h a a (record { left = left; stop = stop }) w (no-turn (bare c) (units-left a) tt (h (a .lists)) w stop)
 unfolding state≔
-no-turns c k {Q} h a left stop w e f =
+no-turns c {Q} h a left stop w e f =
     record {
       world = rw (sym e, sym f) refl;
       queue = refl;
@@ -52,16 +52,16 @@ unfolding stop-of late-pass
 late-stopped c a left o h =
     rw h
     (record {
-      passes = λ k w e f.
-          rw (stopped c k (for-late c k) (next-late (bare c k)) (activate-late (bare c k)) (λ _. Late) (λ u b l. late-files c k (waiting c k u) b l) (units-left a) 12 w (a .lists) (λ z. omega (arith, z)))
-          (no-turns c k (for-late c k) a left 12 w e f);
+      passes = λ w e f.
+          rw (stopped c (for-late c) (next-late (bare c)) (activate-late (bare c)) (λ _. Late) (λ u b l. late-files c (waiting c u) b l) (units-left a) 12 w (a .lists) (λ z. omega (arith, z)))
+          (no-turns c (for-late c) a left 12 w e f);
       pending = refl;
       carried = refl;
     })
 
 pub late-ran :
     (c : Circuit) (a b : Contents) (left : ℕ) (o : Answer) (r : Ran) → o ≡ Done →
-    ((k : ℕ) (w : World) → w .state ≡ a .state → w .left ≡ left → Passes c k (for-late c k) a b r w (late-pass (bare c k) (units-left a) tt (for-late c k (a .lists)) w 0)) →
+    ((w : World) → w .state ≡ a .state → w .left ≡ left → Passes c (for-late c) a b r w (late-pass (bare c) (units-left a) tt (for-late c (a .lists)) w 0)) →
     (b .lists .pending ≡ a .lists .pending) × (b .lists .carried ≡ a .lists .carried) →
     Ran-late c a b left (stop-of o) r
 unfolding stop-of
@@ -72,14 +72,14 @@ pub main-stopped : (c : Circuit) (a : Contents) (r : Ran) → (r .stop ≡ 0 →
 unfolding main-pass
 main-stopped c a r h =
     record {
-      passes = λ k w e f.
-          rw (stopped c k (for-main c k) (next-main (bare c k)) (activate-main (bare c k)) (λ u. After (rank-of-gate c (u .gate))) (λ u b l. main-files c k (waiting c k u) b l) (units-left a) (r .stop) w (a .lists) h)
-          (no-turns c k (for-main c k) a (r .left) (r .stop) w e f);
+      passes = λ w e f.
+          rw (stopped c (for-main c) (next-main (bare c)) (activate-main (bare c)) (λ u. After (rank-of-gate c (u .gate))) (λ u b l. main-files c (waiting c u) b l) (units-left a) (r .stop) w (a .lists) h)
+          (no-turns c (for-main c) a (r .left) (r .stop) w e f);
     }
 
 pub main-ran :
     (c : Circuit) (a b : Contents) (l r : Ran) → l .stop ≡ 0 →
-    ((k : ℕ) (w : World) → w .state ≡ a .state → w .left ≡ l .left → Passes c k (for-main c k) a b r w (main-pass (bare c k) (units-left a) tt (for-main c k (a .lists)) w 0)) →
+    ((w : World) → w .state ≡ a .state → w .left ≡ l .left → Passes c (for-main c) a b r w (main-pass (bare c) (units-left a) tt (for-main c (a .lists)) w 0)) →
     Ran-main c a b (l .left) (l .stop) r
 main-ran c a b l r z p = rw z (record { passes = p })
 

@@ -14,6 +14,7 @@ use Rattle.model.specs.Script.{Given}
 use Rattle.model.specs.State.{State, wires≔}
 use Rattle.model.specs.Unit.{World, state≔}
 use Rattle.model.specs.Record.{read-outputs}
+use Rattle.model.specs.Run.{Allowed, allow}
 use Rattle.wires.specs.View.{Values, with-wires}
 use Rattle.units.specs.View.{Units}
 use Rattle.states.specs.View.{Delays}
@@ -35,7 +36,7 @@ all-left : (c : Circuit) (a a₁ : Contents) (given : Given) → a₁ ≡ with-w
 unfolding reopened
 all-left c a a₁ given e = ap (λ (x : Contents). units-left x) e
 
-module _ (c : Circuit) (limit : ℕ) (given : Given) (a a₁ a₂ : Contents) (v b : Values) (u : Units) (d : Delays) (r₁ r₂ : Ran) (late : ℕ) (before after : List ℕ) (at : ℕ) where
+module _ (c : Circuit) (i : Allowed) (a a₁ a₂ : Contents) (v b : Values) (u : Units) (d : Delays) (r₁ r₂ : Ran) (late : ℕ) (before after : List ℕ) (at : ℕ) where
   abbrev a₃ : Contents
   a₃ = together v u d
 
@@ -44,25 +45,25 @@ module _ (c : Circuit) (limit : ℕ) (given : Given) (a a₁ a₂ : Contents) (v
   ended = together b u d .state
 
   abbrev rs : List ℕ
-  rs = words-of limit late r₂ b u
+  rs = words-of (i .limit) late r₂ b u
 
-  module _ (came : a₁ ≡ with-went (reopened c a) (opened c a given)) (l : Ran-late c a₁ a₂ limit (stop-of (opened c a given .answer)) r₁) (n : late ≡ length (a₂ .kept .begun)) (m : Ran-main c a₂ a₃ (r₁ .left) (r₁ .stop) r₂)
+  module _ (came : a₁ ≡ with-went (reopened c a) (opened c a (i .given))) (l : Ran-late c a₁ a₂ (i .limit) (stop-of (opened c a (i .given) .answer)) r₁) (n : late ≡ length (a₂ .kept .begun)) (m : Ran-main c a₂ a₃ (r₁ .left) (r₁ .stop) r₂)
       (read : b ≡ with-wires v (outputs-read c (v .wires) (r₂ .stop))) (inside : at * 8 ≤ length before) (kept : Writes before after at rs) (w : World) (same : w .state ≡ a .state) (room : w .room ≡ length before - 8 * at) where
     abbrev w₁ : World
-    w₁ = state≔ w limit (a₁ .state)
+    w₁ = state≔ w (i .limit) (a₁ .state)
 
-    late-is : Passes c limit (for-late c limit) a₁ a₂ r₁ w₁ (late-from c limit (for-both c limit (a₁ .lists)) w₁ (stop-of (opened c a given .answer)))
+    late-is : Passes c (for-late c) a₁ a₂ r₁ w₁ (late-from c (for-both c (a₁ .lists)) w₁ (stop-of (opened c a (i .given) .answer)))
     unfolding state≔
     late-is =
-        subst (λ (k : ℕ). Passes c limit (for-late c limit) a₁ a₂ r₁ w₁ (late-pass (bare c limit) k tt (for-late c limit (a₁ .lists)) w₁ (stop-of (opened c a given .answer))))
-        (all-left c a a₁ given came)
-        (l .passes limit w₁ refl refl)
+        subst (λ (k : ℕ). Passes c (for-late c) a₁ a₂ r₁ w₁ (late-pass (bare c) k tt (for-late c (a₁ .lists)) w₁ (stop-of (opened c a (i .given) .answer))))
+        (all-left c a a₁ (i .given) came)
+        (l .passes w₁ refl refl)
 
     main-is₁ :
-        Passes c limit (for-main c limit) a₂ a₃ r₂ (state≔ w₁ (r₁ .left) (a₂ .state))
-        (main-pass (bare c limit) (units-left a₂) tt (for-main c limit (a₂ .lists)) (state≔ w₁ (r₁ .left) (a₂ .state)) (r₁ .stop))
+        Passes c (for-main c) a₂ a₃ r₂ (state≔ w₁ (r₁ .left) (a₂ .state))
+        (main-pass (bare c) (units-left a₂) tt (for-main c (a₂ .lists)) (state≔ w₁ (r₁ .left) (a₂ .state)) (r₁ .stop))
     unfolding state≔
-    main-is₁ = m .passes limit (state≔ w₁ (r₁ .left) (a₂ .state)) refl refl
+    main-is₁ = m .passes (state≔ w₁ (r₁ .left) (a₂ .state)) refl refl
 
     -- the outputs are read as the definition does
     reads : ended ≡ read-outputs c (a₃ .state) (r₂ .stop)
@@ -77,27 +78,27 @@ module _ (c : Circuit) (limit : ℕ) (given : Given) (a a₁ a₂ : Contents) (v
     areas-are : with-state a₃ ended ≡ together b u d
     areas-are = ap (λ (x : Values). with-state a₃ (together x u d .state)) read ∙ sym (ap (λ (x : Values). together x u d) read)
 
-    tick-fits : fits before at rs ≡ true → Ticks c limit a (together b u d) before after at (length rs) (r₂ .stop) w (tick (bare c limit) w given (map (waiting c limit) (a .lists .carried)) tt)
+    tick-fits : fits before at rs ≡ true → Ticks c a (together b u d) before after at (length rs) (r₂ .stop) w (tick (bare c) w i (map (waiting c) (a .lists .carried)) tt)
     unfolding words-of head-of steps-made
     tick-fits y =
-        subst (λ (x : Contents). Ticks c limit a x before after at (length rs) (r₂ .stop) w (tick (bare c limit) w given (map (waiting c limit) (a .lists .carried)) tt)) areas-are
-        (ticks-fit c limit w given a a₁ a₂ a₃ r₁ r₂ came same late-is (l .pending) (l .carried) main-is₁ (head-of limit late (r₂ .left) (r₂ .stop) b u) ended reads refl refl n (ap (λ (x : ℕ). length (u .begun) - x) n) refl refl before after at room (omega arith) kept y)
+        subst (λ (x : Contents). Ticks c a x before after at (length rs) (r₂ .stop) w (tick (bare c) w i (map (waiting c) (a .lists .carried)) tt)) areas-are
+        (ticks-fit c w i a a₁ a₂ a₃ r₁ r₂ came same late-is (l .pending) (l .carried) main-is₁ (head-of (i .limit) late (r₂ .left) (r₂ .stop) b u) ended reads refl refl n (ap (λ (x : ℕ). length (u .begun) - x) n) refl refl before after at room (omega arith) kept y)
 
-    tick-full : fits before at rs ≡ false → Ticks c limit a (together b u d) before after at 0 log-full w (tick (bare c limit) w given (map (waiting c limit) (a .lists .carried)) tt)
+    tick-full : fits before at rs ≡ false → Ticks c a (together b u d) before after at 0 log-full w (tick (bare c) w i (map (waiting c) (a .lists .carried)) tt)
     unfolding words-of head-of steps-made
     tick-full y =
-        subst (λ (x : Contents). Ticks c limit a x before after at 0 log-full w (tick (bare c limit) w given (map (waiting c limit) (a .lists .carried)) tt)) areas-are
-        (ticks-full c limit w given a a₁ a₂ a₃ r₁ r₂ came same late-is (l .pending) (l .carried) main-is₁ (head-of limit late (r₂ .left) (r₂ .stop) b u) ended reads refl refl n (ap (λ (x : ℕ). length (u .begun) - x) n) refl refl before after at room (omega arith) kept y)
+        subst (λ (x : Contents). Ticks c a x before after at 0 log-full w (tick (bare c) w i (map (waiting c) (a .lists .carried)) tt)) areas-are
+        (ticks-full c w i a a₁ a₂ a₃ r₁ r₂ came same late-is (l .pending) (l .carried) main-is₁ (head-of (i .limit) late (r₂ .left) (r₂ .stop) b u) ended reads refl refl n (ap (λ (x : ℕ). length (u .begun) - x) n) refl refl before after at room (omega arith) kept y)
 
     pub tick-answers :
         (t : Ticked) → t ≡ ticked-as (fits before at rs) rs (r₂ .stop) →
-        Ticks c limit a (together b u d) before after at (t .size) (t .stop) w (tick (bare c limit) w given (map (waiting c limit) (a .lists .carried)) tt)
+        Ticks c a (together b u d) before after at (t .size) (t .stop) w (tick (bare c) w i (map (waiting c) (a .lists .carried)) tt)
     unfolding ticked-as
     tick-answers t e = go (fits before at rs) refl
       where
-        go : (x : Bool) → fits before at rs ≡ x → Ticks c limit a (together b u d) before after at (t .size) (t .stop) w (tick (bare c limit) w given (map (waiting c limit) (a .lists .carried)) tt)
-        go true y = let z : t ≡ ticked-as true rs (r₂ .stop) = e ∙ ap (λ (i : Bool). ticked-as i rs (r₂ .stop)) y in rw z (tick-fits y)
-        go false y = let z : t ≡ ticked-as false rs (r₂ .stop) = e ∙ ap (λ (i : Bool). ticked-as i rs (r₂ .stop)) y in rw z (tick-full y)
+        go : (x : Bool) → fits before at rs ≡ x → Ticks c a (together b u d) before after at (t .size) (t .stop) w (tick (bare c) w i (map (waiting c) (a .lists .carried)) tt)
+        go true y = let z : t ≡ ticked-as true rs (r₂ .stop) = e ∙ ap (λ (f : Bool). ticked-as f rs (r₂ .stop)) y in rw z (tick-fits y)
+        go false y = let z : t ≡ ticked-as false rs (r₂ .stop) = e ∙ ap (λ (f : Bool). ticked-as f rs (r₂ .stop)) y in rw z (tick-full y)
 
 -- the opening, the passes and the record make a tick
 pub ticks-through :
@@ -105,6 +106,6 @@ pub ticks-through :
     (a₁ ≡ with-went (reopened c a) (opened c a given)) × (o ≡ opened c a given .answer) → Ran-late c a₁ a₂ limit (stop-of o) r₁ → late ≡ length (a₂ .kept .begun) → Ran-main c a₂ (together v u d) (r₁ .left) (r₁ .stop) r₂ →
     Closes c limit late r₂ v b u before after at t →
     (w : World) → w .state ≡ a .state → w .room ≡ length before - 8 * at →
-    Ticks c limit a (together b u d) before after at (t .size) (t .stop) w (tick (bare c limit) w given (map (waiting c limit) (a .lists .carried)) tt)
+    Ticks c a (together b u d) before after at (t .size) (t .stop) w (tick (bare c) w (allow limit given) (map (waiting c) (a .lists .carried)) tt)
 ticks-through c limit given a a₁ a₂ v b u d o r₁ r₂ late before after at t inside opens l n m ends w same room =
-    tick-answers c limit given a a₁ a₂ v b u d r₁ r₂ late before after at (opens .0) (subst (λ (x : Filed). Ran-late c a₁ a₂ limit (stop-of x) r₁) (opens .1) l) n m (ends .values) inside (ends .log) w same room t (ends .answer)
+    tick-answers c (allow limit given) a a₁ a₂ v b u d r₁ r₂ late before after at (opens .0) (subst (λ (x : Filed). Ran-late c a₁ a₂ limit (stop-of x) r₁) (opens .1) l) n m (ends .values) inside (ends .log) w same room t (ends .answer)

@@ -24,13 +24,13 @@ use Rattle.ticks.specs.declared.Ticked.{Ticked}
 
 -- The areas a became b, with the answer r, as the late pass, with so many steps left and this stop.
 pub record Ran-late (c : Circuit) (a b : Contents) (left stop : ℕ) (r : Ran) : Type 0 where
-  pub passes : (k : ℕ) (w : World) → w .state ≡ a .state → w .left ≡ left → Passes c k (for-late c k) a b r w (late-pass (bare c k) (units-left a) tt (for-late c k (a .lists)) w stop)
+  pub passes : (w : World) → w .state ≡ a .state → w .left ≡ left → Passes c (for-late c) a b r w (late-pass (bare c) (units-left a) tt (for-late c (a .lists)) w stop)
   pub pending : b .lists .pending ≡ a .lists .pending
   pub carried : b .lists .carried ≡ a .lists .carried
 
 -- The areas a became b, with the answer r, as the main pass, with so many steps left and this stop.
 pub record Ran-main (c : Circuit) (a b : Contents) (left stop : ℕ) (r : Ran) : Type 0 where
-  pub passes : (k : ℕ) (w : World) → w .state ≡ a .state → w .left ≡ left → Passes c k (for-main c k) a b r w (main-pass (bare c k) (units-left a) tt (for-main c k (a .lists)) w stop)
+  pub passes : (w : World) → w .state ≡ a .state → w .left ≡ left → Passes c (for-main c) a b r w (main-pass (bare c) (units-left a) tt (for-main c (a .lists)) w stop)
 
 -- the steps made of a tick that may make `limit`; those of one stopped by 11 include the one not made
 unfoldable pub steps-made : ℕ → ℕ → ℕ → ℕ

@@ -11,9 +11,9 @@ use Rattle.areas.specs.Areas.{Contents}
 use Rattle.passes.specs.Waiting.{bare, waiting}
 
 -- The areas a became b, and the log `after`, as the tick t did from the world w on: it has a record of so many words behind the first `at` words, and this stop.
-pub record Ticks (c : Circuit) (limit : ℕ) (a b : Contents) (before after : List ℕ) (at size stop : ℕ) (w : World) (t : Tick (bare c limit)) : Type 0 where
+pub record Ticks (c : Circuit) (a b : Contents) (before after : List ℕ) (at size stop : ℕ) (w : World) (t : Tick (bare c)) : Type 0 where
   pub stopped : t .stop ≡ stop
-  pub carried : t .carried ≡ map (waiting c limit) (b .lists .carried)
+  pub carried : t .carried ≡ map (waiting c) (b .lists .carried)
   pub state : t .world .state ≡ b .state
   pub room : t .world .room + 8 * size ≡ w .room
   pub logged : length (t .world .logged) ≡ size

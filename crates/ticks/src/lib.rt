@@ -3,6 +3,7 @@ ghost use mathlib.Core.Path.{_≡_};
 ghost use Prim.Native.Nat.{_*_, _^_, _<_, _≤_};
 ghost use lib.ListN.{length};
 ghost use Rattle.words.specs.Slices.{before, after, was, Has-words};
+ghost use Rattle.model.specs.Run.{allow};
 // The definitions `values` and `units` are named for what they hold, beside the slices of their names.
 ghost use Rattle.links.specs.Links.{net};
 ghost use Rattle.links.specs.Lent.{Linked, net-of, Room};
@@ -165,7 +166,7 @@ pub fn tick(
 ) -> Ticked
     requires { ⌜ Linked links × Room values × Room units × Slots links delays × Few-calls (net (now links)) ⌝ }
     requires { ⌜ Has-words script «gates_at» n × Has-words script «constants_at» n × Tick-fits links values × (at * 8 ≤ length (now log)) × (limit < 2 ^ 63) ⌝ }
-    ensures { λ r. ⌜ Over-all links values units delays (λ c old new. Ticks-as c limit old new (before log) (after log) at r (given-at c (was script) dt «gates_at» «constants_at» n)) ⌝ }
+    ensures { λ r. ⌜ Over-all links values units delays (λ c old new. Ticks-as c old new (before log) (after log) at r (allow limit (given-at c (was script) dt «gates_at» «constants_at» n))) ⌝ }
     ensures { λ _. ⌜ Slots-stay links delays ⌝ }
 {
     let opened = open(

@@ -279,7 +279,7 @@ module _ (c : Circuit) (bs : List ℕ) (n : ℕ) (l : 65536 ≤ length bs) (en :
 
 mark-written : (c : Circuit) (w : Wires) (o : ℕ) → mark-readers c w o .written ≡ w .written
 mark-written c w o =
-    mark-readers-keeps c (λ (v : Wires). v .written ≡ w .written) (λ v g e p. soiled v g ∙ p) (λ v i p. watched v i ∙ p) w o refl
+    mark-readers-keeps c (λ (v : Wires). v .written ≡ w .written) (λ v g e p. soiled v g ∙ p) (λ v i q p. watched v i ∙ p) w o refl
   where
     soiled : (v : Wires) (g : ℕ) → soil v g .written ≡ v .written
     soiled v g = unfold soil dirty≔ in refl

@@ -213,7 +213,7 @@ module _ (c : Circuit) where
   unfolding give
   give-pulses w o x =
       if-both (λ (v : Wires). v .pulses ≡ w .pulses) _ refl
-      (mark-readers-keeps c (λ (v : Wires). v .pulses ≡ w .pulses) (λ v g e p. soiled v g ∙ p) (λ v i p. watched v i ∙ p) (show w o x) o (shown-kept w o x))
+      (mark-readers-keeps c (λ (v : Wires). v .pulses ≡ w .pulses) (λ v g e p. soiled v g ∙ p) (λ v i q p. watched v i ∙ p) (show w o x) o (shown-kept w o x))
     where
       soiled : (v : Wires) (g : ℕ) → soil v g .pulses ≡ v .pulses
       soiled v g = unfold soil dirty≔ in refl

@@ -1,5 +1,4 @@
-use Rattle.chain.proofs.Turns.{call-fires, call-ends, call-full, alike-call}
-use Rattle.steps.proofs.Far.{near-alike}
+use Rattle.chain.proofs.Turns.{call-fires, call-ends, call-full}
 use borrow.Author.Needs.{needs}
 use Rattle.chain.proofs.make_call.Statement.{statement}
 use Rattle.chain.proofs.make_call.Tie as tie
@@ -38,7 +37,7 @@ same-length-3 c = search needs
 
 -- src/lib.rt:42:1
 returns : tie.Need-returns
-returns c = (alike-call _ _ _ _ _ _ (near-alike _ _ _) (call-fires _ _ _ _ _ _ _ _ _ (c .before .before .before .before .before .before .before .before .before .before .before .before .before .exec .ensures .0) _ (c .before .before .before .before .before .step .given .1) _ _ (c .before .before .push-calls .ensures)), c .before .before .before .before .before .before .before .before .before .before .before .before .before .exec .ensures .1)
+returns c = (call-fires _ _ _ _ _ _ _ _ _ (c .before .before .before .before .before .before .before .before .before .before .before .before .before .exec .ensures .0) _ (c .before .before .before .before .before .step .given .1) _ _ (c .before .before .push-calls .ensures), c .before .before .before .before .before .before .before .before .before .before .before .before .before .exec .ensures .1)
 
 -- src/lib.rt:42:1
 same-length-4 : tie.Need-same-length-4
@@ -54,7 +53,7 @@ same-length-6 c = search needs
 
 -- src/lib.rt:42:1
 returns-2 : tie.Need-returns-2
-returns-2 c = (alike-call _ _ _ _ _ _ (near-alike _ _ _) (call-ends _ _ _ _ _ _ _ _ _ (c .before .before .before .before .before .before .before .before .exec .ensures .0) (c .enum-told .given .1)), c .before .before .before .before .before .before .before .before .exec .ensures .1)
+returns-2 c = (call-ends _ _ _ _ _ _ _ _ _ (c .before .before .before .before .before .before .before .before .exec .ensures .0) (c .enum-told .given .1), c .before .before .before .before .before .before .before .before .exec .ensures .1)
 
 -- src/lib.rt:42:1
 same-length-7 : tie.Need-same-length-7
@@ -70,7 +69,7 @@ same-length-9 c = search needs
 
 -- src/lib.rt:42:1
 returns-3 : tie.Need-returns-3
-returns-3 c = (alike-call _ _ _ _ _ _ (near-alike _ _ _) (call-full _ _ _ _ _ _ _ _ _ (c .before .before .before .before .before .before .before .before .exec .ensures .0) (c .enum-told2 .given .1)), c .before .before .before .before .before .before .before .before .exec .ensures .1)
+returns-3 c = (call-full _ _ _ _ _ _ _ _ _ (c .before .before .before .before .before .before .before .before .exec .ensures .0) (c .enum-told2 .given .1), c .before .before .before .before .before .before .before .before .exec .ensures .1)
 
 pub make-call-spec : {M : Type 1} → statement M
 make-call-spec =
