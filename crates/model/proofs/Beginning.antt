@@ -8,7 +8,7 @@ use Rattle.schedule.specs.Schedule.{Raise, Outcome, Closed, Setup, numbered}
 use Rattle.schedule.specs.Promise.{All, [·]}
 use Rattle.schedule.specs.Keeping.{Did-bring, Tick-begins}
 use Rattle.schedule.proofs.Theorems.{run-begins}
-use Rattle.schedule.proofs.Ranked.{all-map}
+use Rattle.schedule.proofs.Members.{all-map, all-append}
 use Rattle.model.specs.Circuit.{Circuit, output}
 use Rattle.model.specs.State.{State, Act}
 use Rattle.model.specs.Chain.{Chained, run-chain}
@@ -17,7 +17,7 @@ use Rattle.model.specs.Record.{read-outputs, write, close}
 use Rattle.model.specs.Run.{Allowed, opening, body, closing, machine, world-at-start}
 use Rattle.model.specs.Order.{numbered-ticks}
 use Rattle.model.specs.Fresh.{Begins-fresh, Tick-fresh}
-use Rattle.model.proofs.Lists.{if-both, if-by, all-append, map-all}
+use Rattle.model.proofs.Lists.{if-both, if-by, map-all}
 use Rattle.model.proofs.Wired.{Wired}
 use Rattle.model.proofs.Right.{no-exception}
 use Rattle.model.proofs.Fine.{Fine, set-outs-fine, refresh-all-fine}

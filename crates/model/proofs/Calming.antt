@@ -11,6 +11,7 @@ use lib.Seq.{getD-set-other}
 use borrow.Author.Tests.{eqb-true}
 use Rattle.schedule.specs.Schedule.{Raise}
 use Rattle.schedule.specs.Promise.{All, [·], _∷·_}
+use Rattle.schedule.proofs.Members.{all-append}
 use Rattle.model.specs.declared.Value.{Value}
 use Rattle.model.specs.declared.Value.the-variants.{Nothing, Float, Bool as Truth}
 use Rattle.model.specs.Base.{each}
@@ -20,7 +21,7 @@ use Rattle.model.specs.State.{Wires, State, Act, to-check≔, last≔, p
 use Rattle.model.specs.Wires.{shown, look, ready, refresh-all, mark-readers, set-out}
 use Rattle.model.specs.Settle.{Settled, calm, raise, publish-writes, pulse, edge, detect, compared, check, check-on, settle}
 use Rattle.model.specs.Questions.{finite}
-use Rattle.model.proofs.Lists.{places-set, if-both, if-by, each-keeps, all-append, among-neither}
+use Rattle.model.proofs.Lists.{places-set, if-both, if-by, each-keeps, among-neither}
 use Rattle.model.proofs.Sized.{Sized-wires, mark-readers-sized, taken-sized}
 use Rattle.model.proofs.Walks.{check-on-keeps}
 use Rattle.model.proofs.Kept.{last-sized, pulses-sized, publish-writes-sized}

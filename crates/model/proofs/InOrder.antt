@@ -13,7 +13,7 @@ use Rattle.schedule.specs.Schedule.{most-units, log-full, Outcome, Setup, numbe
 use Rattle.schedule.specs.Promise.{All, Ran-as-told}
 use Rattle.schedule.proofs.Theorems.{order, follows, erasure, ran-as-told}
 use Rattle.schedule.proofs.Every.{every}
-use Rattle.schedule.proofs.Ranked.{all-map}
+use Rattle.schedule.proofs.Members.{all-map}
 use Rattle.model.specs.Base.{if_then_else_}
 use Rattle.model.specs.Circuit.{Circuit, circuit}
 use Rattle.model.specs.State.{Act}

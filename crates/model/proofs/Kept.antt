@@ -11,6 +11,7 @@ use lib.ListN.{length, set, length-set, length-map, length-replicate, List·getD
 use borrow.Author.Tests.{ltb-true, ltb-false, eqb-true, ne-eqb}
 use Rattle.schedule.specs.Schedule.{Raise}
 use Rattle.schedule.specs.Promise.{All, [·], _∷·_}
+use Rattle.schedule.proofs.Members.{all-append}
 use Rattle.model.specs.declared.Value.{Value}
 use Rattle.model.specs.declared.Value.the-variants.{Nothing}
 use Rattle.model.specs.Base.{snoc, among, from}
@@ -25,7 +26,7 @@ use Rattle.model.specs.Settle.{Settled, calm, raise, publish-writes, pul
 use Rattle.model.specs.Opening.{wires-stale, wires-fresh, wires-at-start, start, Opened, next-tick, begin-tick, lower, open-tick}
 use Rattle.model.specs.Unit.{World, enter, run-unit}
 use Rattle.model.specs.Record.{read-outputs}
-use Rattle.model.proofs.Lists.{if-both, if-by, each-keeps, among-from, from-length, all-append, either-false}
+use Rattle.model.proofs.Lists.{if-both, if-by, each-keeps, among-from, from-length, either-false}
 use Rattle.model.proofs.Walks.{run-chain-keeps, check-on-keeps, Opened-keeps, open-tick-keeps}
 use Rattle.model.proofs.Checks.{detect-keeps}
 use Rattle.model.proofs.Laid.{Laid}

@@ -2,7 +2,7 @@
 use mathlib.Core.Path.{_≡_, refl, sym, ap, _∙_}
 use mathlib.Core.Logic.{_≢_, _⊎_, inl, inr}
 use mathlib.Core.Bool.{Bool, true, false, not, _&&_, _||_, true≢false, or-true}
-use mathlib.Core.List.{List, [], _∷_, _++_, map}
+use mathlib.Core.List.{List, [], _∷_, map}
 use Prim.Native.Nat.{ℕ, zero, suc, _+_, _-_, _≤_, _<_}
 use native.Mathlib.Nat.{add-zero, add-suc, suc-add}
 use native.Mathlib.Omega.{arith}
@@ -273,10 +273,6 @@ set-same (a ∷ xs) (b ∷ ys) (suc i) zero x d l e = e
 set-same (a ∷ xs) (b ∷ ys) (suc i) (suc j) x d l e = set-same xs ys i j x d (omega arith) e
 
 -- ---- what holds of each member
-
-pub all-append : {A : Type 0} {P : A → Type 0} {xs ys : List A} → All P xs → All P ys → All P (xs ++ ys)
-all-append [·] b = b
-all-append (_∷·_ p a) b = _∷·_ p (all-append a b)
 
 pub map-all : {A B : Type 0} (P : B → Type 0) (f : A → B) {xs : List A} → All (λ a. P (f a)) xs → All P (map f xs)
 map-all P f [·] = [·]

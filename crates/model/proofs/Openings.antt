@@ -11,6 +11,7 @@ use borrow.Author.Tests.{eqb-true}
 use Rattle.schedule.specs.Schedule.{Raise, Place, to-late, to-delivered, to-pending}
 use Rattle.schedule.specs.Promise.{All}
 use Rattle.schedule.specs.Keeping.{Raises-alike, alike-none, alike-next}
+use Rattle.schedule.proofs.Members.{all-append}
 use Rattle.model.specs.Base.{all, each, joined, among, from}
 use Rattle.model.specs.Value.{truthy, as-float, narrow, one-point-zero}
 use Rattle.model.specs.Kinds.{kinds-opened}
@@ -23,7 +24,7 @@ use Rattle.model.specs.Exec.{delay, delay≔, readied, read, countdown}
 use Rattle.model.specs.Settle.{Settled, calm, check-on, settle}
 use Rattle.model.specs.Opening.{Opened, raised-to, fire, begin-tick, enabled, delivered, lower, advanced, advance-buffer, advance-clock, advance-timer, open-tick}
 use Rattle.model.specs.Questions.{finite}
-use Rattle.model.proofs.Lists.{if-alike, each-alike, all-pass, all-append, among-from}
+use Rattle.model.proofs.Lists.{if-alike, each-alike, all-pass, among-from}
 use Rattle.model.proofs.Reals.{plus-real, as-float-real}
 use Rattle.model.proofs.Wired.{Wired}
 use Rattle.model.proofs.Right.{Except, no-exception, until-timed, Other}

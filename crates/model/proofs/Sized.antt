@@ -11,6 +11,7 @@ use lib.ListN.{length, getD, set, length-set}
 use lib.Seq.{set-out as set-past}
 use borrow.Author.Tests.{ltb-true, ltb-false}
 use Rattle.schedule.specs.Promise.{All, [·], _∷·_}
+use Rattle.schedule.proofs.Members.{all-append}
 use Rattle.model.specs.declared.Value.{Value}
 use Rattle.model.specs.Base.{each, snoc}
 use Rattle.model.specs.Value.{bit}
@@ -20,7 +21,7 @@ use Rattle.model.specs.State.{Wires, Send, State, outs≔, dirty≔, to-
 use Rattle.model.specs.Wires.{show, is-dirty, soil, clean, watch, Marking, behind, recompute, refresh-to, refresh, refresh-all, ready, mark-reader, mark-on, mark-readers, set-out, set-outs}
 use Rattle.model.specs.Exec.{var}
 use Rattle.model.proofs.Once.{Once}
-use Rattle.model.proofs.Lists.{if-both, if-by, each-keeps, bit-most, count, count-set, in-range, set-marked, snoc-length, either-false, all-append, all-rest}
+use Rattle.model.proofs.Lists.{if-both, if-by, each-keeps, bit-most, count, count-set, in-range, set-marked, snoc-length, either-false, all-rest}
 
 -- the marks of a list
 unfoldable pub marks : List Bool → ℕ

@@ -7,6 +7,7 @@ use Prim.Native.Nat.{ℕ, suc, _+_, _≤_, _<_}
 use native.Mathlib.Omega.{arith}
 use lib.ListN.{length, getD, set, length-map}
 use Rattle.schedule.specs.Promise.{All, [·], _∷·_}
+use Rattle.schedule.proofs.Members.{all-append}
 use Rattle.model.specs.declared.Value.{Value}
 use Rattle.model.specs.declared.Value.the-variants.{Float}
 use Rattle.model.specs.Base.{snoc, from}
@@ -17,7 +18,7 @@ use Rattle.model.specs.State.{Wires, Countdown, Flight, Queued, Delay, A
 use Rattle.model.specs.Wires.{look, ready}
 use Rattle.model.specs.Delays.{Moved, moved, tick-down, due, launch, buffer-input, relaunch, flown, advance-flight, drop-due, advance-fires, queue-record, hand-out, advance-records, clock-at, advance-elapsed, stopwatch-at, advance-time, pressed}
 use Rattle.model.specs.Exec.{delay, delay≔, set-output, readied, read, read-row}
-use Rattle.model.proofs.Lists.{places-set, if-both, each-keeps, from-length, all-append, map-all, all-of}
+use Rattle.model.proofs.Lists.{places-set, if-both, each-keeps, from-length, map-all, all-of}
 use Rattle.model.proofs.Laid.{Laid}
 use Rattle.model.proofs.Reals.{Real, zero-real}
 use Rattle.model.proofs.Wired.{Wired}

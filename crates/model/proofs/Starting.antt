@@ -12,6 +12,7 @@ use lib.ListN.{length, getD, set, replicate, length-map, List·getD-map}
 use borrow.Author.Tests.{eqb-true, eqb-false, leb-true, ltb-true}
 use Rattle.schedule.specs.Schedule.{Raise, Place, to-late, to-delivered}
 use Rattle.schedule.specs.Promise.{All, [·], _∷·_}
+use Rattle.schedule.proofs.Members.{all-append}
 use Rattle.model.specs.declared.Value.{Value}
 use Rattle.model.specs.declared.Value.the-variants.{Nothing, Bool as Truth}
 use Rattle.model.specs.Base.{if_then_else_, each, keep, all, joined, from}
@@ -25,7 +26,7 @@ use Rattle.model.specs.Delays.{Moved}
 use Rattle.model.specs.Opening.{wires-stale, wires-fresh, wires-at-start, start, Opened, raised-to, fire, next-tick, begin-tick, delivered, lower, advanced, advance-buffer, advance-clock, advance-timer, open-tick}
 use Rattle.model.specs.Run.{Allowed}
 use Rattle.model.specs.Questions.{finite}
-use Rattle.model.proofs.Lists.{if-both, if-by, both-true, each-keeps, each-keeps-all, all-append, map-all, all-same, among-from, not-so, clash, among-none, neither-among, mark-kept, either-false, either-true}
+use Rattle.model.proofs.Lists.{if-both, if-by, both-true, each-keeps, each-keeps-all, map-all, all-same, among-from, not-so, clash, among-none, neither-among, mark-kept, either-false, either-true}
 use Rattle.model.proofs.Sized.{Sized-wires, mark-readers-keeps}
 use Rattle.model.proofs.Placing.{pure-in}
 use lib.Seq.{getD-set-same}

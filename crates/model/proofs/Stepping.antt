@@ -8,6 +8,7 @@ use lib.Dec.{eqb}
 use lib.ListN.{set, length-set}
 use borrow.Author.Tests.{eqb-true}
 use Rattle.schedule.specs.Promise.{[·], _∷·_}
+use Rattle.schedule.proofs.Members.{all-append}
 use Rattle.model.specs.declared.Value.{Value}
 use Rattle.model.specs.Base.{if_then_else_, snoc, among}
 use Rattle.model.specs.Kinds.{kinds-opened}
@@ -16,7 +17,7 @@ use Rattle.model.specs.State.{Wires, Countdown, State, outs≔, written�
 use Rattle.model.specs.Wires.{shown, show}
 use Rattle.model.specs.Exec.{Stepped, fires-next, ends, var, record-write, exec-Buffer, exec-Stopwatch, exec-Queue, exec-VarGet, exec-VarSet, exec-Branch, exec-Union, exec-Toggle, exec-Cycle, exec-SendEvent, exec-kind, exec-gate}
 use Rattle.model.specs.Chain.{Calls, run-chain}
-use Rattle.model.proofs.Lists.{if-both, if-by, all-append, among-first}
+use Rattle.model.proofs.Lists.{if-both, if-by, among-first}
 use Rattle.model.proofs.Sized.{Sized-wires, show-sized}
 use Rattle.model.proofs.Walks.{run-chain-keeps}
 use Rattle.model.proofs.Kept.{passed-sized, record-write-sized, named}

@@ -12,7 +12,7 @@ use Rattle.schedule.specs.Schedule.{list-full, log-full, Raise, Closed, Setup, 
 use Rattle.schedule.specs.Promise.{All, [·], _∷·_, left-by}
 use Rattle.schedule.specs.Keeping.{Turn-begins, Tick-begins, Raises-alike, alike-none, alike-next, Did-alike, Cut-at, Ticks-alike, same, cut}
 use Rattle.schedule.proofs.Theorems.{tick-alike}
-use Rattle.schedule.proofs.Ranked.{all-map}
+use Rattle.schedule.proofs.Members.{all-map, all-append}
 use Rattle.schedule.proofs.Told.{tick-opens}
 use Rattle.schedule.proofs.Begins.{Waits, tick-begins}
 use Rattle.model.specs.Base.{if_then_else_, keep, joined}
@@ -27,7 +27,7 @@ use Rattle.model.specs.Questions.{Areas, refusal}
 use Rattle.model.specs.Answer.{played, play, answer}
 use Rattle.model.specs.Fresh.{Begins-fresh}
 use Rattle.model.specs.Unread.{unread, unread-on, unread-ticks, play-unread, Unread-run-fresh}
-use Rattle.model.proofs.Lists.{if-both, if-alike, all-append}
+use Rattle.model.proofs.Lists.{if-both, if-alike}
 use Rattle.model.proofs.Asked.{accepted}
 use Rattle.model.proofs.InOrder.{write-fits, write-over, answer-is}
 use Rattle.model.proofs.Wired.{Wired}

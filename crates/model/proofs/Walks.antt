@@ -7,6 +7,7 @@ use Prim.Native.Nat.{ℕ, zero, suc}
 use lib.ListN.{length, set}
 use Rattle.schedule.specs.Schedule.{list-full, Raise, Place, to-late, to-delivered}
 use Rattle.schedule.specs.Promise.{All}
+use Rattle.schedule.proofs.Members.{all-append}
 use Rattle.model.specs.declared.Value.{Value}
 use Rattle.model.specs.Base.{all, from}
 use Rattle.model.specs.Circuit.{Circuit, input, output}
@@ -18,7 +19,7 @@ use Rattle.model.specs.Exec.{Stepped, delay≔, readied, exec-gate}
 use Rattle.model.specs.Chain.{Calls, Popped, pop, fit, Chained, chained, push-calls, run-chain, runaway}
 use Rattle.model.specs.Settle.{Settled, check, check-on, settle}
 use Rattle.model.specs.Opening.{Opened, raised-to, fire, begin-tick, lower, advanced, advance-buffer, advance-clock, advance-timer, open-tick}
-use Rattle.model.proofs.Lists.{if-both, each-keeps, each-keeps-all, all-append, map-all, all-of}
+use Rattle.model.proofs.Lists.{if-both, each-keeps, each-keeps-all, map-all, all-of}
 
 module _ (c : Circuit) where
   -- ---- a chain and its forks

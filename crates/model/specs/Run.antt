@@ -34,9 +34,13 @@ allow limit g = record { given = g; limit = limit }
 unfoldable pub allowed : ℕ → List Given → List Allowed
 allowed limit gs = map (allow limit) gs
 
--- what the ticks of a call get, by the words of its script
+-- what the ticks of a script with these words get, where each may make so many steps
+abbrev pub gets : Circuit → ℕ → List ℕ → List Allowed
+gets c limit script-words = allowed limit (script (c .constants) script-words)
+
+-- and of a call
 abbrev pub ticks-get : Circuit → List ℕ → List Allowed
-ticks-get c script-words = allowed most-steps (script (c .constants) script-words)
+ticks-get c script-words = gets c most-steps script-words
 
 module _ (c : Circuit) where
   -- before the passes: no step was made
@@ -57,7 +61,7 @@ module _ (c : Circuit) where
   abbrev pub machine : Machine
   machine = record { W = World; In = Allowed; Act = Act; rank = λ a. rank-of-gate c (a .gate); opening = opening; body = body; closing = closing }
 
-  -- before tick 1, with a log of so many bytes
+  -- before tick 1, with a log of so many bytes; a tick's opening says how many steps are left
   unfoldable pub world-at-start : ℕ → World
   world-at-start room = record { state = start c; left = 0; room = room; logged = [] }
 

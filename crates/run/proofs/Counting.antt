@@ -8,6 +8,7 @@ use Rattle.schedule.specs.Schedule.{Raise, Outcome, Closed, plain, Activation, 
 use Rattle.schedule.specs.Promise.{All, [·], _∷·_}
 use Rattle.schedule.specs.Keeping.{Did-keep}
 use Rattle.schedule.proofs.Keeps.{tick-keeps}
+use Rattle.schedule.proofs.Members.{all-append}
 use Rattle.model.specs.declared.Value.{Value}
 use Rattle.model.specs.Base.{each}
 use Rattle.model.specs.Circuit.{Circuit, gate-at-input, inputs-of, gates}
@@ -21,7 +22,7 @@ use Rattle.model.specs.Opening.{wires-fresh, wires-at-start, start, next-tick, 
 use Rattle.model.specs.Unit.{World, state≔, raises-in, enter, run-unit, finish-chain}
 use Rattle.model.specs.Record.{read-outputs, write, close}
 use Rattle.model.specs.Run.{Allowed, opening, body, closing, machine}
-use Rattle.model.proofs.Lists.{all-pass, if-both, each-keeps, all-append, map-all}
+use Rattle.model.proofs.Lists.{all-pass, if-both, each-keeps, map-all}
 use Rattle.model.proofs.Checks.{detect-keeps}
 use Rattle.model.proofs.Walks.{run-chain-keeps, check-on-keeps, Opened-keeps, open-tick-keeps}
 use Rattle.model.proofs.Sized.{behind-keeps, mark-readers-keeps}

@@ -12,7 +12,7 @@ use Rattle.model.specs.Circuit.{Circuit, part, word-at}
 use Rattle.model.specs.State.{idle, Delay}
 use Rattle.model.specs.Unit.{World}
 use Rattle.model.specs.Opening.{start, wires-at-start}
-use Rattle.model.specs.Run.{Allowed, allow, world-at-start}
+use Rattle.model.specs.Run.{Allowed, allow, gets, world-at-start}
 use Rattle.wires.specs.View.{Values}
 use Rattle.units.specs.View.{Units}
 use Rattle.units.specs.Calls.{empty}
@@ -20,7 +20,7 @@ use Rattle.areas.specs.Areas.{Contents}
 use Rattle.opening.specs.Opening.{stimuli-of}
 use Rattle.passes.specs.Waiting.{bare, waiting}
 use Rattle.ticks.specs.Ticks.{Ticks}
-use Rattle.run.specs.Running.{Running, Logged, Good-script, gets, seen-of}
+use Rattle.run.specs.Running.{Running, Logged, Good-script, seen-of}
 use Rattle.run.proofs.Turns.{running-first, running-on, running-stop, running-end}
 use Rattle.run.proofs.Scripts.{used, script-next, gets-next, gets-over, used-fits, used-by-next, script-length}
 use Rattle.run.proofs.Counting.{tick-by-one, start-at-zero}

@@ -13,11 +13,11 @@ use Rattle.model.specs.Base.{all, both, sum}
 use Rattle.model.specs.Circuit.{Circuit, part, word-at, kind-of-gate}
 use Rattle.model.specs.Script.{Given, stimulus, given, script}
 use Rattle.model.specs.State.{Act}
-use Rattle.model.specs.Run.{Allowed, allow, allowed}
+use Rattle.model.specs.Run.{Allowed, allow, allowed, gets}
 use Rattle.model.specs.Questions.{names-constant}
 use Rattle.model.proofs.Lists.{both-true}
 use Rattle.opening.specs.Opening.{stimuli-of}
-use Rattle.run.specs.Running.{Good-script, gets}
+use Rattle.run.specs.Running.{Good-script}
 
 -- ---- parts of lists
 

@@ -10,11 +10,10 @@ use Rattle.words.specs.Slices.{Ref, Slice, before, after, was}
 use Rattle.schedule.specs.Schedule.{run, run-on}
 use Rattle.model.specs.Base.{all, sum}
 use Rattle.model.specs.Circuit.{Circuit, part, word-at, kind-of-gate}
-use Rattle.model.specs.Script.{script}
 use Rattle.model.specs.Questions.{names-constant}
 use Rattle.model.specs.Opening.{start}
 use Rattle.model.specs.Unit.{World}
-use Rattle.model.specs.Run.{Played, Allowed, allowed, seen, world-at-start}
+use Rattle.model.specs.Run.{Played, Allowed, gets, seen, world-at-start}
 use Rattle.links.specs.Links.{net}
 use Rattle.links.specs.Lent.{net-of}
 use Rattle.areas.specs.Areas.{Contents, areas}
@@ -44,11 +43,7 @@ pub record Logged (p : Played) (before log : List ℕ) (at end k : ℕ) : Type 0
   pub words : words log ≡ p .log ++ drop at (words before)
   pub tail : tail log ≡ tail before
 
--- what the ticks of a script with these words get, where each may make so many steps
-abbrev pub gets : Circuit → ℕ → List ℕ → List Allowed
-gets c limit ws = allowed limit (script (c .constants) ws)
-
--- what is seen of its run over c, with a log of so many bytes
+-- what is seen of a script's run over c, with so many steps a tick and a log of so many bytes
 abbrev pub seen-of : Circuit → ℕ → List ℕ → ℕ → Played
 seen-of c limit ws room = seen c (run (bare c) (gets c limit ws) (world-at-start c room))
 

@@ -11,7 +11,8 @@ use Rattle.schedule.specs.Promise.{All, [·], _∷·_, left-by}
 use Rattle.schedule.specs.Keeping.{Did-bring, Turn-begins, Tick-begins}
 use Rattle.schedule.proofs.Steps.{room-is, raise-steps}
 use Rattle.schedule.proofs.Ticks.{fitted}
-use Rattle.schedule.proofs.Told.{all-append, passes-follow}
+use Rattle.schedule.proofs.Members.{all-append}
+use Rattle.schedule.proofs.Told.{passes-follow}
 
 module _ (S : Setup) where
   open Setup S using (Tag, after)

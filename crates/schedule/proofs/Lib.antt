@@ -1,5 +1,7 @@
 -- order, erasure, limited: the theorems, as statements
 pub mod Theorems
+-- what holds of each member of a list
+pub mod Members
 -- what the scheduler's steps did, as data
 pub mod Steps
 -- nothing is lost and nothing is made

@@ -10,12 +10,9 @@ use lib.Dec.{leb}
 use borrow.Author.Tests.{leb-true, leb-false}
 use Rattle.schedule.specs.Schedule.{numbered, Machine, Took, Filed, most-waiting, MainQ, OpenQ, push, activate-late, activate-main, activate-open, next-late, next-main, Turn}
 use Rattle.schedule.specs.Promise.{All, [·], _∷·_, Raised, Played, Before, Sorted, units}
+use Rattle.schedule.proofs.Members.{all-map}
 use Rattle.schedule.proofs.Steps.{next-main-is, To-main, at-carried, at-pending, activate-main-is, activate-open-is, Raises, none, one, Passes, broke, done, turn}
 use Rattle.schedule.proofs.Ticks.{Ticked}
-
-pub all-map : {A : Type 0} {P R : A → Type 0} {l : List A} → ((a : A) → P a → R a) → All P l → All R l
-all-map f All.[·] = All.[·]
-all-map f (All._∷·_ {a = a} p ps) = All._∷·_ (f a p) (all-map f ps)
 
 module _ (M : Machine) where
   open Machine M using (rank)

@@ -7,12 +7,9 @@ use native.Mathlib.Omega.{arith}
 use lib.Dec.{eqb}
 use Rattle.schedule.specs.Schedule.{list-full, most-units, Setup, Machine, Took, empty, took, Filed, LateQ, MainQ, OpenQ, Activation, push-all, activate-open, activate-late, activate-main, next-late, next-main, Raising, raise-all, pass-on, pass, no-turn, turning, Turn, Passed, late-pass, main-pass, Tick, outcome, tick, go-on, run-on, run}
 use Rattle.schedule.specs.Promise.{All, [·], _∷·_, Raised-as-told, Follow, left-by, Opens, Follows, script-over, stopped, next}
+use Rattle.schedule.proofs.Members.{all-append}
 use Rattle.schedule.proofs.Steps.{Passes, broke, done, turn, raise-steps, pass-steps}
 use Rattle.schedule.proofs.Ticks.{fitted, Ticked, passes-from}
-
-pub all-append : {A : Type 0} {P : A → Type 0} {xs ys : List A} → All P xs → All P ys → All P (xs ++ ys)
-all-append [·] b = b
-all-append (_∷·_ p a) b = _∷·_ p (all-append a b)
 
 module _ (S : Setup) where
   open Setup S using (Tag)
