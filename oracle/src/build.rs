@@ -569,6 +569,12 @@ impl Script {
         self
     }
 
+    /// Ticks for the first checks and what they start, before what is to be
+    /// seen by itself.
+    pub fn first_checks(&mut self, n: usize, length: f64) -> &mut Self {
+        self.ticks(n, length)
+    }
+
     /// A stimulus of the last tick that only fires.
     pub fn fire(&mut self, world: Gate) -> &mut Self {
         self.give(world, 0)

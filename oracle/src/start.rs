@@ -1,4 +1,5 @@
-//! Document 01's start, in place of `Machine::new` and its `start`.
+//! The start of document 01 with document 02's K2, in place of `Machine::new`
+//! and its `start`.
 
 use std::collections::{BTreeMap, VecDeque};
 
@@ -49,7 +50,7 @@ impl Machine {
             tally: Tally::default(),
         };
         m.freshen();
-        m.note_watched();
+        m.queue_watched();
         m
     }
 
@@ -62,13 +63,13 @@ impl Machine {
         }
     }
 
-    /// Note what each watched input reads.
-    fn note_watched(&mut self) {
+    /// Queue every watched input for checking; `last` stays empty.
+    fn queue_watched(&mut self) {
         for g in 0..self.graph.gates.len() as GateId {
             for i in 0..self.graph.gate(g).inputs.len() as u16 {
                 if self.is_watched(g, i) {
-                    let v = self.read_input(g, i).expect("every pure gate is fresh");
-                    self.last.insert((g, i), v);
+                    self.queued_check.insert((g, i));
+                    self.to_check.push_back((g, i));
                 }
             }
         }

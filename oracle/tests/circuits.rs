@@ -1,4 +1,6 @@
 //! The stated circuits against what document 01 and the source say of them.
+//! In tick 1 every watched input has its first check (document 02, K2); where
+//! that would cover what a circuit shows, its script begins with ticks for it.
 
 mod reading;
 
@@ -46,14 +48,17 @@ fn no_ticks() {
 
 #[test]
 fn rank_4_raising_4_and_5() {
+    // Tick 1 has the ChangeDetector's first check alone.
     let carried = played("rank-4-raises-4");
-    assert_eq!(carried.main(1), [0]);
-    assert_eq!(carried.ticks[0].carried, 1);
-    assert_eq!(carried.late(2), [2]);
+    assert_eq!(carried.main(1), [2]);
+    assert_eq!(carried.main(2), [0]);
+    assert_eq!(carried.ticks[1].carried, 1);
+    assert_eq!(carried.late(3), [2]);
     let now = played("rank-4-raises-5");
-    assert_eq!(now.main(1), [0, 2]);
-    assert_eq!(now.ticks[0].carried, 0);
-    assert_eq!(now.late(2), []);
+    assert_eq!(now.main(1), [2]);
+    assert_eq!(now.main(2), [0, 2]);
+    assert_eq!(now.ticks[1].carried, 0);
+    assert_eq!(now.late(3), []);
 }
 
 #[test]
@@ -124,8 +129,10 @@ fn fifty_million_steps() {
 #[test]
 fn wrong_though_they_look_right() {
     let p = played("wrong-carry-below");
-    assert_eq!((p.main(1), p.ticks[0].carried), (vec![0, 4], 2));
-    assert_eq!(p.late(2), [2, 3]);
+    // First the first checks, then what the Clock raises.
+    assert_eq!((p.main(1), p.ticks[0].carried), (vec![2, 3, 4], 0));
+    assert_eq!((p.main(2), p.ticks[1].carried), (vec![0, 4], 2));
+    assert_eq!(p.late(3), [2, 3]);
     let p = played("wrong-events-sorted");
     assert_eq!(p.late(2), [3, 0, 2]);
     assert_eq!(played("wrong-clock-excess").begun_in(0), [3, 6, 9]);
@@ -156,28 +163,34 @@ fn stale_gates() {
 
 #[test]
 fn order_of_checks() {
-    assert_eq!(played("last-reader-first").late(1), [0, 3, 5, 4]);
+    // First checks go by gate, what the late pass of tick 2 changes does not.
+    let p = played("last-reader-first");
+    assert_eq!((p.main(1), p.late(2)), (vec![3, 4, 5], vec![0, 3, 5, 4]));
     let p = played("diamond");
-    assert_eq!((p.late(1), p.late(2)), (vec![0, 5, 4], vec![0, 0, 5, 4, 5, 4]));
-    assert_eq!(played("keeps-its-place").late(1), [0, 4, 3]);
-    assert_eq!(played("published-once").late(1), [0, 4, 3]);
-    assert_eq!(played("published-after-outputs").late(1), [0, 4, 3]);
+    assert_eq!(p.main(1), [4, 5]);
+    assert_eq!((p.late(2), p.late(3)), (vec![0, 5, 4], vec![0, 0, 5, 4, 5, 4]));
+    for name in ["keeps-its-place", "published-once", "published-after-outputs"] {
+        let p = played(name);
+        assert_eq!((p.main(1), p.late(2)), (vec![3, 4], vec![0, 4, 3]), "{name}");
+    }
 }
 
 #[test]
 fn what_counts_as_changed() {
+    // A ChangeDetector begins in tick 1 by its first check; a pin that reads nothing does not.
     let p = played("there-and-back");
-    assert_eq!([p.late(1), p.late(2), p.late(3), p.late(4)], [vec![1, 4], vec![1], vec![0, 4], vec![1]]);
+    assert_eq!((p.late(1), p.main(1)), (vec![], vec![4]));
+    assert_eq!([p.late(2), p.late(3), p.late(4), p.late(5)], [vec![1, 4], vec![1], vec![0, 4], vec![1]]);
     assert_eq!(played("last-after-falsy").begun_in(1), [1, 3, 7]);
     let p = played("pin-changes");
-    assert_eq!((p.begun_in(1), p.begun_in(2)), (vec![1, 2, 3, 4, 5], vec![1, 2, 3, 4, 5, 6, 7]));
-    assert_eq!(p.shown(8, 0, 1), float(0.0));
+    assert_eq!((p.begun_in(1), p.begun_in(2)), (vec![2, 3, 4, 5, 6], vec![1, 2, 3, 4, 5, 6, 7, 8]));
+    assert_eq!(p.shown(9, 0, 1), float(0.0));
     assert_eq!(played("pin-not-read-again").ticks[0].late, [(0, 2), (0, 2), (1, 16)]);
-    assert_eq!(played("published-though-equal").begun_in(4), []);
-    assert_eq!(played("settled-once").begun_in(3), [1, 3]);
+    assert_eq!(played("published-though-equal").begun_in(4), [1]);
+    assert_eq!(played("settled-once").begun_in(3), [1, 2, 4]);
     let p = played("kinds-differ");
-    assert_eq!((p.begun_in(1), p.begun_in(4)), (vec![1, 4, 7, 10], vec![1]));
-    assert_eq!([p.shown(4, 2, 0), p.shown(7, 2, 0), p.shown(4, 3, 0)], [yes(), yes(), no()]);
+    assert_eq!((p.begun_in(1), p.begun_in(4)), (vec![1, 3, 6, 9, 12], vec![3]));
+    assert_eq!([p.shown(6, 2, 0), p.shown(9, 2, 0), p.shown(6, 3, 0)], [yes(), yes(), no()]);
 }
 
 #[test]
@@ -200,48 +213,52 @@ fn nothing_again() {
     let p = played("nothing-again");
     let held =
         |t: usize| [p.shown(t, 3, 1), p.shown(t, 4, 1), p.shown(t, 5, 0), p.shown(t, 7, 1), p.shown(t, 8, 0)];
-    assert_eq!(held(4), [int(5); 5]);
-    assert_eq!(held(8), [NOTHING; 5]);
-    assert_eq!(p.begun_in(9), [1, 5]);
-    assert_eq!(p.ticks[0].late, [(0, 2), (9, 0), (10, 32)]);
-    assert_eq!(p.ticks[4].late, [(0, 2), (9, 0), (10, 33)]);
-    assert_eq!(p.shown(6, 8, 0), NOTHING);
+    assert_eq!(held(6), [int(5); 5]);
+    assert_eq!(held(10), [NOTHING; 5]);
+    // The first of them is the first check; nothing neither rises nor falls there.
+    assert_eq!((p.begun_in(9), p.begun_in(10)), (vec![1, 3, 7], vec![3, 7]));
+    assert_eq!(p.ticks[2].late, [(0, 2), (9, 0), (10, 32)]);
+    assert_eq!(p.ticks[6].late, [(0, 2), (9, 0), (10, 33)]);
+    assert_eq!(p.shown(8, 8, 0), NOTHING);
 }
 
 #[test]
 fn zeros() {
     let p = played("zero-slots");
-    assert_eq!([p.shown(2, 0, 1), p.shown(2, 1, 1)], [(FLOAT, 0), (FLOAT, LEAST)]);
-    assert_eq!([p.shown(2, 2, 0), p.shown(2, 3, 0)], [(FLOAT, LEAST), (FLOAT, 0)]);
-    assert_eq!([p.shown(4, 2, 0), p.shown(4, 3, 0)], [(FLOAT, LEAST), float(0.25)]);
-    assert_eq!(p.begun_in(4), [1]);
+    assert_eq!([p.shown(3, 0, 1), p.shown(3, 1, 1)], [(FLOAT, 0), (FLOAT, LEAST)]);
+    assert_eq!([p.shown(3, 2, 0), p.shown(3, 3, 0)], [(FLOAT, LEAST), (FLOAT, 0)]);
+    assert_eq!([p.shown(5, 2, 0), p.shown(5, 3, 0)], [(FLOAT, LEAST), float(0.25)]);
+    // A first check of nothing, then the first zero.
+    assert_eq!(p.begun_in(4), [1, 2]);
     let p = played("zero-of-a-var");
     assert_eq!(
-        [p.shown(1, 1, 0), p.shown(1, 3, 1), p.shown(1, 4, 0)],
+        [p.shown(2, 1, 0), p.shown(2, 3, 1), p.shown(2, 4, 0)],
         [(FLOAT, LEAST), (FLOAT, 0), (FLOAT, LEAST)]
     );
-    assert_eq!(p.begun_in(5), []);
+    // Its first check alone.
+    assert_eq!(p.begun_in(5), [1]);
 }
 
 #[test]
 fn edges() {
     let p = played("edges-are-floats");
-    assert_eq!(p.ticks[0].late[3..], [(4, 32), (10, 32)]);
-    assert_eq!(p.ticks[3].late[3..], [(7, 33), (10, 33)]);
-    assert_eq!([p.shown(4, 5, 0), p.shown(1, 8, 0), p.shown(4, 3, 0)], [yes(), yes(), no()]);
+    assert_eq!(p.ticks[2].late[3..], [(4, 32), (10, 32)]);
+    assert_eq!(p.ticks[5].late[3..], [(7, 33), (10, 33)]);
+    // The pulses of the first checks have ended: nothing to 0 is a change of its own.
+    assert_eq!([p.shown(6, 5, 0), p.shown(3, 8, 0), p.shown(6, 3, 0)], [yes(), yes(), no()]);
 }
 
 #[test]
 fn pulses() {
     let p = played("pulse-extended");
-    let shown: Vec<_> = (1..=6).map(|t| p.shown(t, 1, 0)).collect();
+    let shown: Vec<_> = (4..=9).map(|t| p.shown(t, 1, 0)).collect();
     assert_eq!(shown, [yes(), yes(), yes(), yes(), no(), no()]);
     let p = played("both-pulses");
     let shown: Vec<_> = (1..=5).map(|t| (p.shown(t, 1, 0), p.shown(t, 1, 1))).collect();
     assert_eq!(shown, [(NOTHING, NOTHING), (yes(), NOTHING), (yes(), yes()), (no(), yes()), (no(), no())]);
-    assert_eq!(played("lowered-before-buffers").main(3), [4, 3]);
+    assert_eq!(played("lowered-before-buffers").main(6), [4, 3]);
     assert_eq!(played("lowered-before-clocks").begun_in(2), [1, 2]);
-    assert_eq!(played("lowered-by-gate-and-output").main(3), [6, 5, 4]);
+    assert_eq!(played("lowered-by-gate-and-output").main(4), [6, 5, 4]);
     let p = played("ring-of-changes");
     let shown: Vec<_> = (1..=8).map(|t| (p.shown(t, 1, 0), p.shown(t, 2, 0))).collect();
     let (up, down) = ((yes(), yes()), (no(), yes()));
@@ -257,20 +274,21 @@ fn lands(p: &Played, gate: usize, from: usize) -> Option<usize> {
 
 #[test]
 fn value_buffers() {
+    // What a buffer's first check launched, nothing, has landed before a value is given.
     let p = played("truthy-takes-the-wait");
-    assert_eq!((lands(&p, 1, 1), lands(&p, 1, 6)), (Some(4), Some(9)));
+    assert_eq!((lands(&p, 1, 3), lands(&p, 1, 8)), (Some(6), Some(11)));
     let p = played("zero-waits");
-    let landed: Vec<_> = (1..=9).map(|g| lands(&p, g, 7).unwrap()).collect();
-    assert_eq!(landed, [8, 8, 9, 11, 11, 8, 9, 11, 11]);
+    let landed: Vec<_> = (1..=9).map(|g| lands(&p, g, 12).unwrap()).collect();
+    assert_eq!(landed, [13, 13, 14, 16, 16, 13, 14, 16, 16]);
     let p = played("latest-only");
     for gate in [1, 2] {
-        let shown: Vec<_> = (1..=15).map(|t| p.shown(t, gate, 0).1).collect();
-        assert_eq!(shown, [0, 0, 0, 1, 1, 1, 3, 3, 3, 6, 6, 6, 9, 9, 9]);
+        let shown: Vec<_> = (1..=19).map(|t| p.shown(t, gate, 0).1).collect();
+        assert_eq!(shown, [0, 0, 0, 0, 0, 0, 0, 1, 1, 1, 3, 3, 3, 6, 6, 6, 9, 9, 9]);
     }
     let p = played("queued-by-its-own-rule");
-    let shown: Vec<_> = [3, 4, 5, 9, 10].map(|t| p.shown(t, 1, 0)).into();
+    let shown: Vec<_> = [5, 6, 7, 11, 12].map(|t| p.shown(t, 1, 0)).into();
     assert_eq!(shown, [NOTHING, int(5), int(0), int(0), int(5)]);
-    assert_eq!(lands(&played("lands-though-equal"), 1, 4), Some(10));
+    assert_eq!(lands(&played("lands-though-equal"), 1, 8), Some(14));
 }
 
 #[test]
@@ -285,20 +303,20 @@ fn exec_buffers() {
 fn waits() {
     let p = played("tick-waits");
     for (k, due) in
-        [Some(2), Some(2), Some(2), Some(3), Some(4), Some(2), Some(2), None].into_iter().enumerate()
+        [Some(6), Some(6), Some(6), Some(7), Some(8), Some(6), Some(6), None].into_iter().enumerate()
     {
-        assert_eq!(lands(&p, 1 + 2 * k, 1), due, "value buffer {k}");
+        assert_eq!(lands(&p, 1 + 2 * k, 5), due, "value buffer {k}");
         assert_eq!(p.begun_in(2 + 2 * k).first().copied(), due, "exec buffer {k}");
     }
     let p = played("second-waits");
-    let due = [Some(2), Some(2), Some(2), Some(2), Some(2), None, Some(2), Some(3), Some(5)];
+    let due = [Some(4), Some(4), Some(4), Some(4), Some(4), None, Some(4), Some(5), Some(7)];
     for (k, due) in due.into_iter().enumerate() {
-        assert_eq!(lands(&p, 1 + 2 * k, 1), due, "value buffer {k}");
+        assert_eq!(lands(&p, 1 + 2 * k, 3), due, "value buffer {k}");
         assert_eq!(p.begun_in(2 + 2 * k).first().copied(), due, "exec buffer {k}");
     }
     let p = played("sums-in-f32");
-    assert_eq!([p.begun_in(1), p.begun_in(2)], [[11], [11]]);
-    assert_eq!(lands(&p, 3, 1), Some(11));
+    assert_eq!([p.begun_in(1), p.begun_in(2)], [[13], [13]]);
+    assert_eq!(lands(&p, 3, 3), Some(13));
     let p = played("sums-in-f64");
     assert_eq!([p.begun_in(1), p.begun_in(2)], [[11], [12]]);
     assert_eq!(p.shown(12, 2, 0), float(1.0));
@@ -313,7 +331,7 @@ fn queues() {
     assert_eq!(shown, [NOTHING, int(5), int(1), int(2), int(2)]);
     assert_eq!(played("queue-counts-on").begun_in(1), [5, 6, 7]);
     let p = played("released-before-settling");
-    assert_eq!((&p.ticks[1].late[..], &p.ticks[1].main[..]), (&[(0, 2), (1, 0)][..], &[(2, 0)][..]));
+    assert_eq!((&p.ticks[2].late[..], &p.ticks[2].main[..]), (&[(0, 2), (1, 0)][..], &[(2, 0)][..]));
     let p = played("own-data");
     let shown: Vec<_> = (2..=5).map(|t| (p.shown(t, 4, 1), p.shown(t, 4, 2))).collect();
     assert_eq!(shown, [(int(1), NOTHING), (int(2), NOTHING), (int(2), int(11)), (int(2), int(22))]);
@@ -327,7 +345,8 @@ fn clocks() {
     let p = played("clock-reads-last-delta");
     assert_eq!((p.begun_in(2), p.begun_in(3)), (vec![1, 3, 4], vec![1, 4]));
     let p = played("clock-sees-this-tick");
-    assert_eq!((p.begun_in(3), p.begun_in(4)), (vec![3, 4, 5], vec![1, 2]));
+    // The second, of interval 0.0, fires in the three ticks of no length too.
+    assert_eq!((p.begun_in(3), p.begun_in(4)), (vec![6, 7, 8], vec![1, 2, 3, 4, 5]));
     assert_eq!(played("clock-before-stopwatch").begun_in(2), [2, 3]);
     let p = played("clock-inputs");
     let every: Vec<usize> = (1..=9).collect();
@@ -384,30 +403,34 @@ fn all_delays_full() {
 #[test]
 fn late_and_main() {
     let p = played("order-in-a-late-rank");
-    assert_eq!(p.ticks[2].late, [(6, 0), (3, 2), (7, 2), (1, 0), (2, 0), (0, 0), (8, 1), (6, 0)]);
+    assert_eq!(p.ticks[3].late, [(6, 0), (3, 2), (7, 2), (1, 0), (2, 0), (0, 0), (8, 1), (6, 0)]);
     let p = played("clocks-before-the-rest");
     assert_eq!(p.ticks[0].main, [(4, 0), (5, 0), (3, 0), (1, 0), (2, 32)]);
     assert_eq!(p.ticks[2].main, [(4, 0), (3, 0)]);
     assert_eq!(p.ticks[3].main, [(4, 0), (5, 0), (3, 0), (1, 0), (2, 33)]);
-    assert_eq!(played("time-sources-ascending").main(1), [3, 2]);
+    // First checks go by the watcher, not by its source.
+    let p = played("time-sources-ascending");
+    assert_eq!([p.main(1), p.main(2)], [[2, 3], [3, 2]]);
     let p = played("start-settle-is-main");
     assert_eq!([&p.ticks[1].main, &p.ticks[3].main], [&[(1, 0), (3, 16)]; 2]);
+    // A first reading of 0.0 is a change, and raises no pin.
+    assert_eq!((&p.ticks[0].main[..], &p.ticks[2].main[..]), (&[(1, 0)][..], &[][..]));
     assert!(p.ticks.iter().all(|t| t.late.is_empty() && t.carried == 0));
-    assert_eq!(played("late-pass-has-no-cursor").late(1), [0, 4, 0, 4, 3, 3, 2, 2]);
-    assert_eq!(played("ranks-fall-in-the-late-pass").late(1), [1, 3, 1, 3, 0, 3, 0, 3]);
-    assert_eq!(played("oldest-of-a-rank").main(1), [0, 5, 4, 6, 3, 3]);
+    assert_eq!(played("late-pass-has-no-cursor").late(2), [0, 4, 0, 4, 3, 3, 2, 2]);
+    assert_eq!(played("ranks-fall-in-the-late-pass").late(2), [1, 3, 1, 3, 0, 3, 0, 3]);
+    assert_eq!(played("oldest-of-a-rank").main(2), [0, 5, 4, 6, 3, 3]);
     let p = played("events-after-all");
-    assert_eq!([p.late(2), p.late(3)], [vec![0, 3, 6, 4, 6], vec![3, 6, 4, 6]]);
+    assert_eq!([p.late(3), p.late(4)], [vec![0, 3, 6, 4, 6], vec![3, 6, 4, 6]]);
 }
 
 #[test]
 fn raised_again() {
     let p = played("late-unit-raises-itself");
-    assert_eq!((p.late(1), p.ticks[0].steps), (vec![0, 2, 2, 2, 2, 2], 10));
+    assert_eq!((p.late(2), p.ticks[1].steps), (vec![0, 2, 2, 2, 2, 2], 10));
     let p = played("endless-in-the-late-pass");
-    assert_eq!(p.words[..6], [1, 1024, 1024, 0, 0, 12]);
+    assert_eq!(p.words[..6], [1, 2047, 1024, 0, 0, 12]);
     let p = played("endless-by-carrying");
-    assert_eq!((p.stop, p.done, p.ticks[1].carried), (12, 2, 1));
+    assert_eq!((p.stop, p.done, p.main(1), p.main(2), p.ticks[1].carried), (12, 2, vec![2], vec![0], 1));
     assert_eq!((p.ticks[2].late.len(), p.ticks[2].carried), (1024, 0));
 }
 
@@ -417,16 +440,23 @@ fn carried() {
     assert_eq!((p.ticks[3].carried, &p.ticks[4].late[..]), (3, &[(2, 0), (5, 16), (4, 32)][..]));
     assert_eq!((p.ticks[7].carried, &p.ticks[8].late[..]), (2, &[(2, 0), (4, 33)][..]));
     let p = played("carried-by-what-was-carried");
-    assert_eq!((p.ticks[1].carried, p.late(3), p.ticks[2].carried), (1, vec![3, 4, 5], 0));
+    assert_eq!((p.ticks[3].carried, p.late(5), p.ticks[4].carried), (1, vec![3, 4, 5], 0));
+    // The first check of gate 3 calls and raises too: what it carries is over with tick 2.
+    assert_eq!((p.main(1), p.ticks[0].carried, p.late(2)), (vec![4, 3, 5, 5], 1, vec![4]));
     let p = played("raised-in-the-main-pass");
-    assert_eq!((p.main(1), p.ticks[0].carried, p.late(2)), (vec![0, 3, 4], 2, vec![6, 5]));
+    assert_eq!((p.main(3), p.ticks[2].carried, p.late(4)), (vec![0, 3, 4], 2, vec![6, 5]));
+    assert_eq!((p.main(1), p.ticks[0].carried, p.late(2)), (vec![6, 3, 5, 4, 4], 2, vec![6, 5]));
 }
 
 #[test]
 fn stopped_records() {
-    assert_eq!(played("stopped-while-carrying").words, [1, 257, 0, 2, 2, 12, 0, 4, 0, 0]);
+    // Two first checks and seven outputs of nothing, then the stopped record.
+    let p = played("stopped-while-carrying");
+    let first = [&[1, 0, 0, 2, 0, 0, 2, 3, 0, 0][..], &[0; 14]].concat();
+    assert_eq!(p.words, [&first[..], &[2, 257, 0, 2, 2, 12, 0, 4, 0, 0]].concat());
     let p = played("stopped-before-the-main-pass");
-    assert_eq!(p.words[p.words.len() - 8..], [2, 256, 1, 0, 0, 12, 2, 0]);
+    assert_eq!((p.ticks[1].carried, p.done), (1, 2));
+    assert_eq!(p.words[p.words.len() - 8..], [3, 257, 1, 0, 0, 12, 2, 0]);
     let p = played("late-full-at-the-opening");
     assert_eq!((p.ticks[1].carried, p.done), (256, 2));
     assert_eq!(p.words[p.words.len() - 6..], [3, 0, 0, 0, 0, 12]);
@@ -450,9 +480,11 @@ fn calls() {
     let p = played("union-once-a-tick");
     assert_eq!([1, 2, 3].map(|t| p.ticks[t].steps), [6, 3, 2]);
     assert_eq!(p.shown(4, 3, 2), int(3));
+    // The unit of a first check is no step either.
     let p = played("what-costs-a-step");
-    assert_eq!([0, 1, 2].map(|t| p.ticks[t].steps), [8, 0, 7]);
-    assert_eq!(p.ticks[0].late, [(0, 2), (6, 16), (8, 0), (9, 32)]);
+    assert_eq!([0, 1, 2, 3].map(|t| p.ticks[t].steps), [0, 8, 0, 7]);
+    assert_eq!(p.ticks[0].main, [(8, 0)]);
+    assert_eq!(p.ticks[1].late, [(0, 2), (6, 16), (8, 0), (9, 32)]);
 }
 
 #[test]
@@ -501,7 +533,20 @@ fn a_count_that_shrinks() {
         (
             "cycle-largest",
             i64::MAX,
-            &[0, i64::MAX - 2, 1, i64::MAX - 2, (1 << 62) - 1, (1 << 62) - 3, (1 << 32) - 1, (1 << 32) - 3, 1, 2, 0, 0],
+            &[
+                0,
+                i64::MAX - 2,
+                1,
+                i64::MAX - 2,
+                (1 << 62) - 1,
+                (1 << 62) - 3,
+                (1 << 32) - 1,
+                (1 << 32) - 3,
+                1,
+                2,
+                0,
+                0,
+            ],
         ),
     ];
     for (name, most, after) in rows {
@@ -517,16 +562,124 @@ fn a_count_that_shrinks() {
 
 #[test]
 fn the_start() {
+    // Beside the Var and the Select, only the two pulses of first checks, then what the buffers launched.
     let p = played("start-shows-nothing");
-    for tick in &p.ticks {
-        assert!(tick.late.is_empty() && tick.main.is_empty());
-    }
-    let four = [p.shown(2, 3, 0), p.shown(2, 5, 0)];
-    assert_eq!(four, [int(4), int(4)]);
-    assert_eq!(p.ticks[1].outputs.iter().filter(|&&o| o != NOTHING).count(), 2);
+    assert_eq!((&p.ticks[0].main[..], p.begun()), (&[(9, 0), (10, 32)][..], 2));
+    assert_eq!([p.shown(1, 3, 0), p.shown(1, 5, 0)], [int(4); 2]);
+    assert_eq!([p.shown(1, 11, 0), p.shown(1, 12, 0)], [yes(); 2]);
+    assert_eq!([p.shown(2, 7, 0), p.shown(2, 8, 0)], [int(5), float(5.0)]);
+    assert_eq!([0, 1].map(|t| p.ticks[t].outputs.iter().filter(|&&o| o != NOTHING).count()), [4, 6]);
     let p = played("stored-zero");
     assert_eq!([p.shown(1, 1, 0), p.shown(1, 2, 0), p.shown(1, 4, 0), p.shown(2, 6, 1)], [(FLOAT, 0); 4]);
     assert_eq!(p.begun_in(3), [1, 2, 3]);
+}
+
+/// What the gates 4 to 16 of the circuits for watched kinds read at the start.
+const AT_THE_START: [(i64, i64); 13] = [
+    NOTHING,
+    NOTHING,
+    NOTHING,
+    (INT, 5),
+    (INT, 0),
+    (INT, -5),
+    (BOOL, 1),
+    (BOOL, 0),
+    (FLOAT, 1.5f64.to_bits() as i64),
+    (FLOAT, LEAST),
+    (FLOAT, (-1.5f64).to_bits() as i64),
+    (INT, 7),
+    (INT, 7),
+];
+
+/// Those that are above 0.0, and below.
+const ABOVE: [i64; 5] = [7, 10, 12, 15, 16];
+const BELOW: [i64; 2] = [9, 14];
+
+#[test]
+fn every_watched_kind_notices_what_it_reads_at_the_start() {
+    let p = played("start-change-detector");
+    assert_eq!((p.main(1), p.begun()), ((4..=16).collect(), 13));
+    let p = played("start-edge-exec");
+    let forms = |g| (g, if ABOVE.contains(&g) { 32 } else { 33 });
+    let edges: Vec<_> = (4..=16).filter(|g| ABOVE.contains(g) || BELOW.contains(g)).map(forms).collect();
+    assert_eq!((&p.ticks[0].main, p.begun()), (&edges, 7));
+    let pulse = [yes(), yes(), no(), no()];
+    let (edge, change) = (played("start-edge"), played("start-change"));
+    for gate in 4..=16 {
+        let shown = |p: &Played, out| [1, 2, 3, 4].map(|t| p.shown(t, gate, out));
+        let when = |up: bool| if up { pulse } else { [NOTHING; 4] };
+        assert_eq!(shown(&edge, 0), when(ABOVE.contains(&(gate as i64))), "{gate} rises");
+        assert_eq!(shown(&edge, 1), when(BELOW.contains(&(gate as i64))), "{gate} falls");
+        assert_eq!(shown(&change, 0), pulse, "{gate} changes");
+        for name in ["start-buffer-ticks", "start-buffer-seconds"] {
+            let read = AT_THE_START[gate - 4];
+            assert_eq!(shown(&played(name), 0), [NOTHING, NOTHING, read, read], "{name}: {gate}");
+        }
+    }
+    assert_eq!((edge.begun(), change.begun()), (0, 0));
+}
+
+#[test]
+fn pins_that_read_true_at_the_start_are_raised() {
+    let p = played("start-pins-true");
+    let pins = [(2, 16), (2, 17), (2, 18), (3, 16), (4, 16), (5, 16), (6, 16), (7, 16), (8, 16), (9, 16)];
+    assert_eq!(p.ticks[0].main, [&pins[..], &[(10, 16), (10, 17), (11, 16), (12, 16)]].concat());
+    for name in ["start-pins-false", "start-pins-nothing"] {
+        assert_eq!(played(name).begun(), 0, "{name}");
+    }
+    let p = played("start-two-pins");
+    assert_eq!(p.ticks[0].main, [(1, 16), (1, 17), (2, 16), (2, 17), (2, 18)]);
+    assert_eq!((p.shown(1, 1, 2), p.shown(1, 2, 0), p.shown(2, 2, 0)), (int(0), float(0.0), float(0.25)));
+}
+
+#[test]
+fn first_checks_are_made_as_tick_1_opens() {
+    assert_eq!(played("start-ascending").main(1), [8, 3, 4, 5, 6, 7]);
+    assert_eq!(played("start-keeps-its-place").main(1), [2, 3, 3, 2]);
+    let passes = |name| (played(name).late(1), played(name).main(1));
+    assert_eq!(passes("start-main-pass"), (vec![0], vec![2]));
+    assert_eq!(passes("start-second-first"), (vec![0, 1], vec![1]));
+    assert_eq!(passes("start-var-set-late"), (vec![0, 6], vec![5, 6]));
+    assert_eq!(passes("start-clocks-first"), (vec![], vec![2, 1, 3]));
+    let p = played("start-this-ticks-time");
+    assert_eq!((&p.ticks[0].main[..], p.begun()), (&[(2, 32), (5, 16)][..], 2));
+    assert_eq!((p.shown(1, 3, 0), p.shown(1, 4, 0), p.shown(2, 4, 0)), (yes(), NOTHING, float(0.25)));
+    let p = played("start-no-length");
+    assert_eq!((p.begun(), p.shown(1, 3, 0), p.shown(2, 4, 0)), (0, NOTHING, float(0.0)));
+    let p = played("start-pulses-and-watchers");
+    assert_eq!([1, 2, 3, 4].map(|t| p.main(t)), [vec![0, 3, 0], vec![], vec![0, 3], vec![]]);
+    let empty = played("start-no-ticks");
+    assert_eq!((empty.words.len(), empty.stop, empty.done), (0, 0, 0));
+}
+
+#[test]
+fn a_buffer_that_launched_nothing_is_in_flight() {
+    for (name, due) in [("start-buffer-in-flight", 7), ("start-buffer-zero-wait", 5)] {
+        let p = played(name);
+        for gate in [1, 2] {
+            let shown: Vec<_> = (1..=8).map(|t| p.shown(t, gate, 0)).collect();
+            let wanted: Vec<_> = (1..=8).map(|t| if t < due { NOTHING } else { int(5) }).collect();
+            assert_eq!(shown, wanted, "{name}: {gate}");
+        }
+    }
+    let p = played("start-lands-nothing");
+    assert_eq!([1, 2, 3, 4].map(|t| p.main(t)), [vec![2, 3], vec![], vec![3], vec![]]);
+}
+
+#[test]
+fn units_of_first_checks_are_like_others() {
+    let p = played("start-carries");
+    assert_eq!((p.main(1), p.ticks[0].carried, p.late(2), p.begun()), (vec![2, 5], 2, vec![3, 4], 4));
+    let p = played("start-sends");
+    assert_eq!((p.main(1), &p.ticks[1].late[..], p.shown(2, 3, 1)), (vec![1], &[(3, 1)][..], int(7)));
+    let p = played("start-pending-256");
+    assert_eq!((p.main(1).len(), p.begun(), p.stop), (256, 256, 0));
+    assert_eq!(played("start-pending-257").words, [1, 0, 0, 0, 0, 12]);
+    let p = played("card-in-the-slot");
+    assert_eq!([p.late(1), p.main(1), p.late(3), p.main(3)], [vec![], vec![4], vec![0, 4], vec![]]);
+    assert_eq!([1, 2, 3, 4].map(|t| p.shown(t, 2, 0)), [int(7), int(7), int(9), int(9)]);
+    let p = played("card-swapped-in-tick-1");
+    assert_eq!((p.late(1), p.main(1), p.shown(1, 2, 0)), (vec![0, 4], vec![4], int(9)));
 }
 
 // ---- limits ----
@@ -535,8 +688,8 @@ fn the_start() {
 fn limits_pass_at_their_edge_and_stop_past_it() {
     let rows: [(&str, &[i64]); 15] = [
         ("pending", &[2, 9, 0, 8, 0, 12]),
-        ("pending-at-the-opening", &[1, 0, 0, 0, 0, 12]),
-        ("late", &[1, 9, 8, 0, 0, 12]),
+        ("pending-at-the-opening", &[2, 0, 0, 0, 0, 12]),
+        ("late", &[2, 9, 8, 0, 0, 12]),
         ("late-by-fires", &[2, 0, 0, 0, 0, 12]),
         ("carried", &[2, 9, 0, 8, 256, 12]),
         ("forks", &[1, 2, 1, 0, 0, 12]),
@@ -547,8 +700,8 @@ fn limits_pass_at_their_edge_and_stop_past_it() {
         ("delivered-to-many", &[2, 0, 0, 0, 0, 12]),
         ("fires", &[1, 33, 33, 0, 0, 12]),
         ("fires-over-ticks", &[4, 1, 1, 0, 0, 12]),
-        ("units-late", &[1, 65, 1024, 0, 0, 12]),
-        ("units-main", &[1, 64, 1024, 0, 0, 12]),
+        ("units-late", &[2, 65, 1024, 0, 0, 12]),
+        ("units-main", &[2, 64, 1024, 0, 0, 12]),
     ];
     for (name, head) in rows {
         let names: Vec<String> = STATED.iter().map(|c| c.name.clone()).filter(|n| is_edge(n, name)).collect();
@@ -570,10 +723,12 @@ fn is_edge(case: &str, limit: &str) -> bool {
 #[test]
 fn the_edge_is_reached() {
     assert_eq!(played("carried-256").ticks[1].carried, 256);
-    assert_eq!(played("pending-at-the-opening-256").main(1).len(), 256);
+    // Beside the 32 first checks of tick 1.
+    let p = played("pending-at-the-opening-256");
+    assert_eq!((p.main(1).len(), p.main(2).len()), (32, 256));
     assert_eq!(played("delivered-64").late(3).len(), 64);
     assert_eq!(played("fires-32").late(3).len(), 32);
-    assert_eq!(played("units-late-1024").late(1).len(), 1024);
+    assert_eq!(played("units-late-1024").late(2).len(), 1024);
     assert_eq!(played("forks-256").ticks[0].steps, 258);
     assert_eq!(played("late-by-fires-256").late(2).len(), 256);
     assert_eq!(played("late-beside-delivered").late(2).len(), 8 + 256 + 64);

@@ -7,6 +7,9 @@ use common::{Pin, Plan};
 
 const QUARTER: f64 = 0.25;
 
+/// A tick of its own for the first checks, which begin every ChangeDetector.
+const FIRST: (f64, &[(usize, Pin)]) = (QUARTER, &[]);
+
 /// A gate that a pulse made stale in `settle` stays stale after it, so that
 /// the next unit's VarSet shows through it at once.
 #[test]
@@ -57,8 +60,9 @@ fn readers_are_marked_last_pushed_first() {
     plan.gate(6, 0, &[Pin::From(0, 1)]);
     plan.gate(6, 0, &[Pin::From(1, 0)]);
     plan.gate(6, 0, &[Pin::From(2, 0)]);
-    let run = plan.play(&[(QUARTER, &[(0, Pin::Int(5))])]);
-    assert_eq!(run.records[0].units, [(0, 2), (3, 0), (5, 0), (4, 0)]);
+    let run = plan.play(&[FIRST, (QUARTER, &[(0, Pin::Int(5))])]);
+    assert_eq!(run.records[0].units, [(3, 0), (4, 0), (5, 0)]);
+    assert_eq!(run.records[1].units, [(0, 2), (3, 0), (5, 0), (4, 0)]);
 }
 
 /// -0.0 equals 0.0: an output keeps the one it shows, a Var takes the new
@@ -99,9 +103,10 @@ fn a_reader_of_queue_data_runs_in_the_main_pass() {
     plan.gate(16, 0, &[Pin::Nothing, Pin::Int(7)]);
     plan.gate(6, 0, &[Pin::From(1, 1)]);
     plan.call(0, 0, 1, 0);
-    let run = plan.play(&[(QUARTER, &[(0, Pin::Nothing)]), (QUARTER, &[])]);
-    assert_eq!(run.records[1].units, [(1, 0), (2, 0)]);
-    assert_eq!((run.records[1].late, run.records[1].main), (1, 1));
+    let run = plan.play(&[FIRST, (QUARTER, &[(0, Pin::Nothing)]), (QUARTER, &[])]);
+    assert_eq!(run.begun(2, 0), [1, 3]);
+    assert_eq!(run.records[2].units, [(1, 0), (2, 0)]);
+    assert_eq!((run.records[2].late, run.records[2].main), (1, 1));
 }
 
 /// A Clock reads its interval before the time sources of the tick move on.
@@ -136,15 +141,16 @@ fn a_change_of_kind_alone_is_a_change() {
     plan.gate(9, 0, &[Pin::From(0, 1)]);
     plan.gate(8, 0, &[Pin::From(0, 1)]);
     let run = plan.play(&[
+        FIRST,
         (QUARTER, &[(0, Pin::Int(1))]),
         (QUARTER, &[]),
         (QUARTER, &[]),
         (QUARTER, &[(0, Pin::Bool(true))]),
     ]);
-    assert_eq!(run.begun(1, 0), [1, 4]);
-    assert_eq!(run.begun(2, 32), [1]);
-    assert_eq!(run.shown(3, 3, 0), (3, 0));
-    assert_eq!(run.shown(4, 3, 0), (3, 1));
+    assert_eq!(run.begun(1, 0), [1, 2, 5]);
+    assert_eq!(run.begun(2, 32), [2]);
+    assert_eq!(run.shown(4, 3, 0), (3, 0));
+    assert_eq!(run.shown(5, 3, 0), (3, 1));
 }
 
 /// An event sent in a tick lands in the next, after the ranked late units.
@@ -217,6 +223,7 @@ fn the_var_written_first_is_published_first() {
     plan.gate(6, 0, &[Pin::From(4, 0)]);
     plan.call(0, 0, 1, 0);
     plan.call(1, 0, 2, 0);
-    let run = plan.play(&[(QUARTER, &[(0, Pin::Nothing)])]);
-    assert_eq!(run.records[0].units, [(0, 2), (6, 0), (5, 0)]);
+    let run = plan.play(&[FIRST, (QUARTER, &[(0, Pin::Nothing)])]);
+    assert_eq!(run.records[0].units, [(5, 0), (6, 0)]);
+    assert_eq!(run.records[1].units, [(0, 2), (6, 0), (5, 0)]);
 }

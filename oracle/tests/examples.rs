@@ -27,31 +27,35 @@ fn a_refusal_prints_its_number() {
     assert_eq!(print(&run(&[], &[], &Lent::default())), "refused 1\n");
 }
 
-/// A Clock of rank 4 raises a ChangeDetector in the main pass.
+/// A Clock of rank 4 raises a ChangeDetector in the main pass of tick 2; tick 1,
+/// of no length, has the ChangeDetector's first check (document 02, K2).
 fn clock_raises(rank: i64) -> common::Run {
     let mut plan = Plan::default();
     let clock = plan.gate(14, 4, &[Pin::Nothing, Pin::Nothing, Pin::Float(1.0)]);
     let toggle = plan.gate(22, 0, &[]);
     plan.gate(6, rank, &[Pin::From(toggle, 1)]);
     plan.call(clock, 0, toggle, 0);
-    plan.play(&[(1.0, &[]), (0.5, &[])])
+    let run = plan.play(&[(0.0, &[]), (1.0, &[]), (0.5, &[])]);
+    assert_eq!(run.records[0].units, [(2, 0)]);
+    assert_eq!((run.records[0].main, run.records[0].carried), (1, 0));
+    run
 }
 
 #[test]
 fn rank_4_raising_rank_4_is_carried() {
     let run = clock_raises(4);
-    assert_eq!(run.records[0].units, [(0, 0)]);
-    assert_eq!((run.records[0].main, run.records[0].carried), (1, 1));
-    assert_eq!(run.records[1].units, [(2, 0)]);
-    assert_eq!((run.records[1].late, run.records[1].main, run.records[1].carried), (1, 0, 0));
+    assert_eq!(run.records[1].units, [(0, 0)]);
+    assert_eq!((run.records[1].main, run.records[1].carried), (1, 1));
+    assert_eq!(run.records[2].units, [(2, 0)]);
+    assert_eq!((run.records[2].late, run.records[2].main, run.records[2].carried), (1, 0, 0));
 }
 
 #[test]
 fn rank_4_raising_rank_5_begins_in_this_tick() {
     let run = clock_raises(5);
-    assert_eq!(run.records[0].units, [(0, 0), (2, 0)]);
-    assert_eq!((run.records[0].main, run.records[0].carried), (2, 0));
-    assert_eq!(run.records[1].units, []);
+    assert_eq!(run.records[1].units, [(0, 0), (2, 0)]);
+    assert_eq!((run.records[1].main, run.records[1].carried), (2, 0));
+    assert_eq!(run.records[2].units, []);
 }
 
 #[test]

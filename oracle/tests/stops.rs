@@ -7,6 +7,10 @@ use oracle::{Answer, Lent, run};
 
 const TICK: (f64, &[(usize, Pin)]) = (0.25, &[]);
 
+/// A tick of its own for the first checks, which begin every ChangeDetector;
+/// Clocks do not count in it.
+const FIRST: (f64, &[(usize, Pin)]) = (0.0, &[]);
+
 /// The words of a record before its units begun.
 fn head(r: &Record) -> [i64; 6] {
     [r.tick, r.steps, r.late, r.main, r.carried, r.stop]
@@ -82,7 +86,7 @@ fn sixty_four_events_are_delivered() {
     assert_eq!(delivered(5, 13), [2, 0, 0, 0, 0, 12]);
 }
 
-/// 64 Worlds of rank 1 each set off 15 ChangeDetectors of rank 0.
+/// In tick 2, 64 Worlds of rank 1 each set off 15 ChangeDetectors of rank 0.
 fn sixteen_units_each(with_clock: bool) -> [i64; 6] {
     let mut plan = Plan::default();
     let world = plan.gate(28, 1, &[]);
@@ -92,13 +96,13 @@ fn sixteen_units_each(with_clock: bool) -> [i64; 6] {
     if with_clock {
         plan.gate(14, 0, &[Pin::Nothing, Pin::Float(0.0)]);
     }
-    last(&mut plan, &[(0.25, &[(world, Pin::Nothing); 64])])
+    last(&mut plan, &[FIRST, (0.25, &[(world, Pin::Nothing); 64])])
 }
 
 #[test]
 fn a_tick_begins_1024_units() {
-    assert_eq!(sixteen_units_each(false), [1, 64, 1024, 0, 0, 0]);
-    assert_eq!(sixteen_units_each(true), [1, 64, 1024, 0, 0, 12]);
+    assert_eq!(sixteen_units_each(false), [2, 64, 1024, 0, 0, 0]);
+    assert_eq!(sixteen_units_each(true), [2, 64, 1024, 0, 0, 12]);
 }
 
 /// A ChangeDetector that toggles what it watches raises itself for ever.
@@ -153,12 +157,13 @@ fn delivered_events_are_not_on_the_late_list() {
     assert_eq!(last(&mut plan, &ticks), [2, 64, 384, 0, 0, 0]);
 }
 
-/// 16 Clocks of rank 0 each set off 16 ChangeDetectors of this rank.
+/// 16 Clocks of rank 0, of a tick's interval, each set off 16 ChangeDetectors
+/// of this rank.
 fn clocks(rank: i64) -> (Plan, usize) {
     let mut plan = Plan::default();
     let toggle = plan.gate(22, 0, &[]);
     for _ in 0..16 {
-        let clock = plan.gate(14, 0, &[Pin::Nothing, Pin::Float(0.0)]);
+        let clock = plan.gate(14, 0, &[Pin::Nothing, Pin::Float(0.25)]);
         plan.call(clock, 0, toggle, 0);
     }
     plan.alike(16, 6, rank, &[Pin::From(toggle, 1)]);
@@ -168,20 +173,21 @@ fn clocks(rank: i64) -> (Plan, usize) {
 #[test]
 fn pending_holds_256_units_over_all_ranks() {
     let (mut plan, _) = clocks(1);
-    assert_eq!(last(&mut plan, &[TICK]), [1, 16, 0, 272, 0, 0]);
+    assert_eq!(last(&mut plan, &[FIRST]), [1, 0, 0, 16, 0, 0]);
+    assert_eq!(last(&mut plan, &[FIRST, TICK]), [2, 16, 0, 272, 0, 0]);
     let time = plan.gate(3, 0, &[]);
     plan.gate(6, 2, &[Pin::From(time, 0)]);
-    assert_eq!(last(&mut plan, &[TICK]), [1, 16, 0, 16, 0, 12]);
+    assert_eq!(last(&mut plan, &[FIRST, TICK]), [2, 16, 0, 16, 0, 12]);
 }
 
 #[test]
 fn carried_holds_256_units() {
     let (mut plan, last_clock) = clocks(0);
-    assert_eq!(last(&mut plan, &[TICK]), [1, 16, 0, 16, 256, 0]);
+    assert_eq!(last(&mut plan, &[FIRST, TICK]), [2, 16, 0, 16, 256, 0]);
     let toggle = plan.gate(22, 0, &[]);
     plan.call(last_clock, 0, toggle, 0);
     plan.gate(6, 0, &[Pin::From(toggle, 1)]);
-    assert_eq!(last(&mut plan, &[TICK]), [1, 17, 0, 16, 256, 12]);
+    assert_eq!(last(&mut plan, &[FIRST, TICK]), [2, 17, 0, 16, 256, 12]);
 }
 
 /// What was carried fills the late list before the tick's stimuli.
@@ -189,7 +195,7 @@ fn carried_holds_256_units() {
 fn carried_units_and_a_stimulus_pass_the_late_list() {
     let (mut plan, _) = clocks(0);
     let world = plan.gate(28, 0, &[]);
-    assert_eq!(last(&mut plan, &[TICK, (0.25, &[(world, Pin::Nothing)])]), [2, 0, 0, 0, 0, 12]);
+    assert_eq!(last(&mut plan, &[FIRST, TICK, (0.25, &[(world, Pin::Nothing)])]), [3, 0, 0, 0, 0, 12]);
 }
 
 /// The answer with this many bytes lent for the log.

@@ -15,16 +15,16 @@ use Rattle.model.specs.declared.Value.{Value}
 use Rattle.model.specs.declared.Value.the-variants.{Nothing, Float}
 use Rattle.model.specs.Base.{if_then_else_}
 use Rattle.model.specs.Value.{same}
-use Rattle.model.specs.Circuit.{Circuit, input, output, source, stored-in, gate-at-output, gates}
+use Rattle.model.specs.Circuit.{Circuit, input, output, source, stored-in, gate-at-output, watching, gates}
 use Rattle.model.specs.State.{Wires, outs≔, dirty≔, to-check≔}
 use Rattle.model.specs.Wires.{shown, show, is-dirty, soil, clean, watch, look, compute, recompute, behind, refresh, refresh-all, ready, mark-readers, set-out, set-outs}
 use Rattle.model.specs.Questions.{finite}
 use Rattle.model.proofs.Lists.{places-set, if-both, each-keeps, not-so, clash, neither-among}
-use Rattle.model.proofs.Sized.{Sized-wires, recompute-sized, behind-keeps, mark-readers-keeps, set-out-sized}
+use Rattle.model.proofs.Sized.{Sized-wires, watch-sized, recompute-sized, behind-keeps, mark-readers-keeps, set-out-sized}
 use Rattle.model.proofs.Stale.{Due, Refreshed, done, next, refresh-to-refreshed, all-clean}
 use Rattle.model.proofs.Reals.{Real, finite-real}
 use Rattle.model.proofs.Wired.{Wired}
-use Rattle.model.proofs.Right.{Except, taking, all-fresh, Other, All-right, set-out-right, recompute-right}
+use Rattle.model.proofs.Right.{Except, taking, all-fresh, Other, All-right, watch-right, set-out-right, recompute-right}
 
 -- a list without a NaN
 pub set-real : (vs : List Value) (i : ℕ) (v : Value) → Real v → ((o : ℕ) → Real (getD vs o Nothing)) → (o : ℕ) → Real (getD (set vs i v) o Nothing)
@@ -121,6 +121,9 @@ module _ (c : Circuit) where
   marked-alike w o = mark-readers-keeps c (Alike w) (λ v g p a. alike-again a (soil-alike v g)) (λ v i q a. alike-again a (watch-alike v i)) w o (alike-itself w)
 
   module _ (W : Wired c) (t : Except) (late : List ℕ) where
+    pub watch-fine : (w : Wires) (i : ℕ) → watching c i ≡ true → Fine t late w → Fine t late (watch w i)
+    watch-fine w i q f = fine-as (watch-alike w i) refl (watch-sized c w i q (f .sized)) (watch-right c W t late w i [] (f .right)) f
+
     pub set-out-fine : (w : Wires) (o : ℕ) (v : Value) → Other c o → Real v → Fine t late w → Fine t late (set-out c w o v)
     unfolding set-out show outs≔ shown if_then_else_
     set-out-fine w o v u r f =

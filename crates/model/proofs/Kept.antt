@@ -16,22 +16,22 @@ use Rattle.model.specs.declared.Value.{Value}
 use Rattle.model.specs.declared.Value.the-variants.{Nothing}
 use Rattle.model.specs.Base.{snoc, among, from}
 use Rattle.model.specs.Kinds.{pure, time-source}
-use Rattle.model.specs.Circuit.{Circuit, most-gates, kind-of-gate, gate-at-input, gates, gates-of}
+use Rattle.model.specs.Circuit.{Circuit, most-gates, kind-of-gate, gate-at-input, watching, gates, gates-of}
 use Rattle.model.specs.Script.{Given}
 use Rattle.model.specs.State.{Wires, State, Countdown, Delay, Act, Send, times≔, last≔, pulses≔, written≔, unions-passed≔, wires≔, delays≔, outbox≔}
-use Rattle.model.specs.Wires.{is-dirty, ready, mark-readers, invalidate}
+use Rattle.model.specs.Wires.{is-dirty, watch, ready, mark-readers, invalidate}
 use Rattle.model.specs.Exec.{Stepped, fires-next, ends, delay≔, set-output, readied, var, record-write, exec-Buffer, exec-Stopwatch, exec-Queue, exec-VarGet, exec-VarSet, exec-Branch, exec-Union, exec-Toggle, exec-Cycle, exec-SendEvent, exec-kind, exec-gate}
 use Rattle.model.specs.Chain.{Calls, run-chain}
 use Rattle.model.specs.Settle.{Settled, calm, raise, publish-writes, pulse, compared, check, check-on, settle}
-use Rattle.model.specs.Opening.{wires-stale, wires-fresh, wires-at-start, start, Opened, next-tick, begin-tick, lower, open-tick}
+use Rattle.model.specs.Opening.{wires-stale, wires-fresh, wires-at-start, start, Opened, next-tick, begin-tick, lower, before-settling, open-tick}
 use Rattle.model.specs.Unit.{World, enter, run-unit}
 use Rattle.model.specs.Record.{read-outputs}
-use Rattle.model.proofs.Lists.{if-both, if-by, each-keeps, among-from, from-length, either-false}
-use Rattle.model.proofs.Walks.{run-chain-keeps, check-on-keeps, Opened-keeps, open-tick-keeps}
+use Rattle.model.proofs.Lists.{if-both, if-by, each-keeps, each-keeps-all, all-keep, among-from, either-false}
+use Rattle.model.proofs.Walks.{run-chain-keeps, check-on-keeps, Opened-keeps, Opening-keeps, before-settling-keeps, open-tick-keeps}
 use Rattle.model.proofs.Checks.{detect-keeps}
 use Rattle.model.proofs.Laid.{Laid}
 use Rattle.model.proofs.Once.{Once, empty, added, among-map}
-use Rattle.model.proofs.Sized.{Sized-memory, Sized-wires, Sized, show-sized, soil-sized, refresh-all-sized, ready-sized, mark-readers-sized, set-out-sized, set-outs-sized, taken-sized}
+use Rattle.model.proofs.Sized.{Sized-memory, Sized-wires, Sized, show-sized, soil-sized, watch-sized, refresh-all-sized, ready-sized, mark-readers-sized, set-out-sized, set-outs-sized, taken-sized}
 
 map-snoc : {A B : Type 0} (f : A → B) (xs : List A) (x : A) → map f (snoc xs x) ≡ snoc (map f xs) (f x)
 unfolding snoc
@@ -241,21 +241,13 @@ module _ (c : Circuit) where
             };
       }
 
-  wires-fresh-sized : Sized-wires c (wires-fresh c)
+  pub wires-fresh-sized : Sized-wires c (wires-fresh c)
   unfolding wires-fresh
   wires-fresh-sized = refresh-all-sized c (wires-stale c) stale-sized
 
-  pub wires-at-start-sized : Sized-wires c (wires-at-start c)
-  unfolding wires-at-start unions-passed≔ written≔ pulses≔ last≔
-  wires-at-start-sized =
-      let z = wires-fresh-sized in
-      let m = z .memory in
-      memory-sized z (record {
-        last = length-map (from 0 (length (c .pins))) _ ∙ from-length 0 (length (c .pins));
-        pulses = m .pulses;
-        written = m .written;
-        passed = m .passed;
-      })
+  wires-at-start-sized : Sized-wires c (wires-at-start c)
+  unfolding wires-at-start
+  wires-at-start-sized = each-keeps-all (Sized-wires c) (watching c) watch (watch-sized c) _ _ (all-keep (watching c) _) wires-fresh-sized
 
   pub start-sized : Sized c (start c)
   unfolding start
@@ -297,9 +289,9 @@ module _ (c : Circuit) where
   unfolding invalidate
   invalidate-sized w g e z = mark-readers-sized c _ _ (soil-sized c w g (time-pure (kind-of-gate c g) e) z)
 
-  pub open-tick-sized : Laid c → (s : State) (given : Given) → Sized c s → Opened-sized (open-tick c s given)
-  open-tick-sized laid s given z =
-      open-tick-keeps c {timed = λ g. time-source (kind-of-gate c g)} (record {
+  opening-sized : Opening-keeps c (Sized c) (Sized-wires c) (λ g. time-source (kind-of-gate c g))
+  opening-sized =
+      record {
         of = λ z. z .wires;
         put = λ z y. wires-sized z y;
         delay = λ g d z. delay-sized g d z;
@@ -307,8 +299,14 @@ module _ (c : Circuit) where
         set-outs = set-outs-sized c;
         lower = lower-sized;
         invalidate = invalidate-sized;
-        settle = λ s z. let x = settle-sized s z in (x .state, x .raises);
-      }) (laid .times) s given (begin-tick-sized s (given .dt) z)
+      }
+
+  pub before-settling-sized : Laid c → (s : State) (given : Given) → Sized c s → Opened-sized (before-settling c s given)
+  before-settling-sized laid s given z = before-settling-keeps c opening-sized (laid .times) s given (begin-tick-sized s (given .dt) z)
+
+  pub open-tick-sized : Laid c → (s : State) (given : Given) → Sized c s → Opened-sized (open-tick c s given)
+  open-tick-sized laid s given z =
+      open-tick-keeps c opening-sized (laid .times) (λ s z. let x = settle-sized s z in (x .state, x .raises)) s given (begin-tick-sized s (given .dt) z)
 
   -- ---- a unit, and the record
 

@@ -74,3 +74,5 @@ pub mod Twins
 pub mod Openings
 -- the theorems: `reading-unseen`, `unread-fresh`
 pub mod Unread
+-- the start is noticed in tick 1: `noticed`, `as-change`, `begins-first`
+pub mod Noticing

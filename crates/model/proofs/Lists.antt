@@ -1,5 +1,5 @@
 -- Laws of choices and lists that the other proofs cite.
-use mathlib.Core.Path.{_≡_, refl, sym, ap, _∙_}
+use mathlib.Core.Path.{_≡_, refl, sym, ap, subst, _∙_}
 use mathlib.Core.Logic.{_≢_, _⊎_, inl, inr}
 use mathlib.Core.Bool.{Bool, true, false, not, _&&_, _||_, true≢false, or-true}
 use mathlib.Core.List.{List, [], _∷_, map}
@@ -98,6 +98,18 @@ each-same P f g q e k b [] h p = refl
 each-same P f g q e k b (x ∷ xs) h p =
     let t = both-true (q x) (all q xs) h in
     ap (λ b′. each f b′ xs) (e b x (t .0) p) ∙ each-same P f g q e k (g b x) xs (t .1) (k b x p)
+
+-- each of those that pass a test
+pub each-such :
+    {A B : Type 0} (p : A → Bool) (f : B → A → B) (b : B) (xs : List A) → each (λ b a. if p a then f b a else b) b xs ≡ each f b (keep p xs)
+unfolding each keep if_then_else_
+each-such p f b [] = refl
+each-such {A} {B} p f b (x ∷ xs) = go (p x) (λ d. each-such p f d xs)
+  where
+    go : (t : Bool) → ((d : B) → each (λ b a. if p a then f b a else b) d xs ≡ each f d (keep p xs)) →
+        each (λ b a. if p a then f b a else b) (if t then f b x else b) xs ≡ each f b (if t then x ∷ keep p xs else keep p xs)
+    go true rec = rec (f b x)
+    go false rec = rec b
 
 -- ---- tests of every member
 
@@ -325,6 +337,32 @@ neither-among o x os n e = not-so _ λ q. go (among-either o x os q)
     go (inl p) = n p
     go (inr p) = clash p e
 
+pub among-keep : (p : ℕ → Bool) (x : ℕ) (xs : List ℕ) → among x xs ≡ true → p x ≡ true → among x (keep p xs) ≡ true
+unfolding keep if_then_else_
+among-keep p x [] e q = e
+among-keep p x (y ∷ xs) e q = go (p y) refl (among-either x y xs e) (λ h. among-keep p x xs h q)
+  where
+    go : (b : Bool) → p y ≡ b → (x ≡ y) ⊎ (among x xs ≡ true) → (among x xs ≡ true → among x (keep p xs) ≡ true) → among x (if b then y ∷ keep p xs else keep p xs) ≡ true
+    go true h (inl s) rec = subst (λ z. among x (z ∷ keep p xs) ≡ true) s (among-first x (keep p xs))
+    go true h (inr s) rec = among-later x y (keep p xs) (rec s)
+    go false h (inl s) rec = clash (ap p (sym s) ∙ q) h
+    go false h (inr s) rec = rec s
+
+-- what a step brings about of its own member, and other steps keep, holds of each member when all steps are made
+pub each-brings :
+    {B : Type 0} (K : B → Type 0) (P : ℕ → B → Type 0) (q : ℕ → Bool) (f : B → ℕ → B) → ((b : B) (x : ℕ) → q x ≡ true → K b → K (f b x)) →
+    ((b : B) (x : ℕ) → q x ≡ true → K b → P x (f b x)) → ((i : ℕ) (b : B) (x : ℕ) → P i b → P i (f b x)) →
+    (b : B) (xs : List ℕ) → all q xs ≡ true → K b → (i : ℕ) → among i xs ≡ true → P i (each f b xs)
+unfolding each all
+each-brings K P q f keeps now still b [] h k i e = clash e (among-none i)
+each-brings K P q f keeps now still b (x ∷ xs) h k i e =
+    let t = both-true (q x) (all q xs) h in
+    go (among-either i x xs e) (each-brings K P q f keeps now still (f b x) xs (t .1) (keeps b x (t .0) k) i) (now b x (t .0) k)
+  where
+    go : (i ≡ x) ⊎ (among i xs ≡ true) → (among i xs ≡ true → P i (each f (f b x) xs)) → P x (f b x) → P i (each f (f b x) xs)
+    go (inl p) rec here = each-keeps (P i) f (still i) (f b x) xs (subst (λ y. P y (f b x)) (sym p) here)
+    go (inr p) rec here = rec p
+
 pub from-among : (a n i : ℕ) → among i (from a n) ≡ true → (p : ℕ) × (p < n) × (i ≡ a + p)
 unfolding from
 from-among a zero i e = clash e (among-none i)
@@ -359,3 +397,9 @@ mark-was (b ∷ bs) (suc i) (suc j) e = go (mark-was bs i j e)
     go : (j ≡ i) ⊎ (getD bs j false ≡ true) → (suc j ≡ suc i) ⊎ (getD bs j false ≡ true)
     go (inl p) = inl (ap suc p)
     go (inr p) = inr p
+
+-- a mark in the list, whatever would be read past its end
+pub marked-in : (bs : List Bool) (j : ℕ) → j < length bs → getD bs j true ≡ true → getD bs j false ≡ true
+marked-in [] j l e = absurd (omega arith)
+marked-in (b ∷ bs) zero l e = e
+marked-in (b ∷ bs) (suc j) l e = marked-in bs j (omega arith) e

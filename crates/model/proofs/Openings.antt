@@ -12,17 +12,17 @@ use Rattle.schedule.specs.Schedule.{Raise, Place, to-late, to-delivered, to-pen
 use Rattle.schedule.specs.Promise.{All}
 use Rattle.schedule.specs.Keeping.{Raises-alike, alike-none, alike-next}
 use Rattle.schedule.proofs.Members.{all-append}
-use Rattle.model.specs.Base.{all, each, joined, among, from}
+use Rattle.model.specs.Base.{each, joined, among, from}
 use Rattle.model.specs.Value.{truthy, as-float, narrow, one-point-zero}
 use Rattle.model.specs.Kinds.{kinds-opened}
 use Rattle.model.specs.Circuit.{Circuit, kind-of-gate, input, output, setting}
 use Rattle.model.specs.Script.{Given}
 use Rattle.model.specs.State.{Delay, idle, State, Act, Send, wires≔, delays≔, outbox≔}
-use Rattle.model.specs.Wires.{refresh-all, invalidate}
+use Rattle.model.specs.Wires.{refresh-all}
 use Rattle.model.specs.Delays.{Moved, advance-flight, advance-fires, advance-records, advance-elapsed, advance-time}
 use Rattle.model.specs.Exec.{delay, delay≔, readied, read, countdown}
 use Rattle.model.specs.Settle.{Settled, calm, check-on, settle}
-use Rattle.model.specs.Opening.{Opened, raised-to, fire, begin-tick, enabled, delivered, lower, advanced, advance-buffer, advance-clock, advance-timer, open-tick}
+use Rattle.model.specs.Opening.{Opened, raised-to, pending, fire, begin-tick, enabled, delivered, lower, advanced, advance-buffer, advance-clock, advance-timer, before-settling, open-tick}
 use Rattle.model.specs.Questions.{finite}
 use Rattle.model.proofs.Lists.{if-alike, each-alike, all-pass, among-from}
 use Rattle.model.proofs.Reals.{plus-real, as-float-real}
@@ -202,10 +202,6 @@ module _ (c : Circuit) (W : Wired c) where
     after-moving s =
         each (advance-timer c) (each (advance-clock c) (each (advance-buffer c (narrow (given .dt))) (before-moving s) (c .buffers)) (c .clocks)) (c .stopwatches)
 
-    -- up to time sources
-    before-settling : State → State
-    before-settling s = wires≔ (after-moving s .state) (each (invalidate c) (after-moving s .state .wires) (c .time-sources))
-
     came-brings : (s : State) → Given-fine c given → Sound c no-exception [] s → All (λ (r : Raise State Act Place). Brings c (r .act)) (came s)
     unfolding came
     came-brings s q z =
@@ -258,21 +254,17 @@ module _ (c : Circuit) (W : Wired c) where
         (λ z y g e t. record { first = advance-timer-sound c W [] z g e (t .first); second = advance-timer-sound c W [] y g e (t .second); near = advance-timer-near z y g e t })
         _ _ (c .stopwatches) (W .stopwatches) k
 
-    -- what settling raises goes to pending
-    pending : Settled → List (Raise State Act Place)
-    pending z = map (λ r. record { at = r .at; act = r .act; place = to-pending }) (z .raises)
-
     pub open-tick-alike :
         (s v : State) → Given-fine c given → Sound c no-exception [] s → Sound c no-exception [] v → State-near s v → Opened-alike (open-tick c s given) (open-tick c v given)
-    unfolding open-tick came before-moving after-moving before-settling pending wires≔
+    unfolding open-tick came before-moving after-moving wires≔
     open-tick-alike s v q a b h =
         let t = after-moving-twins s v q a b h in
         let n = t .near .state in
-        let e : settle c (before-settling v) ≡ settle c (before-settling s) =
-        settle-same (before-settling s) (before-settling v) (invalidated-same c W (twin (t .first .state) (t .second .state) n)) (n .delays) (n .outbox) in
+        let e : settle c (before-settling c v given .state) ≡ settle c (before-settling c s given .state) =
+        settle-same (before-settling c s given .state) (before-settling c v given .state) (invalidated-same c W (twin (t .first .state) (t .second .state) n)) (n .delays) (n .outbox) in
         record {
           state = ap (λ (x : Settled). x .state) (sym e);
           raises =
               alike-append (t .near .raises)
-              (subst (λ (x : Settled). Raises-alike Same-tick (pending (settle c (before-settling s))) (pending x)) (sym e) (alike-itself (λ _. refl) (pending (settle c (before-settling s)))));
+              (subst (λ (x : Settled). Raises-alike Same-tick (pending (settle c (before-settling c s given .state) .raises)) (pending (x .raises))) (sym e) (alike-itself (λ _. refl) (pending (settle c (before-settling c s given .state) .raises))));
         }

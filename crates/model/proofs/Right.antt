@@ -18,7 +18,7 @@ use Rattle.model.specs.Kinds.{kind-at, pure, time-source}
 use Rattle.model.specs.Circuit.{Circuit, kind-of-gate, input, output, inputs-of, gate-at-input, source, gate-at-output, readers-of, watching}
 use Rattle.model.specs.State.{Wires, outs≔, dirty≔, to-check≔}
 use Rattle.model.specs.Wires.{shown, show, is-dirty, is-clean, soil, clean, watch, Marking, look, compute, recompute, mark-reader, mark-on, mark-readers, invalidate, set-out}
-use Rattle.model.proofs.Lists.{if-both, if-by, both-true, each-keeps, among-all, count-most, not-so, clash, among-first, among-later, among-either, among-none, among-neither, neither-among, from-among, mark-kept, marked-here, mark-was}
+use Rattle.model.proofs.Lists.{if-both, if-by, each-keeps-all, each-brings, among-all, count-most, not-so, clash, among-first, among-later, among-either, among-none, among-neither, neither-among, from-among, mark-kept, marked-here, mark-was, marked-in}
 use Rattle.model.proofs.Laid.{Laid}
 use Rattle.model.proofs.Checks.{pure-kind}
 use Rattle.model.proofs.Sized.{Sized-wires, show-sized, soil-sized, watch-sized}
@@ -204,7 +204,7 @@ module _ (c : Circuit) where
       sized : Sized-wires c (m .wires)
       right : All-right t late (o ∷ m .work) (m .wires)
 
-    watch-right : (w : Wires) (i : ℕ) (work : List ℕ) → All-right t late work w → All-right t late work (watch w i)
+    pub watch-right : (w : Wires) (i : ℕ) (work : List ℕ) → All-right t late work w → All-right t late work (watch w i)
     unfolding watch to-check≔
     watch-right w i work r =
         if-both (All-right t late work) _ r
@@ -258,12 +258,7 @@ module _ (c : Circuit) where
         rw p
         (if-by (λ (r : Marking). getD (r .wires .dirty) g false ≡ true) (not (getD (m .wires .dirty) g true))
         (λ _. getD-set-same (m .wires .dirty) g true false l)
-        (λ e. in-both (m .wires .dirty) g l (not-false _ e)))
-      where
-        in-both : (bs : List Bool) (j : ℕ) → j < length bs → getD bs j true ≡ true → getD bs j false ≡ true
-        in-both [] j l e = absurd (omega arith)
-        in-both (b ∷ bs) zero l e = e
-        in-both (b ∷ bs) (suc j) l e = in-both bs j (omega arith) e
+        (λ e. marked-in (m .wires .dirty) g l (not-false _ e)))
 
     -- an input that waits goes on waiting
     reader-waits : (j : ℕ) (m : Marking) (i : ℕ) → getD (m .wires .queued) j true ≡ true → getD (mark-reader c m i .wires .queued) j true ≡ true
@@ -283,24 +278,6 @@ module _ (c : Circuit) where
         rw (b, a, few-roomy c (W .few) .watching (m .wires) i z)
         (if-by (λ (w : Wires). getD (w .queued) i true ≡ true) (getD (m .wires .queued) i true) (λ e. e) (λ _. marked-here (m .wires .queued) i))
 
-    -- what marking one reader brings about, and marking others keeps, holds when all are marked
-    each-marked :
-        (o : ℕ) (P : ℕ → Marking → Type 0) → ((m : Marking) (i : ℕ) → Sized-wires c (m .wires) → P i (mark-reader c m i)) →
-        ((i : ℕ) (m : Marking) (j : ℕ) → P i m → P i (mark-reader c m j)) → (is : List ℕ) → all (λ i. not (time-source (kind-of-gate c (gate-at-input c i)))) is ≡ true →
-        (m : Marking) → Marks o m → Marks o (each (mark-reader c) m is) × ((i : ℕ) → among i is ≡ true → P i (each (mark-reader c) m is))
-    unfolding each all
-    each-marked o P now still [] u m k = (k, λ i e. clash e (among-none i))
-    each-marked o P now still (x ∷ is) u m k =
-        let v = both-true (not (time-source (kind-of-gate c (gate-at-input c x)))) _ u in
-        let r = each-marked o P now still is (v .1) (mark-reader c m x) (reader-marks o m x (not-true _ (v .0)) k) in
-        (r .0, λ i e. go i (among-either i x is e) (r .1 i))
-      where
-        go :
-            (i : ℕ) → (i ≡ x) ⊎ (among i is ≡ true) → (among i is ≡ true → P i (each (mark-reader c) (mark-reader c m x) is)) →
-            P i (each (mark-reader c) (mark-reader c m x) is)
-        go i (inl q) rec = each-keeps (P i) (mark-reader c) (still i) (mark-reader c m x) is (subst (λ y. P i (mark-reader c m y)) q (now m i (k .sized)))
-        go i (inr q) rec = rec q
-
     -- a gate that reads is no time source
     readers-fed : (o : ℕ) → all (λ i. not (time-source (kind-of-gate c (gate-at-input c i)))) (readers-of c o) ≡ true
     readers-fed o = among-all _ (readers-of c o) λ i m. rw (W .fed i (W .source-at i o (W .read-by i o m))) refl
@@ -316,13 +293,17 @@ module _ (c : Circuit) where
         let m = each (mark-reader c) (record { wires = w; work = work }) (readers-of c o) in
         Sized-wires c (m .wires) × All-right t late (m .work) (m .wires)
     readers-right o w work z r =
-        let b = each-marked o Marked
-        (λ m i z. record { stale = reader-now m i z; waits = reader-queued m i z })
-        (λ i m j y. record { stale = λ p. reader-stale (gate-at-input c i) m j (y .stale p); waits = λ e p. reader-waits i m j (y .waits e p) })
-        (readers-of c o) (readers-fed o) (record { wires = w; work = work }) (record { sized = z; right = r }) in
-        let a = b .0 in
+        let k : (m : Marking) (i : ℕ) → not (time-source (kind-of-gate c (gate-at-input c i))) ≡ true → Marks o m → Marks o (mark-reader c m i) =
+        λ m i u. reader-marks o m i (not-true _ u) in
+        let first : Marks o (record { wires = w; work = work }) = record { sized = z; right = r } in
+        let a = each-keeps-all (Marks o) _ (mark-reader c) k _ (readers-of c o) (readers-fed o) first in
         let m = each (mark-reader c) (record { wires = w; work = work }) (readers-of c o) in
-        let reached : (i q : ℕ) → source c i ≡ some q → q ≡ o → Marked i m = λ i q e s. b .1 i (subst (λ x. among i (readers-of c x) ≡ true) s (W .reader i q e)) in (
+        let marked : (i : ℕ) → among i (readers-of c o) ≡ true → Marked i m =
+        each-brings (Marks o) Marked _ (mark-reader c) k
+        (λ m i _ y. record { stale = reader-now m i (y .sized); waits = reader-queued m i (y .sized) })
+        (λ i m j y. record { stale = λ p. reader-stale (gate-at-input c i) m j (y .stale p); waits = λ e p. reader-waits i m j (y .waits e p) })
+        _ (readers-of c o) (readers-fed o) first in
+        let reached : (i q : ℕ) → source c i ≡ some q → q ≡ o → Marked i m = λ i q e s. marked i (subst (λ x. among i (readers-of c x) ≡ true) s (W .reader i q e)) in (
           a .sized,
           record {
             gates = λ g p d n.

@@ -21,7 +21,7 @@ use Rattle.model.proofs.Laid.{Laid}
 use Rattle.model.proofs.Walks.{taken, checked}
 use Rattle.model.proofs.Kept.{last-sized, pulses-sized}
 use Rattle.model.proofs.Checks.{pulses-up, pure-kind, detect-keeps}
-use Rattle.model.proofs.Sized.{taken-sized, Sized-wires, marks, show-sized, recompute-sized, ready-keeps, refresh-all-sized, mark-readers-keeps, mark-readers-sized}
+use Rattle.model.proofs.Sized.{Pure, taken-sized, Sized-wires, marks, show-sized, recompute-sized, ready-keeps, refresh-all-sized, mark-readers-keeps, mark-readers-sized}
 
 module _ (c : Circuit) where
   -- ---- the rounds that settling may still take
@@ -81,7 +81,7 @@ module _ (c : Circuit) where
         }
 
     ready-within : (w : Wires) (i : ℕ) → Within n w → Within n (ready c w i)
-    ready-within = ready-keeps c (Within n) (λ w z. z .sized) recompute-within
+    ready-within = ready-keeps c (Within n) (Pure c) (λ w z. z .sized .stale) recompute-within
 
     -- an output that goes up leaves rounds for all that may wait then
     up-within : (w : Wires) (o : ℕ) → detects o ≡ true → o < length (c .outputs) → Within n w → Within n (set-out c w o (Truth true))

@@ -133,7 +133,7 @@ module _ (c : Circuit) where
   unfolding recompute
   recompute-sized w g z = clean-sized _ g (show-sized w _ _ z)
 
-  -- ---- refreshing: what is kept by computing a pure gate again, where only pure gates are stale
+  -- ---- refreshing: what is kept by computing a gate again of which A holds, as it does of each stale gate
 
   pub behind-keeps : (P : Wires → Type 0) (f : Wires → ℕ → Wires) → ((w : Wires) (g : ℕ) → P w → P (f w g)) → (w : Wires) (i : ℕ) → P w → P (behind c f w i)
   unfolding behind
@@ -143,8 +143,8 @@ module _ (c : Circuit) where
       go none = p
       go (some o) = k w (gate-at-output c o) p
 
-  module _ (P : Wires → Type 0) (sized : (w : Wires) → P w → Sized-wires c w)
-      (again : (w : Wires) (g : ℕ) → pure (kind-of-gate c g) ≡ true → P w → P (recompute c w g)) where
+  module _ (P : Wires → Type 0) (A : ℕ → Type 0) (due : (w : Wires) → P w → (g : ℕ) → is-dirty w g ≡ true → A g)
+      (again : (w : Wires) (g : ℕ) → A g → P w → P (recompute c w g)) where
     pub refresh-to-keeps : (n : ℕ) (w : Wires) (g : ℕ) → P w → P (refresh-to c n w g)
     unfolding refresh-to
     refresh-to-keeps zero w g p = p
@@ -155,7 +155,7 @@ module _ (c : Circuit) where
         go :
             (b : Bool) → is-dirty w g ≡ b → P (each (behind c (λ v h. refresh-to c n v h)) w (inputs-of c g)) →
             P (elim b as (λ _. Wires) [ true ↦ recompute c (each (behind c (λ v h. refresh-to c n v h)) w (inputs-of c g)) g | false ↦ w ])
-        go true e q = again _ g (sized w p .stale g e) q
+        go true e q = again _ g (due w p g e) q
         go false e q = p
 
     pub refresh-keeps : (w : Wires) (g : ℕ) → P w → P (refresh c w g)
@@ -199,31 +199,43 @@ module _ (c : Circuit) where
     unfolding mark-readers
     mark-readers-keeps w o p = mark-on-keeps _ _ p
 
+    -- and by showing a value
+    module _ (shows : (w : Wires) (o : ℕ) (v : Value) → P w → P (show w o v)) where
+      pub set-out-keeps : (w : Wires) (o : ℕ) (v : Value) → P w → P (set-out c w o v)
+      unfolding set-out
+      set-out-keeps w o v p = if-both P _ p (mark-readers-keeps _ o (shows w o v p))
+
+      pub set-outs-keeps : (w : Wires) (o : ℕ) (vs : List Value) → P w → P (set-outs c w o vs)
+      unfolding set-outs
+      set-outs-keeps w o [] p = p
+      set-outs-keeps w o (v ∷ vs) p = set-outs-keeps (set-out c w o v) (suc o) vs (set-out-keeps w o v p)
+
   -- ---- so of each function of the wires
 
-  again-sized : (w : Wires) (g : ℕ) → pure (kind-of-gate c g) ≡ true → Sized-wires c w → Sized-wires c (recompute c w g)
+  -- a stale gate is pure
+  abbrev pub Pure : ℕ → Type 0
+  Pure g = pure (kind-of-gate c g) ≡ true
+
+  again-sized : (w : Wires) (g : ℕ) → Pure g → Sized-wires c w → Sized-wires c (recompute c w g)
   again-sized w g e z = recompute-sized w g z
 
   pub refresh-to-sized : (n : ℕ) (w : Wires) (g : ℕ) → Sized-wires c w → Sized-wires c (refresh-to c n w g)
-  refresh-to-sized = refresh-to-keeps (Sized-wires c) (λ w z. z) again-sized
+  refresh-to-sized = refresh-to-keeps (Sized-wires c) Pure (λ w z. z .stale) again-sized
 
   pub refresh-sized : (w : Wires) (g : ℕ) → Sized-wires c w → Sized-wires c (refresh c w g)
-  refresh-sized = refresh-keeps (Sized-wires c) (λ w z. z) again-sized
+  refresh-sized = refresh-keeps (Sized-wires c) Pure (λ w z. z .stale) again-sized
 
   pub refresh-all-sized : (w : Wires) → Sized-wires c w → Sized-wires c (refresh-all c w)
-  refresh-all-sized = refresh-all-keeps (Sized-wires c) (λ w z. z) again-sized
+  refresh-all-sized = refresh-all-keeps (Sized-wires c) Pure (λ w z. z .stale) again-sized
 
   pub ready-sized : (w : Wires) (i : ℕ) → Sized-wires c w → Sized-wires c (ready c w i)
-  ready-sized = ready-keeps (Sized-wires c) (λ w z. z) again-sized
+  ready-sized = ready-keeps (Sized-wires c) Pure (λ w z. z .stale) again-sized
 
   pub mark-readers-sized : (w : Wires) (o : ℕ) → Sized-wires c w → Sized-wires c (mark-readers c w o)
   mark-readers-sized = mark-readers-keeps (Sized-wires c) soil-sized watch-sized
 
   pub set-out-sized : (w : Wires) (o : ℕ) (v : Value) → Sized-wires c w → Sized-wires c (set-out c w o v)
-  unfolding set-out
-  set-out-sized w o v z = if-both (Sized-wires c) _ z (mark-readers-sized _ o (show-sized w o v z))
+  set-out-sized = set-out-keeps (Sized-wires c) soil-sized watch-sized show-sized
 
   pub set-outs-sized : (w : Wires) (o : ℕ) (vs : List Value) → Sized-wires c w → Sized-wires c (set-outs c w o vs)
-  unfolding set-outs
-  set-outs-sized w o [] z = z
-  set-outs-sized w o (v ∷ vs) z = set-outs-sized (set-out c w o v) (suc o) vs (set-out-sized w o v z)
+  set-outs-sized = set-outs-keeps (Sized-wires c) soil-sized watch-sized show-sized

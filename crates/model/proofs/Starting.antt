@@ -18,24 +18,24 @@ use Rattle.model.specs.declared.Value.the-variants.{Nothing, Bool as Tru
 use Rattle.model.specs.Base.{if_then_else_, each, keep, all, joined, from}
 use Rattle.model.specs.Value.{value-opened}
 use Rattle.model.specs.Kinds.{pure, time-source, receiving, kinds-opened}
-use Rattle.model.specs.Circuit.{Circuit, kind-of-gate, input, output, source, setting, gates-of}
+use Rattle.model.specs.Circuit.{Circuit, kind-of-gate, input, output, source, setting, watching, gates-of}
 use Rattle.model.specs.Script.{Given}
-use Rattle.model.specs.State.{Wires, State, Act, Send, idle, times≔, dirty≔, to-check≔, last≔, pulses≔, unions-passed≔}
-use Rattle.model.specs.Wires.{shown, is-dirty, soil, watch, look, compute, refresh-all, invalidate}
+use Rattle.model.specs.State.{Wires, State, Act, Send, idle, times≔, dirty≔, to-check≔, pulses≔, unions-passed≔}
+use Rattle.model.specs.Wires.{shown, is-dirty, soil, watch, look, compute, invalidate}
 use Rattle.model.specs.Delays.{Moved}
 use Rattle.model.specs.Opening.{wires-stale, wires-fresh, wires-at-start, start, Opened, raised-to, fire, next-tick, begin-tick, delivered, lower, advanced, advance-buffer, advance-clock, advance-timer, open-tick}
 use Rattle.model.specs.Run.{Allowed}
 use Rattle.model.specs.Questions.{finite}
-use Rattle.model.proofs.Lists.{if-both, if-by, both-true, each-keeps, each-keeps-all, map-all, all-same, among-from, not-so, clash, among-none, neither-among, mark-kept, either-false, either-true}
+use Rattle.model.proofs.Lists.{if-both, if-by, both-true, each-keeps, each-keeps-all, all-keep, map-all, all-same, among-from, not-so, clash, among-none, neither-among, mark-kept, either-false, either-true}
 use Rattle.model.proofs.Sized.{Sized-wires, mark-readers-keeps}
 use Rattle.model.proofs.Placing.{pure-in}
 use lib.Seq.{getD-set-same}
-use Rattle.model.proofs.Kept.{stale-sized, wires-at-start-sized, pulses-sized, passed-sized, times-sized, time-pure, invalidate-sized}
+use Rattle.model.proofs.Kept.{stale-sized, pulses-sized, passed-sized, times-sized, time-pure, invalidate-sized}
 use Rattle.model.proofs.Stale.{if-same}
 use Rattle.model.proofs.Reals.{Real, nothing-real, truth-real, zero-real, plus-real, as-float-real}
 use Rattle.model.proofs.Wired.{Wired}
 use Rattle.model.proofs.Right.{Except, no-exception, until-timed, Other, alike, invalidate-right}
-use Rattle.model.proofs.Fine.{set-real, Fine, Alike, alike-itself, alike-again, fine-as, soil-alike, marked-alike, set-out-fine, set-outs-fine, refresh-all-fine, refreshed-clean, clean-fine}
+use Rattle.model.proofs.Fine.{set-real, Fine, Alike, alike-itself, alike-again, fine-as, soil-alike, marked-alike, watch-fine, set-out-fine, set-outs-fine, refresh-all-fine, refreshed-clean, clean-fine}
 use Rattle.model.proofs.Sound.{Row, Delay-fine, idle-fine, Moved-fine, advance-flight-fine, advance-fires-fine, advance-records-fine, advance-elapsed-fine, advance-time-fine, Sound, Brings, brings-none, other-outputs, wires-sound, delay-sound, outbox-sound, delay-of, readied-sound, read-is-real}
 use Rattle.model.proofs.Calming.{set-pulses, settle-sound}
 
@@ -83,21 +83,14 @@ module _ (c : Circuit) (W : Wired c) where
             };
       }
 
+  wires-fresh-fine : Fine c no-exception [] (wires-fresh c)
+  unfolding wires-fresh
+  wires-fresh-fine =
+      clean-fine c W all-stale [] _ (refreshed-clean c W all-stale [] (wires-stale c) stale-fine) (refresh-all-fine c W all-stale [] (wires-stale c) stale-fine)
+
   wires-at-start-fine : Fine c no-exception [] (wires-at-start c)
-  unfolding wires-at-start wires-fresh last≔ shown
-  wires-at-start-fine =
-      let w = refresh-all c (wires-stale c) in
-      let f : Fine c no-exception [] w =
-      clean-fine c W all-stale [] w (refreshed-clean c W all-stale [] (wires-stale c) stale-fine) (refresh-all-fine c W all-stale [] (wires-stale c) stale-fine) in
-      record {
-        sized = wires-at-start-sized c;
-        written = f .written;
-        pulses = f .pulses;
-        real = f .real;
-        length-finite = f .length-finite;
-        uptime-real = f .uptime-real;
-        right = alike c no-exception [] [] w (last≔ w _) refl refl refl refl refl (f .right);
-      }
+  unfolding wires-at-start
+  wires-at-start-fine = each-keeps-all (Fine c no-exception []) (watching c) watch (watch-fine c W no-exception []) _ _ (all-keep (watching c) _) wires-fresh-fine
 
   pub start-sound : Sound c no-exception [] (start c)
   unfolding start

@@ -18,7 +18,7 @@ use Rattle.model.specs.Delays.{Moved}
 use Rattle.model.specs.Exec.{Stepped, delay≔, readied, exec-gate}
 use Rattle.model.specs.Chain.{Calls, Popped, pop, fit, Chained, chained, push-calls, run-chain, runaway}
 use Rattle.model.specs.Settle.{Settled, check, check-on, settle}
-use Rattle.model.specs.Opening.{Opened, raised-to, fire, begin-tick, lower, advanced, advance-buffer, advance-clock, advance-timer, open-tick}
+use Rattle.model.specs.Opening.{Opened, raised-to, fire, begin-tick, lower, advanced, advance-buffer, advance-clock, advance-timer, before-settling, open-tick}
 use Rattle.model.proofs.Lists.{if-both, each-keeps, each-keeps-all, map-all, all-of}
 
 module _ (c : Circuit) where
@@ -98,9 +98,8 @@ module _ (c : Circuit) where
     pub set-outs : (w : Wires) (o : ℕ) (vs : List Value) → Q w → Q (set-outs c w o vs)
     pub lower : (w : Wires) (o : ℕ) → Q w → Q (lower c w o)
     pub invalidate : (w : Wires) (g : ℕ) → timed g ≡ true → Q w → Q (invalidate c w g)
-    pub settle : (s : State) → P s → P (settle c s .state) × All (λ (r : Raise State Act (Unit {0})). P (r .at)) (settle c s .raises)
 
-  module _ {P : State → Type 0} {Q : Wires → Type 0} {timed : ℕ → Bool} (k : Opening-keeps P Q timed) where
+  module _ {P : State → Type 0} {Q : Wires → Type 0} {timed : ℕ → Bool} (k : Opening-keeps P Q timed) (times : all timed (c .time-sources) ≡ true) where
     raised-keeps : (p : Place) (s : State) (acts : List Act) → P s → All (λ (r : Raise State Act Place). P (r .at)) (raised-to p s acts)
     unfolding raised-to
     raised-keeps p s acts z = map-all (λ (r : Raise State Act Place). P (r .at)) _ (all-of (λ a. z) acts)
@@ -132,14 +131,21 @@ module _ (c : Circuit) where
     advance-timer-keeps z g y = advanced-keeps z _ _ g _ _ y (readied-keeps g 3 1 (y .state))
 
     -- from the moment on at which the next tick has begun
-    pub open-tick-keeps : all timed (c .time-sources) ≡ true → (s : State) (given : Given) → P (begin-tick s (given .dt)) → Opened-keeps P (open-tick c s given)
-    unfolding open-tick
-    open-tick-keeps times s given z =
+    pub before-settling-keeps : (s : State) (given : Given) → P (begin-tick s (given .dt)) → Opened-keeps P (before-settling c s given)
+    before-settling-keeps s given z =
         let came = all-append (raised-keeps to-delivered _ _ z) (raised-keeps to-late _ (given .stimuli) z) in
         let z₂ = k .put z (each-keeps Q (lower c) (k .lower) _ (from 0 (length (c .outputs))) (k .of z)) in
         let b = each-keeps (Opened-keeps P) (advance-buffer c _) (advance-buffer-keeps _) _ (c .buffers) (record { state = z₂; raises = came }) in
         let y = each-keeps (Opened-keeps P) (advance-clock c) advance-clock-keeps _ (c .clocks) b in
         let t = each-keeps (Opened-keeps P) (advance-timer c) advance-timer-keeps _ (c .stopwatches) y in
         let w = each-keeps-all Q timed (invalidate c) (k .invalidate) _ (c .time-sources) times (k .of (t .state)) in
-        let x = k .settle _ (k .put (t .state) w) in
+        record { state = k .put (t .state) w; raises = t .raises }
+
+    pub open-tick-keeps :
+        ((s : State) → P s → P (settle c s .state) × All (λ (r : Raise State Act (Unit {0})). P (r .at)) (settle c s .raises)) →
+        (s : State) (given : Given) → P (begin-tick s (given .dt)) → Opened-keeps P (open-tick c s given)
+    unfolding open-tick
+    open-tick-keeps settles s given z =
+        let t = before-settling-keeps s given z in
+        let x = settles _ (t .state) in
         record { state = x .0; raises = all-append (t .raises) (map-all (λ (r : Raise State Act Place). P (r .at)) _ (x .1)) }

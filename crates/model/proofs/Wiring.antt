@@ -28,7 +28,7 @@ use Rattle.model.specs.State.{Act}
 use Rattle.model.specs.Delays.{nat}
 use Rattle.model.specs.Exec.{var}
 use Rattle.model.specs.Questions.{Areas, within, finite, yes-all, question-1, question-3, good-constant, question-2, value-output, int-such-that, good-setting, good-input, names-constant, question-4, question-9, question-10, good-length}
-use Rattle.model.proofs.Lists.{if-both, both-true, all-keep, all-among, among-from, map-from, from-length, not-so, clash, among-first, among-later, among-either, among-none, map-all}
+use Rattle.model.proofs.Lists.{if-both, both-true, all-keep, all-among, among-from, map-from, from-length, not-so, clash, among-either, among-none, among-keep, map-all}
 use Rattle.model.proofs.Sizes.{sizes}
 use Rattle.model.proofs.Laid.{offset, starts-at, no-kind, Laid, laid, joined-length, part-most, part-is, inputs-found}
 use Rattle.model.proofs.Asked.{Accepted}
@@ -40,17 +40,6 @@ use Rattle.model.proofs.Sound.{Brings, other-outputs}
 use Rattle.model.proofs.Starting.{Given-fine, Allowed-fine}
 
 -- ---- lists
-
-among-keep : (p : ℕ → Bool) (x : ℕ) (xs : List ℕ) → among x xs ≡ true → p x ≡ true → among x (keep p xs) ≡ true
-unfolding keep if_then_else_
-among-keep p x [] e q = e
-among-keep p x (y ∷ xs) e q = go (p y) refl (among-either x y xs e) (λ h. among-keep p x xs h q)
-  where
-    go : (b : Bool) → p y ≡ b → (x ≡ y) ⊎ (among x xs ≡ true) → (among x xs ≡ true → among x (keep p xs) ≡ true) → among x (if b then y ∷ keep p xs else keep p xs) ≡ true
-    go true h (inl s) rec = subst (λ z. among x (z ∷ keep p xs) ≡ true) s (among-first x (keep p xs))
-    go true h (inr s) rec = among-later x y (keep p xs) (rec s)
-    go false h (inl s) rec = clash (ap p (sym s) ∙ q) h
-    go false h (inr s) rec = rec s
 
 keep-among : (p : ℕ → Bool) (x : ℕ) (xs : List ℕ) → among x (keep p xs) ≡ true → p x ≡ true
 unfolding keep if_then_else_

@@ -17,6 +17,7 @@ pub mod Questions
 pub mod Answer
 pub mod Table
 pub mod Order
+pub mod Noticed
 pub mod Fresh
 pub mod Unread
 pub mod Seen

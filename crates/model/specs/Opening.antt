@@ -2,7 +2,7 @@
 use Prim.Native.Nat.{ℕ, suc, _+_}
 use mathlib.Core.Bool.{Bool, true, false, _&&_, _||_}
 use mathlib.Core.List.{List, [], _++_, map}
-use mathlib.Core.Option.{none, some}
+use mathlib.Core.Option.{none}
 use lib.Dec.{leb, ltb, eqb}
 use lib.ListN.{length, getD, set, replicate}
 use Rattle.schedule.specs.Schedule.{Raise, Place, to-late, to-delivered, to-pending}
@@ -13,8 +13,8 @@ use Rattle.model.specs.Value.{truthy, as-float, same, narrow, plus64, on
 use Rattle.model.specs.Kinds.{pure}
 use Rattle.model.specs.Circuit.{Circuit, kind-of-gate, output, setting, watching, gates-of}
 use Rattle.model.specs.Script.{Given}
-use Rattle.model.specs.State.{Wires, idle, Act, Send, State, times≔, last≔, pulses≔, unions-passed≔, wires≔, outbox≔}
-use Rattle.model.specs.Wires.{look, invalidate, refresh-all, set-out, set-outs}
+use Rattle.model.specs.State.{Wires, idle, Act, Send, State, times≔, pulses≔, unions-passed≔, wires≔, outbox≔}
+use Rattle.model.specs.Wires.{watch, invalidate, refresh-all, set-out, set-outs}
 use Rattle.model.specs.Delays.{Moved, advance-flight, advance-fires, advance-records, advance-elapsed, advance-time}
 use Rattle.model.specs.Exec.{delay, delay≔, readied, read, countdown}
 use Rattle.model.specs.Settle.{settle}
@@ -42,11 +42,9 @@ wires-stale c =
 unfoldable pub wires-fresh : Circuit → Wires
 wires-fresh c = refresh-all c (wires-stale c)
 
--- `last` is the value that each watched input reads
+-- then every watched input waits to be checked, in ascending gate and input, and `last` is empty: its first reading counts as a change (document 02, K2)
 unfoldable pub wires-at-start : Circuit → Wires
-wires-at-start c =
-    let w = wires-fresh c in
-    last≔ w (map (λ i. if watching c i then some (look c w i) else none) (from 0 (length (c .pins))))
+wires-at-start c = each watch (wires-fresh c) (keep (watching c) (from 0 (length (c .pins))))
 
 -- Clocks and Stopwatches at 0.0, Stopwatches stopped
 unfoldable pub start : Circuit → State
@@ -62,6 +60,10 @@ pub record Opened : Type 0 where
 -- these are raised at the state s, to a list
 unfoldable pub raised-to : Place → State → List Act → List (Raise State Act Place)
 raised-to p s acts = map (λ a. record { at = s; act = a; place = p }) acts
+
+-- what settling raises waits for the main pass
+abbrev pub pending : List (Raise State Act (Unit {0})) → List (Raise State Act Place)
+pending rs = map (λ r. record { at = r .at; act = r .act; place = to-pending }) rs
 
 -- n Fires of gate g
 unfoldable pub fire : ℕ → ℕ → List Act
@@ -128,19 +130,24 @@ module _ (c : Circuit) where
       let s = readied c (z .state) g 3 1 in
       advanced z s to-late g 0 (advance-time (s .wires .dt) (as-float 0 (read c s g 3)) (delay c s g))
 
-  -- The source's order: events, stimuli, ended pulses, buffers and Queues, Clocks, Stopwatches, time sources, settling. Stimuli, buffers, Queues and Stopwatches
-  -- raise to late, events to delivered, Clocks and settling to pending.
-  unfoldable pub open-tick : State → Given → Opened
-  open-tick s given =
+  -- The source's order: events, stimuli, ended pulses, buffers and Queues, Clocks, Stopwatches, time sources. Stimuli, buffers, Queues and Stopwatches raise to
+  -- late, events to delivered, Clocks to pending.
+  abbrev pub before-settling : State → Given → Opened
+  before-settling s given =
       let s₁ = begin-tick s (given .dt) in
       let came = raised-to to-delivered s₁ (joined (map delivered (s .outbox))) ++ raised-to to-late s₁ (given .stimuli) in
       let s₂ = wires≔ s₁ (each lower (s₁ .wires) (from 0 (length (c .outputs)))) in
       let b = each (advance-buffer (narrow (given .dt))) (record { state = s₂; raises = came }) (c .buffers) in
       let k = each advance-clock b (c .clocks) in
       let t = each advance-timer k (c .stopwatches) in
-      let w = each (invalidate c) (t .state .wires) (c .time-sources) in
-      let z = settle c (wires≔ (t .state) w) in
-      record { state = z .state; raises = t .raises ++ map (λ r. record { at = r .at; act = r .act; place = to-pending }) (z .raises) }
+      record { state = wires≔ (t .state) (each (invalidate c) (t .state .wires) (c .time-sources)); raises = t .raises }
+
+  -- then settling, which raises to pending
+  unfoldable pub open-tick : State → Given → Opened
+  open-tick s given =
+      let t = before-settling s given in
+      let z = settle c (t .state) in
+      record { state = z .state; raises = t .raises ++ pending (z .raises) }
 
   unfoldable pub opening-opened : ℕ
   unfolding wires-fresh wires-at-start start raised-to fire next-tick begin-tick enabled receives delivered lower advanced advance-buffer advance-clock advance-timer open-tick

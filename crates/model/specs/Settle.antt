@@ -1,5 +1,5 @@
--- Publishing the Vars that a unit wrote, and settling: each watched input that a change reached is read again and acted on. Only this raises activations
--- inside a pass.
+-- Publishing the Vars that a unit wrote, and settling: each watched input that a change reached, or that waits from the start, is read and acted on. Only this raises
+-- activations inside a pass.
 use Prim.Native.Nat.{ℕ, zero, suc, _+_, _-_, _*_}
 use mathlib.Core.Bool.{Bool, true, false, _||_}
 use mathlib.Core.List.{List, [], _∷_, _++_}
@@ -71,7 +71,7 @@ module _ (c : Circuit) where
       let t = wires≔ s (last≔ (s .wires) (set (s .wires .last) i (some now))) in
       if unchanged was now then calm t else detect (kind-of-gate c (gate-at-input c i)) t (gate-at-input c i) (i - input c (gate-at-input c i) 0) (last-value was) now
 
-  -- a watched input is read again
+  -- a watched input is read
   unfoldable pub check : State → ℕ → Settled
   check s i = let t = wires≔ s (ready c (s .wires) i) in compared t i (getD (s .wires .last) i none) (look c (t .wires) i)
 

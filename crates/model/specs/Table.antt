@@ -1,5 +1,5 @@
--- Document 01's played examples, those marked * among them, and what looks right but is wrong, as one table with one theorem: the prover computes each row
--- from bytes. The answers were taken from the Rust, and read against document 01.
+-- Document 01's played examples, those marked * among them, what looks right but is wrong, and examples of document 02's requests, as one table with one theorem: the prover
+-- computes each row from bytes. The answers were taken from the Rust, and read against document 01.
 use Prim.Native.Nat.{ℕ, _^_, _-_}
 use mathlib.Core.Path.{_≡_, refl}
 use mathlib.Core.List.{List, [], _∷_, map}
@@ -140,6 +140,33 @@ rows =
     ((1 ∷ 4 ∷ 1 ∷ 1 ∷ 1 ∷ 0 ∷ 3 ∷ 4 ∷ 2 ∷ 0 ∷ 2 ∷ 0 ∷ 0 ∷ 0 ∷ 0 ∷ 0 ∷ 0 ∷ 0 ∷ 0 ∷ 0 ∷ 0 ∷ 0 ∷ 0 ∷ 0 ∷ 0 ∷ 0 ∷ 3 ∷ 0 ∷ 0 ∷ 0 ∷ 0 ∷ 0 ∷ 0 ∷ 0 ∷ 0 ∷ 0 ∷ 0 ∷ 0 ∷ 0 ∷ 0 ∷ 0 ∷ 0 ∷ 0 ∷ 0 ∷ 0 ∷ 1 ∷ 0 ∷ 0 ∷ [])
     ∷ (2 ∷ 4 ∷ 5 ∷ 1 ∷ 1 ∷ 0 ∷ 6 ∷ 3 ∷ 1 ∷ 2 ∷ 0 ∷ 4 ∷ 32 ∷ 2 ∷ 0 ∷ 0 ∷ 0 ∷ 0 ∷ 2 ∷ 0 ∷ 0 ∷ 0 ∷ 0 ∷ 0 ∷ 0 ∷ 0 ∷ 0 ∷ 0 ∷ 0 ∷ 0 ∷ 0 ∷ 0 ∷ 0 ∷ 0 ∷ 3 ∷ 0 ∷ 0 ∷ 0 ∷ 0 ∷ 0 ∷ 0 ∷ 0 ∷ 0 ∷ 0 ∷ 0 ∷ 0 ∷ 0 ∷ 0 ∷ 0 ∷ 0 ∷ 0 ∷ 0 ∷ 0 ∷ 0 ∷ 0 ∷ 0 ∷ [])
     ∷ []) 0 2)
+    -- K2: a card lies in the slot at the start. In tick 1 its first reading is a change, for a ChangeDetector (gate 1) and for a pin (2); nothing is one too (3). Of one
+    -- rank the lower gate begins first.
+    ∷ row
+    ((4 ∷ 1 ∷ 4 ∷ 0 ∷ []) ∷ (1 ∷ []) ∷ (1 ∷ []) ∷ (5 ∷ 6 ∷ 22 ∷ 6 ∷ []) ∷ (0 ∷ 3 ∷ 1 ∷ 3 ∷ []) ∷ (-1 ∷ 0 ∷ 0 ∷ -1 ∷ []) ∷ (1 ∷ 0 ∷ 0 ∷ 0 ∷ []) ∷ [] ∷ [] ∷ [])
+    ((2 ∷ 0 ∷ []) ∷ (0 ∷ 0 ∷ []) ∷ (0 ∷ 0 ∷ []) ∷ [] ∷ [] ∷ [])
+    (plays
+    ((1 ∷ 1 ∷ 0 ∷ 3 ∷ 0 ∷ 0 ∷ 2 ∷ 1 ∷ 3 ∷ 16 ∷ 0 ∷ 0 ∷ 1 ∷ 0 ∷ 0 ∷ 3 ∷ 0 ∷ 1 ∷ 0 ∷ 0 ∷ 1 ∷ 0 ∷ [])
+    ∷ (2 ∷ 0 ∷ 0 ∷ 0 ∷ 0 ∷ 0 ∷ 1 ∷ 0 ∷ 0 ∷ 3 ∷ 0 ∷ 1 ∷ 0 ∷ 0 ∷ 1 ∷ 0 ∷ [])
+    ∷ []) 0 2)
+    -- K2: what reads nothing as tick 1 opens, and a card put in then: the ChangeDetector's activation that was raised second begins first, in the late pass.
+    ∷ row
+    ((2 ∷ 1 ∷ 1 ∷ 0 ∷ []) ∷ (1 ∷ []) ∷ (7 ∷ []) ∷ (28 ∷ 6 ∷ []) ∷ (2 ∷ 5 ∷ []) ∷ (1 ∷ []) ∷ (0 ∷ []) ∷ [] ∷ [] ∷ [])
+    ((1 ∷ 1 ∷ []) ∷ (0 ∷ []) ∷ (1 ∷ []) ∷ (0 ∷ []) ∷ (1 ∷ []) ∷ [])
+    (plays
+    ((1 ∷ 0 ∷ 2 ∷ 1 ∷ 0 ∷ 0 ∷ 0 ∷ 1 ∷ 1 ∷ 2 ∷ 0 ∷ 0 ∷ 0 ∷ 1 ∷ 0 ∷ 0 ∷ 7 ∷ 0 ∷ [])
+    ∷ []) 0 1)
+    -- K2: a buffer with a wait of 2 launches nothing as tick 1 opens, so a card put in then waits until that has landed, in tick 3, and in full: it shows in tick 5.
+    ∷ row
+    ((2 ∷ 2 ∷ 3 ∷ 0 ∷ []) ∷ (1 ∷ 1 ∷ []) ∷ (7 ∷ 2 ∷ []) ∷ (28 ∷ 10 ∷ []) ∷ (0 ∷ 0 ∷ []) ∷ (1 ∷ -1 ∷ -1 ∷ []) ∷ (0 ∷ 2 ∷ 0 ∷ []) ∷ [] ∷ [] ∷ [])
+    ((5 ∷ 1 ∷ []) ∷ (0 ∷ 0 ∷ 0 ∷ 0 ∷ 0 ∷ []) ∷ (1 ∷ 0 ∷ 0 ∷ 0 ∷ 0 ∷ []) ∷ (0 ∷ []) ∷ (1 ∷ []) ∷ [])
+    (plays
+    ((1 ∷ 0 ∷ 1 ∷ 0 ∷ 0 ∷ 0 ∷ 0 ∷ 2 ∷ 0 ∷ 1 ∷ 0 ∷ 0 ∷ 7 ∷ 0 ∷ [])
+    ∷ (2 ∷ 0 ∷ 0 ∷ 0 ∷ 0 ∷ 0 ∷ 0 ∷ 1 ∷ 0 ∷ 0 ∷ 7 ∷ 0 ∷ [])
+    ∷ (3 ∷ 0 ∷ 0 ∷ 0 ∷ 0 ∷ 0 ∷ 0 ∷ 1 ∷ 0 ∷ 0 ∷ 7 ∷ 0 ∷ [])
+    ∷ (4 ∷ 0 ∷ 0 ∷ 0 ∷ 0 ∷ 0 ∷ 0 ∷ 1 ∷ 0 ∷ 0 ∷ 7 ∷ 0 ∷ [])
+    ∷ (5 ∷ 0 ∷ 0 ∷ 0 ∷ 0 ∷ 0 ∷ 0 ∷ 1 ∷ 1 ∷ 0 ∷ 7 ∷ 7 ∷ [])
+    ∷ []) 0 5)
     -- Question 1: a word is missing.
     ∷ row
     ((2 ∷ 1 ∷ 1 ∷ 1 ∷ []) ∷ (1 ∷ []) ∷ (7 ∷ []) ∷ (28 ∷ 22 ∷ []) ∷ (0 ∷ 1 ∷ []) ∷ (-1 ∷ []) ∷ (0 ∷ []) ∷ (0 ∷ []) ∷ [] ∷ [])

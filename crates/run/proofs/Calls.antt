@@ -16,6 +16,7 @@ use Rattle.model.proofs.Asked.{Accepted, accepted}
 use Rattle.model.proofs.Ends.{numbers}
 use Rattle.model.proofs.InOrder.{in-order}
 use Rattle.model.proofs.Fresh.{begins-fresh}
+use Rattle.model.proofs.Noticing.{noticed}
 use Rattle.links.specs.Links.{net}
 use Rattle.links.specs.Lent.{least-area}
 use Rattle.circuit.specs.Refusals.{words-refusal, made-by, links-after}
@@ -54,6 +55,7 @@ module _ (k : Call) (n : ℕ) (e : n ≡ refusal (some (lent k)) (k .circuit) (k
         delays = rw x refl;
         order = in-order _ _ _ _;
         begins-fresh = begins-fresh _ _ _ _;
+        notices = noticed _ _ _;
       }
 
   -- ---- not refused
@@ -123,6 +125,7 @@ module _ (k : Call) (n : ℕ) (e : n ≡ refusal (some (lent k)) (k .circuit) (k
             delays = rw x ed;
             order = in-order _ _ _ _;
             begins-fresh = begins-fresh _ _ _ _;
+            notices = noticed _ _ _;
           }
         where
           alike : (s s₁ t t₁ a b : ℕ) → s₁ ≡ s → t₁ ≡ t → b ≡ a → Finished s t (a * 8) ≡ Finished s₁ t₁ (8 * b)

@@ -1,20 +1,19 @@
 -- A tick counts up the number of ticks by one: its opening does at its start, and nothing after that changes the number.
 use mathlib.Core.Path.{_≡_, refl}
-use mathlib.Core.Bool.{Bool, true, false}
+use mathlib.Core.Bool.{Bool, true}
 use mathlib.Core.List.{List, [], _∷_}
 use mathlib.Core.Option.{Option}
-use Prim.Native.Nat.{ℕ, zero, suc}
+use Prim.Native.Nat.{ℕ, suc}
 use Rattle.schedule.specs.Schedule.{Raise, Outcome, Closed, plain, Activation, tick}
 use Rattle.schedule.specs.Promise.{All, [·], _∷·_}
 use Rattle.schedule.specs.Keeping.{Did-keep}
 use Rattle.schedule.proofs.Keeps.{tick-keeps}
 use Rattle.schedule.proofs.Members.{all-append}
 use Rattle.model.specs.declared.Value.{Value}
-use Rattle.model.specs.Base.{each}
-use Rattle.model.specs.Circuit.{Circuit, gate-at-input, inputs-of, gates}
+use Rattle.model.specs.Circuit.{Circuit, gate-at-input}
 use Rattle.model.specs.Script.{Given}
 use Rattle.model.specs.State.{Wires, State, Countdown, Delay, Act, Send, outs≔, dirty≔, to-check≔, times≔, last≔, pulses≔, written≔, unions-passed≔, wires≔, delays≔, outbox≔}
-use Rattle.model.specs.Wires.{show, soil, clean, watch, is-dirty, behind, recompute, refresh-to, refresh, refresh-all, ready, mark-readers, invalidate, set-out, set-outs}
+use Rattle.model.specs.Wires.{show, soil, clean, watch, recompute, refresh-all, ready, mark-readers, invalidate, set-out, set-outs}
 use Rattle.model.specs.Exec.{Stepped, fires-next, ends, delay≔, set-output, readied, record-write, exec-Buffer, exec-Stopwatch, exec-Queue, exec-VarGet, exec-VarSet, exec-Branch, exec-Union, exec-Toggle, exec-Cycle, exec-SendEvent, exec-kind, exec-gate}
 use Rattle.model.specs.Chain.{Calls, Chained, run-chain}
 use Rattle.model.specs.Settle.{Settled, calm, raise, publish-writes, pulse, compared, check, check-on, settle}
@@ -25,7 +24,7 @@ use Rattle.model.specs.Run.{Allowed, opening, body, closing, machine}
 use Rattle.model.proofs.Lists.{all-pass, if-both, each-keeps, map-all}
 use Rattle.model.proofs.Checks.{detect-keeps}
 use Rattle.model.proofs.Walks.{run-chain-keeps, check-on-keeps, Opened-keeps, open-tick-keeps}
-use Rattle.model.proofs.Sized.{behind-keeps, mark-readers-keeps}
+use Rattle.model.proofs.Sized.{refresh-all-keeps, ready-keeps, mark-readers-keeps, set-out-keeps, set-outs-keeps}
 
 -- ---- the number of the tick
 
@@ -82,30 +81,11 @@ module _ (c : Circuit) (n : ℕ) where
   unfolding recompute
   recompute-at w g z = clean-at _ g (show-at w _ _ z)
 
-  refresh-to-at : (m : ℕ) (w : Wires) (g : ℕ) → Wires-at n w → Wires-at n (refresh-to c m w g)
-  unfolding refresh-to
-  refresh-to-at zero w g z = z
-  refresh-to-at (suc m) w g z =
-      go (is-dirty w g)
-      (each-keeps (Wires-at n) (behind c (λ v h. refresh-to c m v h)) (behind-keeps c (Wires-at n) (λ v h. refresh-to c m v h) (λ v h y. refresh-to-at m v h y)) w (inputs-of c g) z)
-    where
-      go :
-          (b : Bool) → Wires-at n (each (behind c (λ v h. refresh-to c m v h)) w (inputs-of c g)) →
-          Wires-at n (elim b as (λ _. Wires) [ true ↦ recompute c (each (behind c (λ v h. refresh-to c m v h)) w (inputs-of c g)) g | false ↦ w ])
-      go true y = recompute-at _ g y
-      go false y = z
-
-  refresh-at : (w : Wires) (g : ℕ) → Wires-at n w → Wires-at n (refresh c w g)
-  unfolding refresh
-  refresh-at w g z = refresh-to-at _ w g z
-
   refresh-all-at : (w : Wires) → Wires-at n w → Wires-at n (refresh-all c w)
-  unfolding refresh-all
-  refresh-all-at w z = each-keeps (Wires-at n) (refresh c) refresh-at w (gates c) z
+  refresh-all-at = refresh-all-keeps c (Wires-at n) (λ _. Unit {0}) (λ _ _ _ _. tt) (λ w g _ z. recompute-at w g z)
 
   ready-at : (w : Wires) (i : ℕ) → Wires-at n w → Wires-at n (ready c w i)
-  unfolding ready
-  ready-at w i z = behind-keeps c (Wires-at n) (refresh c) refresh-at w i z
+  ready-at = ready-keeps c (Wires-at n) (λ _. Unit {0}) (λ _ _ _ _. tt) (λ w g _ z. recompute-at w g z)
 
   mark-readers-at : (w : Wires) (o : ℕ) → Wires-at n w → Wires-at n (mark-readers c w o)
   mark-readers-at = mark-readers-keeps c (Wires-at n) (λ w g _ z. soil-at w g z) (λ w i _ z. watch-at w i z)
@@ -115,13 +95,10 @@ module _ (c : Circuit) (n : ℕ) where
   invalidate-at w g z = mark-readers-at _ _ (soil-at w g z)
 
   set-out-at : (w : Wires) (o : ℕ) (v : Value) → Wires-at n w → Wires-at n (set-out c w o v)
-  unfolding set-out
-  set-out-at w o v z = if-both (Wires-at n) _ z (mark-readers-at _ o (show-at w o v z))
+  set-out-at = set-out-keeps c (Wires-at n) (λ w g _ z. soil-at w g z) (λ w i _ z. watch-at w i z) show-at
 
   set-outs-at : (w : Wires) (o : ℕ) (vs : List Value) → Wires-at n w → Wires-at n (set-outs c w o vs)
-  unfolding set-outs
-  set-outs-at w o [] z = z
-  set-outs-at w o (v ∷ vs) z = set-outs-at (set-out c w o v) (suc o) vs (set-out-at w o v z)
+  set-outs-at = set-outs-keeps c (Wires-at n) (λ w g _ z. soil-at w g z) (λ w i _ z. watch-at w i z) show-at
 
   -- ---- one change of the state
 
@@ -266,8 +243,7 @@ module _ (c : Circuit) (n : ℕ) where
         set-outs = set-outs-at;
         lower = lower-at;
         invalidate = λ w g _. invalidate-at w g;
-        settle = λ s z. let x = settle-at s z in (x .state, x .raises);
-      }) (all-pass (c .time-sources))
+      }) (all-pass (c .time-sources)) (λ s z. let x = settle-at s z in (x .state, x .raises))
 
   -- ---- a unit, and the record
 
@@ -327,4 +303,4 @@ tick-by-one c w i came =
 -- A run starts at tick 0.
 pub start-at-zero : (c : Circuit) → start c .wires .tick ≡ 0
 unfolding start wires-at-start wires-fresh
-start-at-zero c = last-at c 0 _ (refresh-all-at c 0 _ (record { number = refl })) .number
+start-at-zero c = each-keeps (Wires-at 0) watch (watch-at c 0) _ _ (refresh-all-at c 0 _ (record { number = refl })) .number

@@ -1,14 +1,17 @@
--- A call: the bytes that it is lent, what it leaves of them, and what is right of it: the three demands, and what a unit sees when it begins.
+-- A call: the bytes that it is lent, what it leaves of them, and what is right of it: the three demands, what a unit sees when it begins, and what is noticed in tick 1.
 use Prim.Native.Nat.{ℕ}
 use mathlib.Core.Path.{_≡_}
 use mathlib.Core.List.{List}
 use mathlib.Core.Option.{some}
 use lib.ListN.{length}
 use Rattle.words.specs.Slices.{Slice, before, after}
+use Rattle.words.specs.Words.{words}
+use Rattle.model.specs.Circuit.{circuit}
 use Rattle.model.specs.Questions.{Areas, refusal}
 use Rattle.model.specs.Answer.{Answer, Answers, answer, log-after, area-after}
 use Rattle.model.specs.Order.{Whole-run-in-order}
 use Rattle.model.specs.Fresh.{Whole-run-fresh}
+use Rattle.model.specs.Noticed.{Start-noticed}
 
 -- the bytes that a call is lent, as they are when it is made
 pub record Call : Type 0 where
@@ -50,6 +53,8 @@ pub record Right (k : Call) (l : Left) (Tells : Answer → Type 0) : Type 0 wher
   pub order : refusal (some (lent k)) (k .circuit) (k .script) ≡ 0 → Whole-run-in-order (lent k) (length (k .log)) (k .circuit) (k .script)
   -- document 02, K13: where it is not refused, no unit of the run reads, when it begins, a value left from before. Like `order`, a theorem about the definition.
   pub begins-fresh : refusal (some (lent k)) (k .circuit) (k .script) ≡ 0 → Whole-run-fresh (length (k .log)) (k .circuit) (k .script)
+  -- document 02, K2: where it is not refused, every watched input waits from the start and is read as tick 1 opens, as a change, and what this raises begins in its main pass. Likewise.
+  pub notices : refusal (some (lent k)) (k .circuit) (k .script) ≡ 0 → Start-noticed (circuit (words (k .circuit)))
 
 -- the same of a contract's slices
 abbrev pub Right-call : Slice → Slice → Slice → Slice → Slice → Slice → (Answer → Type 0) → Type 0

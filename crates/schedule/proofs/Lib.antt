@@ -16,6 +16,8 @@ pub mod Fresh
 pub mod Carry
 -- raised as told, and the worlds of a run: `follows`
 pub mod Told
+-- what the opening raises to pending begins in the main pass: `begins-pending`
+pub mod Pending
 -- (a) to (e) of a tick, and of a run: `order`
 pub mod Whole
 -- with identities and without: `erasure`

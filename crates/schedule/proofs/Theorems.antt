@@ -1,11 +1,12 @@
 -- The theorems of the scheduler. What they say is defined in specs/: the runs in Schedule, `Order` and `Follows` in Promise, `bare-tick` in Erasure, `Few-units` in Limits,
--- `Tick-keeps`, `Tick-begins` and `Ticks-alike` in Keeping.
+-- `Begins-pending` in Pending, `Tick-keeps`, `Tick-begins` and `Ticks-alike` in Keeping.
 use mathlib.Core.Path.{_≡_}
 use mathlib.Core.List.{List, map}
 use Rattle.schedule.specs.Schedule.{Machine, Outcome, Setup, numbered, plain, Activation, Tick, tick, run}
 use Rattle.schedule.specs.Promise.{All, Order, Follows, Ran-as-told}
 use Rattle.schedule.specs.Erasure.{bare-tick}
 use Rattle.schedule.specs.Limits.{Few-units}
+use Rattle.schedule.specs.Pending.{Begins-pending}
 use Rattle.schedule.specs.Keeping.{Did-keep, Tick-keeps, Did-bring, Tick-begins, Did-alike, Ticks-alike}
 use Rattle.schedule.proofs.Whole.{order as run-order}
 use Rattle.schedule.proofs.Erase.{erasure as run-erasure}
@@ -15,6 +16,7 @@ use Rattle.schedule.proofs.Keeps.{run-keeps as kept-in-run}
 use Rattle.schedule.proofs.Begins.{run-begins as begun-in-run}
 use Rattle.schedule.proofs.Alike.{tick-alike as opened-alike}
 use Rattle.schedule.proofs.Limits.{limited as run-limited}
+use Rattle.schedule.proofs.Pending.{begins-pending as pending-begins}
 
 -- The order promise holds of every run of every machine.
 pub order : (M : Machine) (is : List (M .In)) (w : M .W) → Order M (run (numbered M) is w)
@@ -31,6 +33,10 @@ erasure = run-erasure
 -- Every tick of a run keeps to three of the limits.
 pub limited : (S : Setup) (is : List (S .machine .In)) (w : S .machine .W) → All (Few-units S) (run S is w)
 limited = run-limited
+
+-- What the opening of a tick raises for the main pass begins in it, if there is no stop.
+pub begins-pending : (S : Setup) (w : S .machine .W) (i : S .machine .In) (came : List (Activation S)) (t : S .Tag) → Begins-pending S w i (tick S w i came t)
+begins-pending = pending-begins
 
 -- A unit that is said to have run is one whose body came to no stop of its own.
 pub ran-as-told :

@@ -73,7 +73,7 @@ module _ (S : Setup) where
     passes-from (done k) h = refl
     passes-from (turn k f b e r) h = refl
 
-    passes-end : {t t₁ : Tag} {q q₁ : Q} {s s₁ : ℕ} {us : List (Turn S)} → Passes S next activate t q s us t₁ q₁ s₁ → s₁ ≡ 0 → next q₁ ≡ empty
+    pub passes-end : {t t₁ : Tag} {q q₁ : Q} {s s₁ : ℕ} {us : List (Turn S)} → Passes S next activate t q s us t₁ q₁ s₁ → s₁ ≡ 0 → next q₁ ≡ empty
     passes-end broke h = let z : ⊥ = omega arith in absurd z
     passes-end (done k) h = k
     passes-end (turn k f b e r) h = passes-end r h
@@ -100,7 +100,7 @@ module _ (S : Setup) where
         go [] (e ∷ d) h = cc
         go (e ∷ l) d h = cc
 
-    main-none : (q : MainQ (Activation S)) → next-main S q ≡ empty → total m (q .pending) ≡ 0
+    pub main-none : (q : MainQ (Activation S)) → next-main S q ≡ empty → total m (q .pending) ≡ 0
     unfolding next-main
     main-none q h = go (q .pending) (q .carried) h
       where

@@ -19,8 +19,8 @@ use Rattle.model.specs.Kinds.{Kind, kind-at, table, kinds-opened}
 use Rattle.model.specs.Circuit.{Circuit, kind-of-gate, input, output, inputs-of, source, stored-in, gate-at-output, gates}
 use Rattle.model.specs.State.{Wires, outs≔, dirty≔}
 use Rattle.model.specs.Wires.{shown, show, is-dirty, clean, look, compute, recompute, behind, refresh-to, refresh, refresh-all, ready}
-use Rattle.model.proofs.Lists.{both-true, each-keeps}
-use Rattle.model.proofs.Sized.{behind-keeps}
+use Rattle.model.proofs.Lists.{both-true}
+use Rattle.model.proofs.Sized.{refresh-keeps}
 use Rattle.links.specs.declared.Read.{Read}
 use Rattle.links.specs.declared.Read.the-variants.{Output, Nothing as NoOutput}
 use Rattle.links.specs.Links.{cell, net, output-read}
@@ -166,20 +166,6 @@ unmarked (b ∷ bs) (suc g) zero e = e
 unmarked (b ∷ bs) (suc g) (suc h) e = unmarked bs g h e
 
 module _ (c : Circuit) where
-  -- what recomputing keeps, refreshing keeps
-  pub refresh-to-keeps : (P : Wires → Type 0) → ((w : Wires) (g : ℕ) → P w → P (recompute c w g)) → (n : ℕ) (w : Wires) (g : ℕ) → P w → P (refresh-to c n w g)
-  unfolding refresh-to
-  refresh-to-keeps P again zero w g p = p
-  refresh-to-keeps P again (suc n) w g p =
-      go (is-dirty w g)
-      (each-keeps P (behind c (λ v h. refresh-to c n v h)) (behind-keeps c P (λ v h. refresh-to c n v h) (λ v h q. refresh-to-keeps P again n v h q)) w (inputs-of c g) p)
-    where
-      go :
-          (b : Bool) → P (each (behind c (λ v h. refresh-to c n v h)) w (inputs-of c g)) →
-          P (elim b as (λ _. Wires) [ true ↦ recompute c (each (behind c (λ v h. refresh-to c n v h)) w (inputs-of c g)) g | false ↦ w ])
-      go true q = again _ g q
-      go false q = p
-
   -- what is fresh in w is fresh in v
   abbrev As-fresh : Wires → Wires → Type 0
   As-fresh w v = (g : ℕ) → is-dirty w g ≡ false → is-dirty v g ≡ false
@@ -191,7 +177,7 @@ module _ (c : Circuit) where
   refresh-by-marks : (w : Wires) (d : ℕ) → length (c .kinds) ≤ 64 → digits (length (c .kinds)) d ≡ w .dirty → each (refresh c) w (places 0 (digits 64 d)) ≡ refresh-all c w
   unfolding refresh-all refresh gates
   refresh-by-marks w d l e =
-      each-by-marks (As-fresh w) (refresh c) (λ v g p. refresh-to-keeps (As-fresh w) (recompute-fresh w) (length (c .kinds)) v g p) (length (c .kinds)) (digits 64 d)
+      each-by-marks (As-fresh w) (refresh c) (refresh-keeps c (As-fresh w) (λ _. Unit {0}) (λ _ _ _ _. tt) (λ v g _. recompute-fresh w v g)) (length (c .kinds)) (digits 64 d)
       (omega (arith, digits-length 64 d)) (λ v g h p. refresh-fresh c (length (c .kinds)) v g (p g (past g h)))
       (λ v g h p. refresh-fresh c (length (c .kinds)) v g (p g (other g h))) w (λ g q. q)
     where

@@ -1,9 +1,8 @@
--- The wires at the start of a run: the area cleared, gates prepared, last values noted.
+-- The wires at the start of a run: the area cleared, gates prepared, first checks awaited.
 use Prim.Native.Nat.{ℕ, zero, suc, _+_, _≤_, _<_, min}
 use mathlib.Core.Path.{_≡_, refl, sym, ap, ap₂, _∙_}
 use mathlib.Core.Bool.{Bool, true, false}
 use mathlib.Core.List.{List, [], _∷_, _++_, map, append-assoc}
-use mathlib.Core.Option.{Option, none, some}
 use native.Mathlib.Nat.{zero-add, suc-add}
 use native.Mathlib.Numerals.{add-one}
 use native.Mathlib.Omega.{arith}
@@ -20,17 +19,16 @@ use Rattle.model.specs.Base.{if_then_else_, both, keep, each, from}
 use Rattle.model.specs.Value.{value-of}
 use Rattle.wires.specs.Held.{held-by, held}
 use Rattle.model.specs.Kinds.{pure}
-use Rattle.model.specs.Circuit.{Circuit, kind-of-gate, output, setting, watching, gates, gates-of, gates-such}
-use Rattle.model.specs.State.{Wires, outs≔, dirty≔, last≔}
-use Rattle.model.specs.Wires.{shown, show, clean, soil, look, recompute, refresh, refresh-all}
+use Rattle.model.specs.Circuit.{Circuit, kind-of-gate, output, setting, watching, gates-of, gates-such}
+use Rattle.model.specs.State.{Wires, outs≔, dirty≔}
+use Rattle.model.specs.Wires.{show, soil, watch, refresh-all}
 use Rattle.model.specs.Opening.{wires-fresh, wires-at-start}
-use Rattle.model.proofs.Lists.{both-true, each-keeps, from-length, map-from}
+use Rattle.model.proofs.Lists.{both-true, each-such, from-length, map-from}
 use Rattle.links.specs.Links.{cell, net}
 use Rattle.links.proofs.Reading.{inputs-counted, outputs-counted}
 use Rattle.wires.specs.View.{sizes, of, cut, last-of, pulse-of, Values, with-wires, values}
 use Rattle.wires.specs.Marking.{Area, area-with, area}
-use Rattle.wires.specs.Start.{blank, prepared, noted}
-use Rattle.wires.proofs.Recomputing.{refresh-to-keeps}
+use Rattle.wires.specs.Start.{blank, prepared, awaited}
 
 -- ---- the area cleared
 
@@ -245,71 +243,25 @@ module _ (c : Circuit) where
         let u : eqb (kind-of-gate c g) 5 ≡ false = ne-eqb (kind-of-gate c g) 5 (λ q. f (ek ∙ q)) in
         rw (t, u)
 
-  -- ---- last values noted
-
-  unfoldable note-last : Wires → List (Option Value) → ℕ → List (Option Value)
-  note-last w l i = if watching c i then set l i (some (look c w i)) else l
-
-  look-last : (w : Wires) (l : List (Option Value)) (i : ℕ) → look c (last≔ w l) i ≡ look c w i
-  unfolding look shown last≔
-  look-last w l i = refl
-
-  noted-list : (w : Wires) (l : List (Option Value)) (is : List ℕ) → each (noted c) (last≔ w l) is ≡ last≔ w (each (note-last w) l is)
-  unfolding each noted note-last if_then_else_ last≔
-  noted-list w l [] = refl
-  noted-list w l (i ∷ is) = go (watching c i) refl (λ r. noted-list w r is)
-    where
-      go :
-          (b : Bool) → watching c i ≡ b → ((r : List (Option Value)) → each (noted c) (last≔ w r) is ≡ last≔ w (each (note-last w) r is)) →
-          each (noted c) (last≔ w l) (i ∷ is) ≡ last≔ w (each (note-last w) l (i ∷ is))
-      go true e rec = rw (e, each) (ap (λ (x : Value). each (noted c) (last≔ w (set l i (some x))) is) (look-last w l i) ∙ rec (set l i (some (look c w i))))
-      go false e rec = rw (e, each) (rec l)
-
-  noted-all :
-      (w : Wires) → w .last ≡ replicate (length (c .pins)) none →
-      each (noted c) w (from 0 (length (c .pins))) ≡ last≔ w (map (λ i. if watching c i then some (look c w i) else none) (from 0 (length (c .pins))))
-  noted-all w e =
-      ap (λ (u : Wires). each (noted c) u (from 0 (length (c .pins)))) same
-      ∙ noted-list w (replicate (length (c .pins)) none) (from 0 (length (c .pins)))
-      ∙ ap (last≔ w) (fill-all (λ i. if watching c i then some (look c w i) else none) none (note-last w) seam [] (length (c .pins)))
-    where
-      same : w ≡ last≔ w (replicate (length (c .pins)) none)
-      same = unfold last≔ in rw (sym e)
-
-      seam : (xs r : List (Option Value)) → note-last w (xs ++ none ∷ r) (length xs) ≡ xs ++ (if watching c (length xs) then some (look c w (length xs)) else none) ∷ r
-      seam xs r = unfold note-last in go (watching c (length xs))
-        where
-          go :
-              (b : Bool) → (if b then set (xs ++ none ∷ r) (length xs) (some (look c w (length xs))) else (xs ++ none ∷ r)) ≡ xs ++ (if b then some (look c w (length xs)) else none) ∷ r
-          go true = unfold if_then_else_ in set-append-seam xs none r (some (look c w (length xs)))
-          go false = unfold if_then_else_ in refl
-
-  fresh-last : wires-fresh c .last ≡ replicate (length (c .pins)) none
-  unfolding wires-fresh refresh-all refresh
-  fresh-last =
-      each-keeps (λ (v : Wires). v .last ≡ replicate (length (c .pins)) none) (refresh c)
-      (λ v g p. refresh-to-keeps c (λ (u : Wires). u .last ≡ replicate (length (c .pins)) none) (λ u j q. again u j ∙ q) (length (c .kinds)) v g p) _ (gates c) refl
-    where
-      again : (v : Wires) (g : ℕ) → recompute c v g .last ≡ v .last
-      again v g = unfold recompute clean show dirty≔ outs≔ in refl
+  -- ---- first checks
 
   pub started :
       (bs : List ℕ) (v₁ v₂ v₃ v₄ : Values) → v₁ ≡ with-wires (values c bs) (blank c) → v₂ ≡ with-wires v₁ (each (prepared c) (v₁ .wires) (from 0 (length (c .kinds)))) →
-      v₃ ≡ with-wires v₂ (refresh-all c (v₂ .wires)) → v₄ ≡ with-wires v₃ (each (noted c) (v₃ .wires) (from 0 (length (c .pins)))) →
+      v₃ ≡ with-wires v₂ (refresh-all c (v₂ .wires)) → v₄ ≡ with-wires v₃ (each (awaited c) (v₃ .wires) (from 0 (length (c .pins)))) →
       v₄ ≡ with-wires (values c bs) (wires-at-start c)
-  unfolding wires-at-start
+  unfolding wires-at-start awaited
   started bs v₁ v₂ v₃ v₄ e₁ e₂ e₃ e₄ =
       let p : v₂ ≡ with-wires (values c bs) (each (prepared c) (blank c) (from 0 (length (c .kinds)))) = e₂ ∙ ap (λ (u : Values). with-wires u (each (prepared c) (u .wires) (from 0 (length (c .kinds))))) e₁ in
       let q : v₃ ≡ with-wires (values c bs) (wires-fresh c) = e₃ ∙ ap (λ (u : Values). with-wires u (refresh-all c (u .wires))) p ∙ ap (with-wires (values c bs)) prepared-blank in
-      e₄ ∙ ap (λ (u : Values). with-wires u (each (noted c) (u .wires) (from 0 (length (c .pins))))) q ∙ ap (with-wires (values c bs)) (noted-all (wires-fresh c) fresh-last)
+      e₄ ∙ ap (λ (u : Values). with-wires u (each (awaited c) (u .wires) (from 0 (length (c .pins))))) q
+      ∙ ap (with-wires (values c bs)) (each-such (watching c) watch (wires-fresh c) (from 0 (length (c .pins))))
 
-  module _ (v : Values) (i : ℕ) (t : Bool) (et : t ≡ watching c i) where
-    pub note-in : (v₁ : Values) (x : Value) → t ≡ true → x ≡ look c (v .wires) i → v₁ ≡ with-wires v (last≔ (v .wires) (set (v .wires .last) i (some x))) → v₁ ≡ with-wires v (noted c (v .wires) i)
-    unfolding noted if_then_else_
-    note-in v₁ x h ex e =
-        let q : watching c i ≡ true = sym et ∙ h in
-        rw q (e ∙ ap (λ (y : Value). with-wires v (last≔ (v .wires) (set (v .wires .last) i (some y)))) ex)
+  pub await-in :
+      (bs bs₁ : List ℕ) (i : ℕ) (b : Bool) → b ≡ watching c i → b ≡ true → area c bs₁ ≡ area-with (area c bs) (watch (area c bs .values .wires) i) →
+      values c bs₁ ≡ with-wires (values c bs) (awaited c (values c bs .wires) i)
+  unfolding awaited if_then_else_ area
+  await-in bs bs₁ i b eb h e = let q : watching c i ≡ true = sym eb ∙ h in rw q (ap (λ (a : Area). a .values) e)
 
-    pub note-not : t ≡ false → v ≡ with-wires v (noted c (v .wires) i)
-    unfolding noted if_then_else_
-    note-not h = let q : watching c i ≡ false = sym et ∙ h in rw q
+  pub await-not : (v : Values) (i : ℕ) (b : Bool) → b ≡ watching c i → b ≡ false → v ≡ with-wires v (awaited c (v .wires) i)
+  unfolding awaited if_then_else_
+  await-not v i b eb h = let q : watching c i ≡ false = sym eb ∙ h in rw q

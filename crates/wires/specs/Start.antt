@@ -2,15 +2,15 @@
 use Prim.Native.Nat.{ℕ}
 use mathlib.Core.Bool.{false}
 use mathlib.Core.List.{[]}
-use mathlib.Core.Option.{none, some}
+use mathlib.Core.Option.{none}
 use lib.Dec.{eqb}
-use lib.ListN.{length, set, replicate}
+use lib.ListN.{length, replicate}
 use Rattle.model.specs.declared.Value.the-variants.{Nothing}
 use Rattle.model.specs.Base.{if_then_else_}
 use Rattle.model.specs.Kinds.{pure}
 use Rattle.model.specs.Circuit.{Circuit, kind-of-gate, output, setting, watching}
-use Rattle.model.specs.State.{Wires, last≔}
-use Rattle.model.specs.Wires.{show, soil, look}
+use Rattle.model.specs.State.{Wires}
+use Rattle.model.specs.Wires.{show, soil, watch}
 
 -- nothing shown, stale, waiting or remembered
 unfoldable pub blank : Circuit → Wires
@@ -37,6 +37,6 @@ module _ (c : Circuit) where
       else if eqb (kind-of-gate c g) 5 then show w (output c g 0) (setting c g 0)
       else w
 
-  -- the last value of a watched input is what it reads
-  unfoldable pub noted : Wires → ℕ → Wires
-  noted w i = if watching c i then last≔ w (set (w .last) i (some (look c w i))) else w
+  -- a watched input waits for its first check
+  unfoldable pub awaited : Wires → ℕ → Wires
+  awaited w i = if watching c i then watch w i else w

@@ -3,11 +3,10 @@ ghost use lib.ListN.{length};
 ghost use Rattle.model.specs.Base.{each, from};
 ghost use Rattle.model.specs.Opening.{wires-at-start};
 ghost use Rattle.links.specs.Lent.{Linked, Room};
-ghost use Rattle.wires.specs.Start.{blank, prepared, noted};
+ghost use Rattle.wires.specs.Start.{blank, prepared, awaited};
 ghost use Rattle.wires.specs.Lent.{Turns};
-use crate::checks::set_last;
+use crate::checks::watch;
 use crate::layout::TABLES;
-use crate::reading::look;
 use crate::reading::show;
 use crate::refreshing::refresh_all;
 use crate::stale::soil;
@@ -61,26 +60,25 @@ fn prepare_all(links: &[usize], values: &mut [u8])
     }
 }
 
-// The last value of input i, if it is watched, is what it reads.
-fn note(links: &[usize], values: &mut [u8], i: usize)
+// Input i, if it is watched, waits for its first check.
+fn await_check(links: &[usize], values: &mut [u8], i: usize)
     requires { ⌜ Linked links × Room values ⌝ }
-    ensures { λ _. ⌜ Turns links values (λ c w. noted c w i) ⌝ }
+    ensures { λ _. ⌜ Turns links values (λ c w. awaited c w i) ⌝ }
 {
     if watching(links, i) {
-        let v = look(links, values, i);
-        set_last(links, values, i, v);
+        watch(links, values, i);
     }
 }
 
-// The last value of every watched input is what it reads.
-fn note_all(links: &[usize], values: &mut [u8])
+// Every watched input waits for its first check, in ascending gate and input.
+fn await_checks(links: &[usize], values: &mut [u8])
     requires { ⌜ Linked links × Room values ⌝ }
-    ensures { λ _. ⌜ Turns links values (λ c w. each (noted c) w (from 0 (length (c .pins)))) ⌝ }
+    ensures { λ _. ⌜ Turns links values (λ c w. each (awaited c) w (from 0 (length (c .pins)))) ⌝ }
 {
     let n = inputs(links);
     let mut i = 0;
     while i < n {
-        note(links, values, i);
+        await_check(links, values, i);
         i += 1;
     }
 }
@@ -93,5 +91,5 @@ pub fn start(links: &[usize], values: &mut [u8])
     clear(links, values);
     prepare_all(links, values);
     refresh_all(links, values);
-    note_all(links, values);
+    await_checks(links, values);
 }

@@ -99,13 +99,14 @@ fn follow(c: &mut Circuit, gate: Gate) {
     }
 }
 
-/// Each World event alone, then all together, then all back to 0.
+/// The first checks, then each World event alone, then all together, then
+/// all back to 0.
 fn script(c: &mut Circuit, worlds: &[Gate]) -> Script {
     let values = [Value::Int(2), Value::Float(0.5), Value::Bool(true), Value::Int(-1)];
     let names: Vec<i64> = values.into_iter().map(|v| c.constant(v)).collect();
     let zero = c.constant(0);
     let mut s = Script::new();
-    s.tick(0.25);
+    s.first_checks(3, 0.25);
     for (k, &world) in worlds.iter().enumerate() {
         s.tick(0.25).give(world, names[k % names.len()]);
     }

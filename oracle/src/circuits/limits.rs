@@ -102,7 +102,7 @@ fn pending_at_the_opening(past: usize) -> Case {
         c.change_detector(0, delta);
     }
     let mut s = Script::new();
-    s.tick(0.25);
+    s.first_checks(1, 0.0).tick(0.25);
     edge("pending-at-the-opening", 256, past, "pending units raised by the opening's settling", &c, &s)
         .tells(&[33])
 }
@@ -113,7 +113,7 @@ fn late(past: usize) -> Case {
     let last = c.world_event(0);
     flips(&mut c, vec![world, last], 32, [1, 2], past);
     let mut s = Script::new();
-    s.tick(0.25);
+    s.first_checks(1, 0.25).tick(0.25);
     for _ in 0..7 {
         s.fire(world);
     }
@@ -352,7 +352,7 @@ fn units_late(past: usize) -> Case {
     let last = c.world_event(1);
     flips(&mut c, vec![world, last], 15, [0, 0], past);
     let mut s = Script::new();
-    s.tick(0.25);
+    s.first_checks(1, 0.25).tick(0.25);
     for _ in 0..63 {
         s.fire(world);
     }
@@ -368,7 +368,7 @@ fn units_main(past: usize) -> Case {
         c.clock(0, 0.25);
     }
     let mut s = Script::new();
-    s.tick(0.25);
+    s.first_checks(1, 0.0).tick(0.25);
     for _ in 0..64 {
         s.fire(world);
     }

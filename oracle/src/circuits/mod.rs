@@ -8,6 +8,7 @@ mod list;
 mod places;
 mod played;
 mod questions;
+mod start;
 mod traps;
 mod vehicles;
 
@@ -31,6 +32,11 @@ pub fn groups() -> Vec<Group> {
             played::cases(),
         ),
         group("traps", "One circuit or more for each place where a port goes wrong.", traps::cases()),
+        group(
+            "start",
+            "What is in place at the start is noticed in tick 1 (document 02, K2).",
+            start::cases(),
+        ),
         group("kinds", "Every kind and every pin.", kinds::cases()),
         group("limits", "Every limit at its edge and one past it.", limits::cases()),
         group(

@@ -2,7 +2,7 @@
 
 /// Each in short; a case names the places that it tells by their numbers,
 /// from 1.
-pub const PLACES: [&str; 47] = [
+pub const PLACES: [&str; 50] = [
     "Settling refreshes stale gates once, before its checks. A pulse raised by a check leaves gates \
      stale, and a later VarSet is seen through them at once.",
     "Refreshing a gate refreshes all its stale pure sources, the unchosen side of a Select too.",
@@ -70,6 +70,11 @@ pub const PLACES: [&str; 47] = [
     "Stimuli without a tick are refused as 9.",
     "The zero wait of kinds 11 and 13 is asked about and never used.",
     "Every printed line ends with byte 10, the last too.",
+    "At the start every watched input waits to be checked, by gate, then input, one without a source \
+     too. A first reading is a change, nothing included.",
+    "First checks are made in tick 1's opening, behind Clocks and with tick 1's time. What they raise \
+     waits for the main pass; what the late pass changes is checked again.",
+    "A value buffer whose first reading is nothing is in flight with it.",
 ];
 
 /// Places that no circuit can tell, and how they are held.

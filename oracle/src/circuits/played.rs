@@ -39,7 +39,7 @@ fn rank_4_raises(name: &str, shows: &str, rank: i64) -> Case {
     c.change_detector(rank, toggle);
     c.call(clock, toggle);
     let mut s = Script::new();
-    s.tick(1.0).tick(0.25);
+    s.first_checks(1, 0.0).tick(1.0).tick(0.25);
     Case::new(name, shows, &c, &s).tells(&[24])
 }
 
@@ -184,7 +184,7 @@ fn carry_below() -> Case {
     }
     c.call(clock, toggle);
     let mut s = Script::new();
-    s.ticks(3, 0.25);
+    s.first_checks(1, 0.0).ticks(3, 0.25);
     let shows = "Wrong: carrying only ranks below the cursor. Ranks 3 and 4 are carried, 5 is not.";
     Case::new("wrong-carry-below", shows, &c, &s).tells(&[20])
 }

@@ -118,6 +118,11 @@ impl Played {
         self.ticks[tick - 1].main.iter().map(|u| u.0).collect()
     }
 
+    /// How many units the run began.
+    pub fn begun(&self) -> usize {
+        self.ticks.iter().map(|t| t.late.len() + t.main.len()).sum()
+    }
+
     /// The ticks in which a gate began, once each.
     pub fn begun_in(&self, gate: usize) -> Vec<usize> {
         let began =

@@ -48,6 +48,7 @@ returns c =
       delays = e .delays;
       order = e .order;
       begins-fresh = e .begins-fresh;
+      notices = e .notices;
     }
 
 pub hazhirun-run-spec : {M : Type 1} → statement M

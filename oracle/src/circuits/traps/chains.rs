@@ -116,7 +116,7 @@ fn published_once() -> Case {
     let set_again = c.var_set(0, first, 2);
     c.chain(&[world, set_first, set_second, set_again]);
     let mut s = Script::new();
-    s.tick(0.25).fire(world).tick(0.25);
+    s.first_checks(1, 0.25).tick(0.25).fire(world).tick(0.25);
     let shows = "A variable written twice is published once, at its first place: gates begin 0, 4, 3.";
     Case::new("published-once", shows, &c, &s).tells(&[25])
 }
@@ -131,7 +131,7 @@ fn published_after_outputs() -> Case {
     let set = c.var_set(0, var, 1);
     c.chain(&[world, set, toggle]);
     let mut s = Script::new();
-    s.tick(0.25).fire(world).tick(0.25);
+    s.first_checks(1, 0.25).tick(0.25).fire(world).tick(0.25);
     let shows = "A variable's watchers are queued when its write is published, after those of the chain's outputs: 0, 4, 3.";
     Case::new("published-after-outputs", shows, &c, &s).tells(&[25])
 }
@@ -146,7 +146,7 @@ fn published_though_equal() -> Case {
     c.chain(&[world, set, back]);
     let five = c.constant(5);
     let mut s = Script::new();
-    s.tick(0.25).give(world, five).tick(0.25).fire(world);
+    s.first_checks(1, 0.25).tick(0.25).give(world, five).tick(0.25).fire(world);
     let shows = "A variable set and set back in one chain has not changed for its watcher.";
     Case::new("published-though-equal", shows, &c, &s).tells(&[6, 25])
 }
@@ -165,7 +165,7 @@ fn settled_once() -> Case {
     c.remote(other, toggle);
     c.call(other, toggle);
     let mut s = Script::new();
-    s.tick(0.25).fire(first).tick(0.25).fire(world).tick(0.25).fire(first);
+    s.first_checks(1, 0.25).tick(0.25).fire(first).tick(0.25).fire(world).tick(0.25).fire(first);
     let shows = "A unit settles once, after all its forks: four flips in one unit are no change.";
     Case::new("settled-once", shows, &c, &s).tells(&[6, 30])
 }
@@ -187,7 +187,7 @@ fn nothing_again() -> Case {
     c.call_all(world, &[send, set, get, queue]);
     let (zero, one) = (c.constant(0), c.constant(1));
     let mut s = Script::new();
-    s.tick(0.25).give(world, one).ticks(3, 0.25);
+    s.first_checks(2, 0.25).tick(0.25).give(world, one).ticks(3, 0.25);
     s.tick(0.25).give(world, zero).ticks(3, 0.25);
     let shows =
         "Nothing overwrites what an event, a Queue, a variable, a VarGet and a buffer show; it falls from 5.";
@@ -346,7 +346,7 @@ fn what_costs_a_step() -> Case {
     c.call_all(world, &[union, union, send, send, later, queue, watch]);
     let one = c.constant(1);
     let mut s = Script::new();
-    s.tick(0.25).give(world, one).tick(0.25).tick(0.25).fire(world);
+    s.first_checks(1, 0.25).tick(0.25).give(world, one).tick(0.25).tick(0.25).fire(world);
     let shows = "A call is a step, a blocked Union and an ignored send too; a unit begun by its pin is one, any other none.";
     Case::new("what-costs-a-step", shows, &c, &s).tells(&[29])
 }
@@ -497,7 +497,7 @@ fn start_shows_nothing() -> Case {
     c.edge(5);
     let mut s = Script::new();
     s.ticks(2, 0.25);
-    let shows = "At the start nothing is shown or waits, and a constant on a watched input is no change.";
+    let shows = "At the start no saved value is shown; a constant on a watched input is noticed in tick 1.";
     Case::new("start-shows-nothing", shows, &c, &s).tells(&[37])
 }
 

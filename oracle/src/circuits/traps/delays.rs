@@ -44,7 +44,7 @@ fn truthy_takes_the_wait() -> Case {
     let (mut c, world, mut s) = with_world();
     c.buffer_ticks(world, 3, 1);
     let (two, one) = (c.constant(2), c.constant(1));
-    s.tick(0.25).give(world, two).ticks(4, 0.25);
+    s.first_checks(2, 0.25).tick(0.25).give(world, two).ticks(4, 0.25);
     s.tick(0.25).give(world, one).ticks(4, 0.25);
     let shows = "Int 2 to Int 1 falls, but 1 is truthy: the wait counts, not the zero wait.";
     Case::new("truthy-takes-the-wait", shows, &c, &s).tells(&[14])
@@ -59,7 +59,7 @@ fn zero_waits() -> Case {
         c.buffer_ticks(world, 4, zero);
     }
     let (one, no) = (c.constant(1), c.constant(false));
-    s.tick(0.25).give(world, one).ticks(5, 0.25);
+    s.first_checks(5, 0.25).tick(0.25).give(world, one).ticks(5, 0.25);
     s.tick(0.25).give(world, no).ticks(5, 0.25);
     let shows = "A zero wait of 0 and of -0.0 is one; a negative one and nothing are none.";
     Case::new("zero-waits", shows, &c, &s).tells(&[14])
@@ -69,6 +69,7 @@ fn latest_only() -> Case {
     let (mut c, world, mut s) = with_world();
     c.buffer_ticks(world, 3, NOTHING);
     c.buffer_seconds(world, 0.75, NOTHING);
+    s.first_checks(4, 0.25);
     for n in 1..=9 {
         let name = c.constant(n);
         s.tick(0.25).give(world, name);
@@ -82,7 +83,7 @@ fn queued_by_its_own_rule() -> Case {
     let (mut c, world, mut s) = with_world();
     c.buffer_ticks(world, 3, 1);
     let (five, zero) = (c.constant(5), c.constant(0));
-    s.tick(0.25).give(world, five).tick(0.25).give(world, zero).ticks(3, 0.25);
+    s.first_checks(2, 0.25).tick(0.25).give(world, five).tick(0.25).give(world, zero).ticks(3, 0.25);
     s.tick(0.25).give(world, zero).tick(0.25).give(world, five).ticks(6, 0.25);
     let shows = "The remembered input waits by its own truthiness, first counted the tick after the landing.";
     Case::new("queued-by-its-own-rule", shows, &c, &s).tells(&[14])
@@ -92,10 +93,16 @@ fn lands_though_equal() -> Case {
     let (mut c, world, mut s) = with_world();
     c.buffer_ticks(world, 3, NOTHING);
     let (one, two, three) = (c.constant(1), c.constant(2), c.constant(3));
-    s.tick(0.25).give(world, one).tick(0.25).give(world, two).tick(0.25).give(world, one);
+    s.first_checks(4, 0.25)
+        .tick(0.25)
+        .give(world, one)
+        .tick(0.25)
+        .give(world, two)
+        .tick(0.25)
+        .give(world, one);
     s.tick(0.25).tick(0.25).give(world, three).ticks(6, 0.25);
     let shows =
-        "A remembered input equal to the one just landed flies all the same: 3 lands in tick 10, not 8.";
+        "A remembered input equal to the one just landed flies all the same: 3 lands in tick 14, not 12.";
     Case::new("lands-though-equal", shows, &c, &s).tells(&[14])
 }
 
@@ -136,7 +143,7 @@ fn tick_waits() -> Case {
         c.call(world, later);
     }
     let one = c.constant(1);
-    s.tick(0.0).give(world, one).ticks(4, 0.0);
+    s.first_checks(4, 0.0).tick(0.0).give(world, one).ticks(4, 0.0);
     let shows = "Waits of nothing, 0, 1 and less land one tick later, 2 two ticks later.";
     Case::new("tick-waits", shows, &c, &s).tells(&[16])
 }
@@ -160,7 +167,7 @@ fn second_waits() -> Case {
         c.call(world, later);
     }
     let one = c.constant(1);
-    s.tick(0.0).give(world, one).tick(0.0).tick(0.25).tick(0.0).tick(0.25).tick(3600.0);
+    s.first_checks(2, 0.5).tick(0.0).give(world, one).tick(0.0).tick(0.25).tick(0.0).tick(0.25).tick(3600.0);
     let shows =
         "Waits of 0.0 and less are over in the next tick, even one of no length; one beyond f32 never.";
     Case::new("second-waits", shows, &c, &s).tells(&[16])
@@ -173,7 +180,7 @@ fn sums_in_f32() -> Case {
     c.buffer_seconds(world, 1.0, NOTHING);
     c.call_all(world, &[later, queue]);
     let one = c.constant(1);
-    s.tick(0.1).give(world, one).ticks(12, 0.1);
+    s.first_checks(2, 1.0).tick(0.1).give(world, one).ticks(12, 0.1);
     let shows = "Seconds count in f32: ten ticks of 0.1 make 1.0.";
     Case::new("sums-in-f32", shows, &c, &s).tells(&[16])
 }
@@ -252,7 +259,7 @@ fn released_before_settling() -> Case {
     c.call(world, queue);
     c.call(changed, after);
     let (one, two) = (c.constant(1), c.constant(2));
-    s.tick(0.25).give(world, one).tick(0.25).give(world, two).ticks(2, 0.25);
+    s.first_checks(1, 0.25).tick(0.25).give(world, one).tick(0.25).give(world, two).ticks(2, 0.25);
     let shows =
         "DataOut is set as the tick opens: its watcher runs in the main pass, the Queue's own unit late.";
     Case::new("released-before-settling", shows, &c, &s).tells(&[18, 23])
@@ -299,7 +306,7 @@ fn clock_sees_this_tick() -> Case {
     c.feed(b.pin("bEnabled"), queue);
     c.feed(b.pin("IntervalSeconds"), 0.0);
     let no = c.constant(false);
-    s.tick(0.25).give(world, no).ticks(4, 0.25);
+    s.first_checks(3, 0.0).tick(0.25).give(world, no).ticks(4, 0.25);
     let shows = "Clocks see what landed and what was released in this tick.";
     Case::new("clock-sees-this-tick", shows, &c, &s).tells(&[19])
 }

@@ -42,7 +42,15 @@ fn order_in_a_late_rank() -> Case {
     c.call(clock, toggle);
     c.call(event, toggle);
     let mut s = Script::new();
-    s.tick(0.25).fire(start).tick(0.25).fire(world).tick(0.25).fire(world).fire(start).tick(0.25);
+    s.first_checks(1, 0.0)
+        .tick(0.25)
+        .fire(start)
+        .tick(0.25)
+        .fire(world)
+        .tick(0.25)
+        .fire(world)
+        .fire(start)
+        .tick(0.25);
     let shows = "In one late rank: carried, stimuli, Queues and buffers by gate, Stopwatches, then what the pass raises; the event last.";
     Case::new("order-in-a-late-rank", shows, &c, &s).tells(&[20, 27])
 }
@@ -83,7 +91,8 @@ fn time_sources_ascending() -> Case {
     c.change_detector(0, uptime);
     let mut s = Script::new();
     s.tick(0.25).tick(0.5);
-    let shows = "Time sources are made stale by gate: the watcher of gate 0 begins first, 3, then 2.";
+    let shows =
+        "Time sources are made stale by gate: in tick 2 the watcher of gate 0 begins first, 3, then 2.";
     Case::new("time-sources-ascending", shows, &c, &s).tells(&[19])
 }
 
@@ -96,7 +105,7 @@ fn late_pass_has_no_cursor() -> Case {
     }
     c.call(world, toggle);
     let mut s = Script::new();
-    s.tick(0.25).fire(world).fire(world);
+    s.first_checks(1, 0.25).tick(0.25).fire(world).fire(world);
     let shows = "In the late pass nothing is carried: ranks 0, 5 and 9 raised by rank 5 all begin in it.";
     Case::new("late-pass-has-no-cursor", shows, &c, &s).tells(&[24])
 }
@@ -111,19 +120,21 @@ fn late_unit_raises_itself() -> Case {
     c.call(world, count);
     c.chain(&[again, more, count]);
     let mut s = Script::new();
-    s.tick(0.25).fire(world).tick(0.25).tick(0.25).fire(world);
+    s.first_checks(1, 0.25).tick(0.25).fire(world).tick(0.25).tick(0.25).fire(world);
     let shows = "A late unit may raise itself again in its tick.";
     Case::new("late-unit-raises-itself", shows, &c, &s).tells(&[24])
 }
 
-/// What counts up a Cycle whose change counts it up again.
+/// What counts up a Cycle whose change counts it up again; nothing, at the
+/// first check, does not.
 fn endless(begin: impl Fn(&mut Circuit) -> Gate) -> (Circuit, Gate) {
     let mut c = Circuit::new();
     let first = begin(&mut c);
     let count = c.cycle(0, 1_000_000);
     let again = c.change_detector(3, count);
+    let more = c.branch(0, count);
     c.call(first, count);
-    c.call(again, count);
+    c.chain(&[again, more, count]);
     (c, first)
 }
 
@@ -172,7 +183,7 @@ fn carried_by_what_was_carried() -> Case {
     c.call(clock, a);
     c.call(on_a, b);
     let mut s = Script::new();
-    s.ticks(6, 0.25);
+    s.first_checks(2, 0.0).ticks(6, 0.25);
     let shows = "What a carried unit raises stays in that late pass.";
     Case::new("carried-by-what-was-carried", shows, &c, &s).tells(&[24])
 }
@@ -186,7 +197,7 @@ fn ranks_fall_in_the_late_pass() -> Case {
     c.call(high, toggle);
     c.call(mid, toggle);
     let mut s = Script::new();
-    s.tick(0.25).fire(high).fire(mid).fire(high).fire(mid);
+    s.first_checks(1, 0.25).tick(0.25).fire(high).fire(mid).fire(high).fire(mid);
     let shows = "Lowest rank waiting first: 5, 1, 5, 1, 9, 1, 9, 1.";
     Case::new("ranks-fall-in-the-late-pass", shows, &c, &s).tells(&[24])
 }
@@ -203,7 +214,7 @@ fn oldest_of_a_rank() -> Case {
     c.call_all(clock, &[toggle, count]);
     c.call(second, count);
     let mut s = Script::new();
-    s.ticks(2, 0.25);
+    s.first_checks(1, 0.0).ticks(2, 0.25);
     let shows =
         "In one rank of the main pass the first raised begins first, and a gate raised twice begins twice.";
     Case::new("oldest-of-a-rank", shows, &c, &s).tells(&[20])
@@ -222,7 +233,7 @@ fn events_after_all() -> Case {
     c.call(high, toggle);
     c.call(low, toggle);
     let mut s = Script::new();
-    s.tick(0.25).fire(world).tick(0.25).fire(world).tick(0.25);
+    s.first_checks(1, 0.25).tick(0.25).fire(world).tick(0.25).fire(world).tick(0.25);
     let shows =
         "Events run only while no ranked unit waits, each followed by all it sets off, in the order sent.";
     Case::new("events-after-all", shows, &c, &s).tells(&[27])
@@ -240,7 +251,7 @@ fn raised_in_the_main_pass() -> Case {
     c.call(clock, toggle);
     c.call(mid, count);
     let mut s = Script::new();
-    s.ticks(3, 0.25);
+    s.first_checks(2, 0.0).ticks(3, 0.25);
     let shows = "The cursor is the rank begun last: rank 5 raises 9 for this tick and carries 5 and 4.";
     Case::new("raised-in-the-main-pass", shows, &c, &s).tells(&[24])
 }
@@ -258,7 +269,7 @@ fn stopped_while_carrying() -> Case {
     c.call(bad, ring);
     c.call_all(ring, &[ring, ring]);
     let mut s = Script::new();
-    s.tick(0.25);
+    s.first_checks(1, 0.0).tick(0.25);
     let shows = "A tick stopped in its main pass records what it has carried so far.";
     Case::new("stopped-while-carrying", shows, &c, &s).tells(&[32])
 }
@@ -268,12 +279,13 @@ fn stopped_before_the_main_pass() -> Case {
     let clock = c.clock(4, 0.25);
     let toggle = c.toggle(0);
     let changed = c.change_detector(1, toggle);
+    let flipped = c.branch(0, toggle);
     let ring = c.reroute(NOTHING);
     c.call(clock, toggle);
-    c.call(changed, ring);
+    c.chain(&[changed, flipped, ring]);
     c.call_all(ring, &[ring, ring]);
     let mut s = Script::new();
-    s.ticks(2, 0.25);
+    s.first_checks(1, 0.0).ticks(2, 0.25);
     let shows = "A tick stopped in its late pass records none carried: those carried in have moved.";
     Case::new("stopped-before-the-main-pass", shows, &c, &s).tells(&[32])
 }

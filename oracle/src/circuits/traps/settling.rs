@@ -92,7 +92,7 @@ fn last_reader_first() -> Case {
     c.change_detector(0, b);
     let one = c.constant(1);
     let mut s = Script::new();
-    s.tick(0.25).give(world, one);
+    s.first_checks(1, 0.25).tick(0.25).give(world, one);
     let shows = "Marking takes the watched readers, then the last pure reader's: gates begin 0, 3, 5, 4.";
     Case::new("last-reader-first", shows, &c, &s).tells(&[3])
 }
@@ -107,7 +107,7 @@ fn diamond() -> Case {
     c.change_detector(0, b);
     let (one, two) = (c.constant(1), c.constant(2));
     let mut s = Script::new();
-    s.tick(0.25).give(world, one).tick(0.25).give(world, two).give(world, one);
+    s.first_checks(1, 0.25).tick(0.25).give(world, one).tick(0.25).give(world, two).give(world, one);
     let shows = "A pure gate reached on two ways is marked once and its watcher checked once.";
     Case::new("diamond", shows, &c, &s).tells(&[4])
 }
@@ -121,7 +121,7 @@ fn keeps_its_place() -> Case {
     c.change_detector(0, count);
     c.call_all(world, &[count, toggle, count]);
     let mut s = Script::new();
-    s.tick(0.25).fire(world).tick(0.25).fire(world);
+    s.first_checks(1, 0.25).tick(0.25).fire(world).tick(0.25).fire(world);
     let shows = "An input that is marked again keeps its place in the check queue: gates begin 0, 4, 3.";
     Case::new("keeps-its-place", shows, &c, &s).tells(&[5])
 }
@@ -136,7 +136,15 @@ fn there_and_back() -> Case {
     c.call(once, toggle);
     c.call_all(twice, &[toggle, look, toggle]);
     let mut s = Script::new();
-    s.tick(0.25).fire(twice).tick(0.25).fire(twice).tick(0.25).fire(once).tick(0.25).fire(twice);
+    s.first_checks(1, 0.25)
+        .tick(0.25)
+        .fire(twice)
+        .tick(0.25)
+        .fire(twice)
+        .tick(0.25)
+        .fire(once)
+        .tick(0.25)
+        .fire(twice);
     let shows = "There and back between two checks is no change, read in between or not; only the first, from nothing, is.";
     Case::new("there-and-back", shows, &c, &s).tells(&[6])
 }
@@ -164,6 +172,7 @@ fn pin_changes() -> Case {
     let values: [Value; 8] =
         [1.into(), 2.into(), true.into(), 1.into(), 1.0.into(), false.into(), 0.0.into(), (-0.0).into()];
     let mut s = Script::new();
+    s.first_checks(1, 0.25);
     for v in values {
         let name = c.constant(v);
         s.tick(0.25).give(world, name);
@@ -194,7 +203,7 @@ fn zero_slots() -> Case {
     c.reroute(minus_first);
     let (plus, minus) = (c.constant(0.0), c.constant(-0.0));
     let mut s = Script::new();
-    s.tick(0.0).give(plus_first, plus).give(minus_first, minus);
+    s.first_checks(1, 0.0).tick(0.0).give(plus_first, plus).give(minus_first, minus);
     s.tick(-0.0).give(plus_first, minus).give(minus_first, plus);
     s.tick(0.25).tick(-0.0);
     let shows =
@@ -212,7 +221,7 @@ fn zero_of_a_var() -> Case {
     c.change_detector(0, var);
     c.call_all(world, &[get, set, get]);
     let mut s = Script::new();
-    s.tick(0.25).fire(world).tick(0.25);
+    s.first_checks(1, 0.25).tick(0.25).fire(world).tick(0.25);
     let shows = "A Var takes -0.0 over 0.0, and a Reroute of it shows it; VarGet keeps its 0.0, and nothing counts as changed.";
     Case::new("zero-of-a-var", shows, &c, &s).tells(&[9])
 }
@@ -225,6 +234,7 @@ fn kinds_differ() -> Case {
     c.edge(world);
     c.edge_exec(2, world);
     let mut s = Script::new();
+    s.first_checks(2, 0.25);
     for v in [Value::Int(1), Value::Bool(true), Value::Float(1.0), Value::Int(1)] {
         let name = c.constant(v);
         s.tick(0.25).give(world, name).ticks(2, 0.25);
@@ -247,6 +257,7 @@ fn edges_are_floats() -> Case {
     let odd = c.constant((1 << 53) + 1);
     let (zero, five, minus) = (c.constant(0), c.constant(5), c.constant(-1));
     let mut s = Script::new();
+    s.first_checks(2, 0.25);
     s.tick(0.25).give(large, even).give(from_zero, zero).give(from_five, five);
     s.ticks(2, 0.25);
     s.tick(0.25).give(large, odd).give(from_zero, minus).give(from_five, minus);
@@ -261,11 +272,12 @@ fn pulse_extended() -> Case {
     c.change(world);
     let names = [c.constant(1), c.constant(2), c.constant(3)];
     let mut s = Script::new();
+    s.first_checks(3, 0.25);
     for name in names {
         s.tick(0.25).give(world, name);
     }
     s.ticks(3, 0.25);
-    let shows = "A pulse raised again while high lasts on: raised in 1, 2 and 3, false in 5.";
+    let shows = "A pulse raised again while high lasts on: raised in 4, 5 and 6, false in 8.";
     Case::new("pulse-extended", shows, &c, &s).tells(&[12])
 }
 
@@ -289,9 +301,9 @@ fn lowered_before_buffers() -> Case {
     c.change_detector(0, edge);
     let one = c.constant(1);
     let mut s = Script::new();
-    s.tick(0.25).give(world, one).ticks(3, 0.25);
+    s.first_checks(3, 0.25).tick(0.25).give(world, one).ticks(3, 0.25);
     let shows =
-        "Pulses are lowered before buffers land: in tick 3 the Edge's watcher begins before the buffer's.";
+        "Pulses are lowered before buffers land: in tick 6 the Edge's watcher begins before the buffer's.";
     Case::new("lowered-before-buffers", shows, &c, &s).tells(&[12, 19])
 }
 
@@ -319,7 +331,7 @@ fn lowered_by_gate_and_output() -> Case {
     c.change_detector(0, low);
     let (one, minus) = (c.constant(1), c.constant(-1));
     let mut s = Script::new();
-    s.tick(0.25).give(a, one).give(b, minus).give(b, one).ticks(3, 0.25);
+    s.first_checks(1, 0.25).tick(0.25).give(a, one).give(b, minus).give(b, one).ticks(3, 0.25);
     let shows = "Pulses that end together are lowered by gate, then output, not as raised: watchers 6, 5, 4.";
     Case::new("lowered-by-gate-and-output", shows, &c, &s).tells(&[12])
 }

@@ -12,14 +12,14 @@ prepare-all-requires c κs = search needs
 refresh-all-requires : tie.Need-refresh-all-requires
 refresh-all-requires c κs = search needs
 
-note-all-requires : tie.Need-note-all-requires
-note-all-requires c κs = search needs
+await-checks-requires : tie.Need-await-checks-requires
+await-checks-requires c κs = search needs
 
 same-length : tie.Need-same-length
 same-length c = search needs
 
 returns : tie.Need-returns
-returns c = started _ _ _ _ _ _ (c .before .before .before .before .before .before .before .before .before .before .before .before .before .before .clear .ensures) (c .before .before .before .before .before .before .before .before .before .before .prepare-all .ensures) (c .before .before .before .before .before .before .refresh-all .ensures) (c .before .before .note-all .ensures)
+returns c = started _ _ _ _ _ _ (c .before .before .before .before .before .before .before .before .before .before .before .before .before .before .clear .ensures) (c .before .before .before .before .before .before .before .before .before .before .prepare-all .ensures) (c .before .before .before .before .before .before .refresh-all .ensures) (c .before .before .await-checks .ensures)
 
 pub start-spec : {M : Type 1} → statement M
 start-spec =
@@ -28,6 +28,6 @@ start-spec =
     clear-requires
     prepare-all-requires
     refresh-all-requires
-    note-all-requires
+    await-checks-requires
     same-length
     returns)
