@@ -1,23 +1,22 @@
 -- Several calls, one after the other: the remote ones from the first on, the others from the last on; one law for each way through a loop.
 use Prim.Native.Nat.{ℕ, zero, suc, _+_, _-_, _≤_, _<_}
 use mathlib.Core.Path.{_≡_, refl, sym, ap, ap₂, _∙_}
-use mathlib.Core.Bool.{Bool, true, false, not, cond, _&&_, true≢false}
+use mathlib.Core.Bool.{Bool, true, false, not, cond, true≢false}
 use mathlib.Core.List.{List, [], _∷_, _++_, map, append-nil, append-assoc}
 use mathlib.Core.Option.{some}
 use native.Mathlib.Omega.{arith}
-use native.Mathlib.Numerals.{add-one}
-use lib.ListN.{length, length-append}
+use lib.ListN.{length-append}
 use Rattle.lists.specs.declared.Filed.{Filed}
 use Rattle.lists.specs.declared.Filed.the-variants.{Full, Done}
 use Rattle.model.specs.Base.{if_then_else_, keep, from}
-use Rattle.model.specs.Circuit.{Circuit, Call, calls-of}
+use Rattle.model.specs.Circuit.{Circuit, Call}
 use Rattle.model.specs.Chain.{Calls, no-calls, fit, push-calls}
 use Rattle.links.specs.Links.{net, call-of, target, first-call, call-count}
 use Rattle.links.proofs.Reading.{calls-row}
 use Rattle.units.specs.View.{Units, units}
 use Rattle.units.specs.Calls.{with-calls, stack≔, forks≔}
 use Rattle.chain.specs.Chain.{Pushes, calls-in, forks-behind, stack-before}
-use Rattle.chain.proofs.Fits.{fit-is, long-stack, long-forks, fits, held-fit, was-done, was-full, pushes-done, pushes-full}
+use Rattle.chain.proofs.Fits.{fit-is, fits, held-fit, was-done, was-full, pushes-done, pushes-full}
 
 -- ---- rows of calls
 

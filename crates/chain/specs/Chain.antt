@@ -1,14 +1,14 @@
 -- What the code's chain makes of the areas. After a stop the calls that were left stay open: no rule decides them, and the next unit clears them.
 use Prim.Native.Nat.{ℕ}
 use mathlib.Core.Path.{_≡_}
-use mathlib.Core.Bool.{Bool, true, not, cond, _&&_}
+use mathlib.Core.Bool.{true, not, cond, _&&_}
 use mathlib.Core.List.{List, _++_, map}
 use Rattle.lists.specs.declared.Filed.{Filed}
 use Rattle.lists.specs.declared.Filed.the-variants.{Full, Done}
 use Rattle.model.specs.Base.{keep, from}
-use Rattle.model.specs.Circuit.{Circuit, Call}
+use Rattle.model.specs.Circuit.{Call}
 use Rattle.model.specs.Exec.{Stepped}
-use Rattle.model.specs.Chain.{Calls, no-calls, fit, push-calls, Chained}
+use Rattle.model.specs.Chain.{Calls, no-calls, fit, Chained}
 use Rattle.links.specs.Links.{call-of, target}
 use Rattle.units.specs.View.{Units}
 use Rattle.units.specs.Calls as units

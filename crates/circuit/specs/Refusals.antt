@@ -1,6 +1,6 @@
 -- The questions about a circuit in groups, as they are asked: of its words alone, then of its links, which are made in between, then of the areas lent.
 use Prim.Native.Nat.{ℕ, zero, suc}
-use mathlib.Core.Bool.{Bool, not}
+use mathlib.Core.Bool.{not}
 use mathlib.Core.List.{List}
 use mathlib.Core.Option.{none, some}
 use Rattle.words.specs.Words.{words}

@@ -1,6 +1,6 @@
 -- Examples, by computation.
 use mathlib.Core.Path.{_≡_, refl}
-use mathlib.Core.List.{List, [], _∷_}
+use mathlib.Core.List.{[], _∷_}
 use Rattle.lists.specs.Lists.{downward, stacked, appended, ring, queued}
 
 -- two entries: the one that stands last is the first of a stack

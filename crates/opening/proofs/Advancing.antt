@@ -1,8 +1,8 @@
 -- Gates that move on by a tick.
 use Prim.Native.Nat.{ℕ, suc, _+_, _≤_, _<_}
 use mathlib.Core.Path.{_≡_, refl, sym, ap, subst, _∙_}
-use mathlib.Core.Bool.{Bool, true, false, _||_}
-use mathlib.Core.List.{List, [], _∷_, _++_}
+use mathlib.Core.Bool.{Bool, true, false}
+use mathlib.Core.List.{List, [], _∷_}
 use mathlib.Core.Logic.{inl, inr}
 use native.Mathlib.Omega.{arith}
 use borrow.Author.Tests.{eqb-true, eqb-false, ne-eqb}
@@ -12,7 +12,7 @@ use lib.Dec.{eqb}
 use lib.ListN.{length, getD}
 use Rattle.schedule.specs.Schedule.{Place, to-late, to-pending}
 use Rattle.lists.specs.declared.Filed.{Filed as Answer}
-use Rattle.lists.specs.declared.Filed.the-variants.{Full, Done}
+use Rattle.lists.specs.declared.Filed.the-variants.{Done}
 use Rattle.model.specs.declared.Value.{Value}
 use Rattle.model.specs.declared.Value.the-variants.{Float}
 use Rattle.model.specs.Base.{if_then_else_, both, each, from}
@@ -31,11 +31,10 @@ use Rattle.delays.specs.declared.stopwatch.Stopwatch.{Stopwatch}
 use Rattle.delays.specs.States.{row-of, stopwatch-moved}
 use Rattle.queue.specs.declared.Released.{Released}
 use Rattle.queue.specs.Queue.{queued, released}
-use Rattle.links.specs.Links.{net}
 use Rattle.wires.specs.View.{Values, with-wires}
 use Rattle.states.specs.View.{is-queue, Delays, delay-in, with-delay, delays, Lent, Moves}
 use Rattle.units.specs.View.{Units}
-use Rattle.areas.specs.Areas.{Contents, together, with-state}
+use Rattle.areas.specs.Areas.{Contents, together}
 use Rattle.opening.specs.Opening.{unopened, Opens}
 use Rattle.opening.specs.Stages.{Puts, Advances, Moves-on, landing, firing, releasing}
 use Rattle.opening.proofs.Stages.{puts-none, opens-none, advances-fire}

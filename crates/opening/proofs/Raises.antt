@@ -1,10 +1,10 @@
 -- What is raised, filed in parts: a part after a part.
-use mathlib.Core.Path.{_≡_, refl, sym, ap, _∙_}
+use mathlib.Core.Path.{_≡_, refl, sym, _∙_}
 use mathlib.Core.List.{List, [], _∷_, _++_, map}
 use mathlib.Core.Bool.{Bool, true, false}
 use denote.Enum.Declared.{tagOf}
 use types.Run.{OneOf, miss}
-use Rattle.schedule.specs.Schedule.{Raise, Place, to-late, to-delivered, to-pending, Filed, full, filed}
+use Rattle.schedule.specs.Schedule.{Raise, Place, to-pending, Filed, full, filed}
 use Rattle.lists.specs.declared.Filed.{Filed as Answer}
 use Rattle.lists.specs.declared.Filed.the-variants.{Full, Done}
 use Rattle.lists.proofs.Filed.{the-type as Answers}

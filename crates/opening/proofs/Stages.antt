@@ -1,11 +1,10 @@
 -- Parts of the opening, one after the other.
 use Prim.Native.Nat.{ℕ, _≤_, _<_}
 use mathlib.Core.Path.{_≡_, refl, sym, ap, subst, _∙_}
-use mathlib.Core.Bool.{Bool, true, false, _||_}
-use mathlib.Core.List.{List, [], _∷_, _++_, map}
-use lib.Dec.{eqb}
-use lib.ListN.{length, getD, drop}
-use Rattle.schedule.specs.Schedule.{Raise, Place, to-late, to-delivered, to-pending}
+use mathlib.Core.Bool.{Bool, true, false}
+use mathlib.Core.List.{List, [], _∷_, _++_}
+use lib.ListN.{getD, drop}
+use Rattle.schedule.specs.Schedule.{Place}
 use Rattle.lists.specs.declared.Filed.{Filed as Answer}
 use Rattle.lists.specs.declared.Filed.the-variants.{Full, Done}
 use Rattle.model.specs.Base.{if_then_else_, each}
@@ -16,8 +15,8 @@ use Rattle.links.specs.Links.{gates-of-word}
 use Rattle.links.proofs.Walking.{gates-next, gates-over}
 use Rattle.wires.specs.View.{Values}
 use Rattle.states.specs.View.{Delays}
-use Rattle.units.specs.View.{Lists, Units}
-use Rattle.units.specs.Raising.{Went, with-lists, raise-into}
+use Rattle.units.specs.View.{Units}
+use Rattle.units.specs.Raising.{with-lists, raise-into}
 use Rattle.areas.specs.Areas.{Contents, together, with-state, with-went}
 use Rattle.opening.specs.Opening.{put-to, opened-into, unopened, Opens}
 use Rattle.opening.specs.Stages.{put-all, Puts, is-full, Advances}

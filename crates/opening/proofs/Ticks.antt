@@ -1,10 +1,10 @@
 -- The stages of the opening put together.
 use Prim.Native.Nat.{ℕ}
-use mathlib.Core.Path.{_≡_, refl, sym, ap, subst, _∙_}
+use mathlib.Core.Path.{_≡_, sym, ap, subst, _∙_}
 use mathlib.Core.Bool.{Bool, true, false}
-use mathlib.Core.List.{List, [], _∷_, _++_, map}
+use mathlib.Core.List.{List, map}
 use lib.ListN.{length}
-use Rattle.schedule.specs.Schedule.{Raise, to-late, to-delivered, to-pending}
+use Rattle.schedule.specs.Schedule.{to-late, to-delivered}
 use Rattle.lists.specs.declared.Filed.{Filed as Answer}
 use Rattle.lists.specs.declared.Filed.the-variants.{Full, Done}
 use Rattle.model.specs.Base.{joined, each, from}
@@ -18,12 +18,11 @@ use Rattle.model.specs.Opening.{Opened, raised-to, next-tick, begin-tick, deliv
 use Rattle.wires.specs.View.{Values, with-wires}
 use Rattle.states.specs.View.{Delays}
 use Rattle.units.specs.declared.Place.the-variants.{Pending}
-use Rattle.units.specs.View.{Lists, Units}
-use Rattle.units.specs.Raising.{Went, with-lists, activate, raise-into}
+use Rattle.units.specs.View.{Units}
 use Rattle.units.specs.Calls.{reopened as next-units}
 use Rattle.areas.specs.Areas.{Contents, together, with-state, with-went}
 use Rattle.settling.specs.Settling.{filed-into}
-use Rattle.opening.specs.Opening.{put-to, opened-into, unopened, Opens, reopened, opened}
+use Rattle.opening.specs.Opening.{opened-into, unopened, Opens, reopened, opened}
 use Rattle.opening.specs.Stages.{Puts, is-full, arrived, lowered, advanced-all, pending-all, settled-after, finished}
 use Rattle.opening.proofs.Raises.{full-is, done-is, raise-pending}
 use Rattle.opening.proofs.Stages.{after, append-none, append-assoc, opens-state, opens-next, opens-full, opens-puts, opens-from, Adds, each-adds, buffer-adds, clock-adds, timer-adds}

@@ -1,14 +1,13 @@
 -- Laws of the slots: what loads and stores of words say about the records in the slots.
 use Prim.Native.Nat.{ℕ, suc, _+_, _-_, _*_, _≤_, _<_}
 use mathlib.Core.Path.{_≡_, refl, sym, ap, _∙_}
-use mathlib.Core.Bool.{Bool, true, false}
-use mathlib.Core.List.{List, [], _∷_, _++_, append-assoc}
+use mathlib.Core.Bool.{Bool, false}
+use mathlib.Core.List.{List, [], _∷_}
 use native.Mathlib.Omega.{arith}
-use native.Mathlib.Numerals.{add-one}
-use borrow.Author.Tests.{leb-true, leb-false}
+use borrow.Author.Tests.{leb-false}
 use lib.Dec.{leb}
-use lib.ListN.{length, getD, set, take, drop, length-drop, take-append-drop, List·getD-append}
-use lib.Seq.{drop-cons, drop-set-lt, getD-set-same, getD-set-other, getD-take, length-take-le, take-all, take-at, drop-at, drop-append-le, take-append-le, drop-drop, paste, paste-suc, drop-paste, length-paste}
+use lib.ListN.{length, getD, set, take, drop}
+use lib.Seq.{drop-cons, drop-set-lt, getD-set-same, getD-set-other, paste, length-paste}
 use Rattle.words.specs.Words.{words}
 use Rattle.words.proofs.Laws.{words-long}
 use Rattle.words.proofs.Putting.{put-here, put-before, put-apart}

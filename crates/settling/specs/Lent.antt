@@ -1,5 +1,4 @@
 -- What contracts say of settling, over the circuit of the links.
-use Prim.Native.Nat.{ℕ}
 use mathlib.Core.Path.{_≡_}
 use mathlib.Core.Option.{Option}
 use Rattle.words.specs.Slices.{Slice, before, after}

@@ -1,10 +1,8 @@
 -- What the code's check answers, and what settling leads to where what it raises is filed as it goes.
-use Prim.Native.Nat.{ℕ}
-use mathlib.Core.List.{List, [], _∷_}
-use Rattle.schedule.specs.Schedule.{Raise}
+use mathlib.Core.List.{[], _∷_}
 use Rattle.model.specs.Circuit.{Circuit}
-use Rattle.model.specs.State.{Act, State}
-use Rattle.model.specs.Settle.{Settled, settle}
+use Rattle.model.specs.State.{State}
+use Rattle.model.specs.Settle.{Settled}
 use Rattle.units.specs.declared.Place.{Place}
 use Rattle.units.specs.View.{act-of, Lists}
 use Rattle.units.specs.Raising.{activate, Went, raise-into}

@@ -1,8 +1,8 @@
 -- How the area `delays` holds the small states of the gates: a table of 64 words that says which part each Queue has, a slot of 43 words for each of 64 gates, and
 -- behind them a part of 4,354 words for each Queue.
-use Prim.Native.Nat.{ℕ, _+_, _*_, _≤_, _<_, min}
+use Prim.Native.Nat.{ℕ, _+_, _*_, _≤_, min}
 use mathlib.Core.Path.{_≡_}
-use mathlib.Core.Bool.{Bool, true, false}
+use mathlib.Core.Bool.{Bool, true}
 use mathlib.Core.List.{List, [], _++_, map}
 use mathlib.Core.Option.{Option, none, some}
 use lib.Dec.{leb, eqb}

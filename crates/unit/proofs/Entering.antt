@@ -1,23 +1,22 @@
 -- What a unit brings: one law for each way out of a function.
 use Prim.Native.Nat.{ℕ, zero, suc, _+_, _-_, _*_, _≤_, _<_, min}
-use mathlib.Core.Path.{_≡_, refl, sym, ap, ap₂, _∙_}
+use mathlib.Core.Path.{_≡_, sym, ap, ap₂, _∙_}
 use mathlib.Core.Bool.{Bool, true, false, not}
 use mathlib.Core.List.{List, [], _∷_, map}
 use native.Mathlib.Omega.{arith}
 use native.Mathlib.Numerals.{add-one}
 use borrow.Author.Tests.{eq-eqb, ne-eqb}
-use lib.Dec.{eqb}
-use lib.ListN.{length, getD, take, drop, length-take, length-drop, length-map, drop-of-length-le, List·getD-eq-default}
+use lib.ListN.{length, getD, drop, length-take, length-drop, length-map, drop-of-length-le, List·getD-eq-default}
 use lib.Seq.{drop-cons}
 use Rattle.words.specs.Words.{words}
 use Rattle.words.proofs.Laws.{words-long}
 use Rattle.words.proofs.Tables.{tables-length}
 use Rattle.model.specs.declared.Value.{Value}
 use Rattle.model.specs.declared.Value.the-variants.{Nothing}
-use Rattle.model.specs.Base.{if_then_else_, both, from}
+use Rattle.model.specs.Base.{if_then_else_, from}
 use Rattle.model.specs.Value.{value-of}
 use Rattle.model.specs.Circuit.{Circuit, part, output}
-use Rattle.model.specs.State.{Wires, Send}
+use Rattle.model.specs.State.{Send}
 use Rattle.model.specs.Wires.{set-out, set-outs}
 use Rattle.model.proofs.Lists.{both-length}
 use Rattle.wires.specs.View.{Values, with-wires, values}

@@ -1,6 +1,6 @@
 -- The end of a unit, and the whole of it: one law for each way out of a function.
 use Prim.Native.Nat.{ℕ}
-use mathlib.Core.Path.{_≡_, refl, sym, ap, ap₂, _∙_, subst}
+use mathlib.Core.Path.{_≡_, refl, ap, ap₂, _∙_, subst}
 use mathlib.Core.Bool.{Bool, true, false}
 use mathlib.Core.List.{List}
 use borrow.Author.Tests.{eq-eqb, ne-eqb}
@@ -11,7 +11,7 @@ use Rattle.model.specs.Base.{if_then_else_}
 use Rattle.model.specs.Circuit.{Circuit, output}
 use Rattle.model.specs.State.{Act, State, wires≔}
 use Rattle.model.specs.Wires.{set-outs}
-use Rattle.model.specs.Chain.{Calls, no-calls, Chained, run-chain}
+use Rattle.model.specs.Chain.{no-calls, Chained, run-chain}
 use Rattle.model.specs.Settle.{publish-writes, settle}
 use Rattle.model.specs.Unit.{begin, enter}
 use Rattle.wires.specs.View.{Values, with-wires, values}
@@ -19,7 +19,7 @@ use Rattle.units.specs.declared.Place.{Place}
 use Rattle.units.specs.View.{Lists, Units, units}
 use Rattle.units.specs.Calls as on-units
 use Rattle.units.specs.Raising.{Went}
-use Rattle.states.specs.View.{Delays, delays}
+use Rattle.states.specs.View.{delays}
 use Rattle.areas.specs.Areas.{Kept, Contents, together, areas, with-state, with-calls, with-went}
 use Rattle.settling.specs.Settling.{filed-into}
 use Rattle.chain.specs.declared.Ran.{Ran}

@@ -20,7 +20,7 @@ use Rattle.model.specs.Circuit.{Circuit, part}
 use Rattle.model.specs.State.{Send}
 use Rattle.units.specs.View.{Tables, Units, cut, event-of, event-at, half-at, events-of, second-half, units-of, units}
 use Rattle.units.specs.Calls.{with-outbox, sent}
-use Rattle.units.proofs.Lending.{to, with-table, cut-poke, cut-peek, sized}
+use Rattle.units.proofs.Lending.{with-table, cut-poke, cut-peek, sized}
 
 -- ---- numbers in a row
 

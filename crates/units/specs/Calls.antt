@@ -1,7 +1,7 @@
 -- What the functions of the area change and answer, beside what is raised: calls, units begun, events.
-use Prim.Native.Nat.{ℕ, suc}
-use mathlib.Core.Bool.{Bool, cond, _||_}
-use mathlib.Core.List.{List, [], _∷_, _++_, map}
+use Prim.Native.Nat.{ℕ}
+use mathlib.Core.Bool.{cond, _||_}
+use mathlib.Core.List.{List, [], _∷_, map}
 use mathlib.Core.Option.{Option, none, some}
 use lib.Dec.{leb, ltb}
 use lib.ListN.{length}
@@ -12,7 +12,7 @@ use Rattle.lists.specs.declared.Taken.the-variants.{Empty, Entry}
 use Rattle.model.specs.Base.{if_then_else_, snoc, among}
 use Rattle.model.specs.Circuit.{Circuit, most-gates}
 use Rattle.model.specs.State.{Act, Send}
-use Rattle.model.specs.Chain.{Calls, no-calls, Popped, pop, most-calls}
+use Rattle.model.specs.Chain.{Calls, no-calls, Popped, most-calls}
 use Rattle.units.specs.View.{Begun, Units}
 use Rattle.units.specs.Raising.{all-by-rank}
 

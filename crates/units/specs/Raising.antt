@@ -1,9 +1,7 @@
 -- Where what is raised goes: `activate`, over lists of what waits, and raising one after the other, up to the first that finds its list full.
-use Prim.Native.Nat.{ℕ}
-use mathlib.Core.Bool.{Bool, true, false, cond}
-use mathlib.Core.List.{List, [], _∷_, _++_}
-use lib.Dec.{leb, ltb}
-use lib.ListN.{length}
+use mathlib.Core.Bool.{cond}
+use mathlib.Core.List.{List, [], _∷_}
+use lib.Dec.{leb}
 use Rattle.schedule.specs.Schedule.{Raise, Filed, full, filed, room, most-waiting, most-delivered}
 use Rattle.lists.specs.declared.Filed.{Filed as Answer}
 use Rattle.lists.specs.declared.Filed.the-variants.{Full, Done}

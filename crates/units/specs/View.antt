@@ -1,9 +1,9 @@
 -- How the area `units` holds the lists of a tick: tables of 64-bit words, one behind the other.
-use Prim.Native.Nat.{ℕ, zero, suc, _+_, _-_, _*_, _/_, _%_, _^_, min}
+use Prim.Native.Nat.{ℕ, _+_, _-_, _*_, _/_, _%_, _^_, min}
 use mathlib.Core.Bool.{Bool, not}
 use mathlib.Core.List.{List, [], _∷_, _++_, map}
 use lib.Dec.{eqb}
-use lib.ListN.{length, getD, take, drop}
+use lib.ListN.{getD}
 use Rattle.words.specs.Words.{words, tail}
 use Rattle.words.specs.Tables.{base, tables, marked}
 use Rattle.lists.specs.Lists.{stacked, appended, ranked, queued}

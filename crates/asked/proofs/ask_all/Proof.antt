@@ -1,5 +1,5 @@
 use borrow.Author.Needs.{needs}
-use Prim.Native.Nat.{_-_, _≤_}
+use Prim.Native.Nat.{_-_}
 use Rattle.asked.proofs.ask_all.Statement.{statement}
 use Rattle.asked.proofs.ask_all.Tie as tie
 use Rattle.asked.proofs.ask_all.Reads as reads

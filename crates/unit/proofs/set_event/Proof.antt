@@ -7,7 +7,7 @@ use Rattle.model.specs.Wires.{set-outs}
 use Rattle.model.specs.State.{Send}
 use lib.ListN.{length, getD, drop}
 use mathlib.Core.List.{[], map}
-use mathlib.Core.Path.{_≡_, refl}
+use mathlib.Core.Path.{_≡_}
 use Prim.Native.Nat.{_+_, _-_, _≤_}
 use Rattle.unit.proofs.set_event.Statement.{statement}
 use Rattle.unit.proofs.set_event.Tie as tie

@@ -7,7 +7,7 @@ use Rattle.model.specs.Chain.{no-calls}
 use Rattle.links.specs.Links.{net}
 use lib.ListN.{length}
 use mathlib.Core.Path.{_≡_, refl}
-use Prim.Native.Nat.{_+_, _-_, _≤_}
+use Prim.Native.Nat.{_-_, _≤_}
 use Rattle.chain.proofs.pushing.push_stack.Statement.{statement}
 use Rattle.chain.proofs.pushing.push_stack.Tie as tie
 use Rattle.chain.proofs.pushing.push_stack.Reads as reads

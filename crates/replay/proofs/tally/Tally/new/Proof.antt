@@ -1,6 +1,5 @@
 use Rattle.replay.specs.Tally.{none-played}
 use mathlib.Core.Path.{refl}
-use borrow.Author.Needs.{needs}
 use Rattle.replay.proofs.tally.Tally.new.Statement.{statement}
 use Rattle.replay.proofs.tally.Tally.new.Tie as tie
 use Rattle.replay.proofs.tally.Tally.new.Reads as reads

@@ -1,6 +1,5 @@
 use Rattle.replay.specs.Tally.{with-cut}
 use mathlib.Core.Path.{refl}
-use borrow.Author.Needs.{needs}
 use Rattle.replay.proofs.tally.Tally.with_cut.Statement.{statement}
 use Rattle.replay.proofs.tally.Tally.with_cut.Tie as tie
 use Rattle.replay.proofs.tally.Tally.with_cut.Reads as reads
