@@ -13,7 +13,7 @@ use Rattle.model.specs.Base.{if_then_else_, keep, joined, both, from, starts, o
 use Rattle.model.specs.Value.{bit}
 use Rattle.model.specs.Kinds.{In, value, kind-at}
 use Rattle.model.specs.Circuit.{Call, Listed, minus-one, source-of, is-watched, reads, listed-call, calls-from}
-use Rattle.model.proofs.Lists.{both-length, from-length}
+use Rattle.model.proofs.Lists.{both-length, from-length, from-append}
 use Rattle.links.specs.Links.{packed, call-cell, gate-cells, listed}
 use Rattle.links.proofs.Reading.{listed-in}
 use Rattle.linking.specs.Building.{below, members, row-of, ins-at, input-cell, input-cells}
@@ -28,14 +28,6 @@ both-append h [] xs₁ [] ys₁ e = refl
 both-append h [] xs₁ (y ∷ ys) ys₁ e = absurd (omega arith)
 both-append h (x ∷ xs) xs₁ [] ys₁ e = absurd (omega arith)
 both-append h (x ∷ xs) xs₁ (y ∷ ys) ys₁ e = λ j. h x y ∷ both-append h xs xs₁ ys ys₁ (omega arith) j
-
-from-append : (a m n : ℕ) → from a (m + n) ≡ from a m ++ from (a + m) n
-unfolding from
-from-append a zero n = let e : 0 + n ≡ n = omega arith in let d : a + 0 ≡ a = omega arith in rw (e, d)
-from-append a (suc m) n =
-    let e : suc m + n ≡ suc (m + n) = omega arith in
-    let d : a + suc m ≡ suc a + m = omega arith in
-    rw (e, d) (ap (λ (r : List ℕ). a ∷ r) (from-append (suc a) m n))
 
 from-shift : {A : Type 0} (f : ℕ → A) (a n : ℕ) → map f (from (suc a) n) ≡ map (λ k. f (suc k)) (from a n)
 unfolding from

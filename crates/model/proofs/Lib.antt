@@ -74,5 +74,7 @@ pub mod Twins
 pub mod Openings
 -- the theorems: `reading-unseen`, `unread-fresh`
 pub mod Unread
+-- an input that waits until its first check
+pub mod Visiting
 -- the start is noticed in tick 1: `noticed`, `as-change`, `begins-first`
 pub mod Noticing

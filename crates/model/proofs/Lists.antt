@@ -2,7 +2,7 @@
 use mathlib.Core.Path.{_≡_, refl, sym, ap, subst, _∙_}
 use mathlib.Core.Logic.{_≢_, _⊎_, inl, inr}
 use mathlib.Core.Bool.{Bool, true, false, not, _&&_, _||_, true≢false, or-true}
-use mathlib.Core.List.{List, [], _∷_, map}
+use mathlib.Core.List.{List, [], _∷_, _++_, map}
 use Prim.Native.Nat.{ℕ, zero, suc, _+_, _-_, _≤_, _<_}
 use native.Mathlib.Nat.{add-zero, add-suc, suc-add}
 use native.Mathlib.Omega.{arith}
@@ -241,6 +241,14 @@ unfolding from
 from-length n zero = refl
 from-length n (suc k) = ap suc (from-length (suc n) k)
 
+pub from-append : (a m n : ℕ) → from a (m + n) ≡ from a m ++ from (a + m) n
+unfolding from
+from-append a zero n = let e : 0 + n ≡ n = omega arith in let d : a + 0 ≡ a = omega arith in rw (e, d)
+from-append a (suc m) n =
+    let e : suc m + n ≡ suc (m + n) = omega arith in
+    let d : a + suc m ≡ suc a + m = omega arith in
+    rw (e, d) (ap (λ (r : List ℕ). a ∷ r) (from-append (suc a) m n))
+
 -- the numbers from k on, below n: the first of them, and where there is none
 pub from-first : (k n : ℕ) → k < n → from k (n - k) ≡ k ∷ from (k + 1) (n - (k + 1))
 unfolding from
@@ -336,6 +344,15 @@ neither-among o x os n e = not-so _ λ q. go (among-either o x os q)
     go : (o ≡ x) ⊎ (among o os ≡ true) → ⊥
     go (inl p) = n p
     go (inr p) = clash p e
+
+pub keep-append : {A : Type 0} (p : A → Bool) (xs ys : List A) → keep p (xs ++ ys) ≡ keep p xs ++ keep p ys
+unfolding keep if_then_else_
+keep-append p [] ys = refl
+keep-append {A} p (x ∷ xs) ys = go (p x) (keep-append p xs ys)
+  where
+    go : (b : Bool) → keep p (xs ++ ys) ≡ keep p xs ++ keep p ys → (if b then x ∷ keep p (xs ++ ys) else keep p (xs ++ ys)) ≡ (if b then x ∷ keep p xs else keep p xs) ++ keep p ys
+    go true h = ap (λ (l : List A). x ∷ l) h
+    go false h = h
 
 pub among-keep : (p : ℕ → Bool) (x : ℕ) (xs : List ℕ) → among x xs ≡ true → p x ≡ true → among x (keep p xs) ≡ true
 unfolding keep if_then_else_

@@ -152,7 +152,7 @@ module _ (c : Circuit) where
       go [] e = refl
       go (i ∷ is) e = cc
 
-  one-waits : (n : ℕ) (z : Settled) (i : ℕ) (is : List ℕ) → z .state .wires .to-check ≡ i ∷ is → check-on c (suc n) z ≡ check-on c n (checked c z i is)
+  pub one-waits : (n : ℕ) (z : Settled) (i : ℕ) (is : List ℕ) → z .state .wires .to-check ≡ i ∷ is → check-on c (suc n) z ≡ check-on c n (checked c z i is)
   unfolding check-on
   one-waits n z i is e = go (z .state .wires .to-check) e
     where

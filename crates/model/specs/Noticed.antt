@@ -1,20 +1,21 @@
 -- What is in place at the start is noticed in tick 1 (document 02, K2): every watched input waits from the start, has its first check as tick 1 opens, and what this raises
 -- begins in the main pass.
 use mathlib.Core.Path.{_≡_}
-use mathlib.Core.Bool.{true, _&&_}
-use mathlib.Core.List.{List, [], _++_, map}
+use mathlib.Core.Bool.{true, false, _&&_}
+use mathlib.Core.List.{List, [], _∷_, _++_, map}
 use mathlib.Core.Option.{none, some}
 use Prim.Native.Nat.{ℕ, _≤_, _<_}
 use lib.Dec.{eqb}
-use lib.ListN.{length, getD, replicate}
+use lib.ListN.{length, getD, set, replicate}
 use Rattle.schedule.specs.Schedule.{Raise, Place, numbered, acts, tick}
 use Rattle.schedule.specs.Promise.{total}
 use Rattle.model.specs.declared.Value.{Value}
 use Rattle.model.specs.Base.{if_then_else_, keep, from}
 use Rattle.model.specs.Circuit.{Circuit, kind-of-gate, gate-at-input, watching}
-use Rattle.model.specs.State.{State, Act}
-use Rattle.model.specs.Settle.{check}
-use Rattle.model.specs.Opening.{start, Opened, pending, open-tick}
+use Rattle.model.specs.State.{State, Act, to-check≔, wires≔}
+use Rattle.model.specs.Wires.{refresh-all}
+use Rattle.model.specs.Settle.{Settled, calm, check, check-on}
+use Rattle.model.specs.Opening.{start, Opened, pending, before-settling, open-tick}
 use Rattle.model.specs.Run.{Allowed, machine, world-at-start}
 use Rattle.model.specs.Order.{Numbered-tick}
 
@@ -36,19 +37,38 @@ module _ (c : Circuit) where
   abbrev pub opening-1 : Allowed → Opened
   opening-1 i = open-tick c (start c) (i .given)
 
+  -- its settling, after n checks, or fewer if none waits any more
+  abbrev pub settling-1 : Allowed → ℕ → Settled
+  settling-1 i n = let s = before-settling c (start c) (i .given) .state in check-on c n (calm (wires≔ s (refresh-all c (s .wires))))
+
+  -- how many watched inputs have a lower number than j: those of lower gates, and the lower ones of its own
+  abbrev pub watched-below : ℕ → ℕ
+  watched-below j = length (keep (watching c) (from 0 j))
+
+  -- its settling when as many inputs have been checked
+  abbrev pub before-check : Allowed → ℕ → Settled
+  before-check i j = settling-1 i (watched-below j)
+
+  -- then input j is taken off the queue, on which these wait behind it, and checked
+  abbrev pub checked-first : Allowed → ℕ → List ℕ → Settled
+  checked-first i j rest = let s = before-check i j .state in check c (wires≔ s (to-check≔ (s .wires) rest (set (s .wires .queued) j false))) j
+
   -- The first check of input j.
   pub record First-check (room : ℕ) (i : Allowed) (j : ℕ) : Type 0 where
-    -- it was made while tick 1 opened, in a state in which the input had never been read: whatever it reads, nothing included, counts as a change (`as-change`)
-    pub state : State
-    pub unread : getD (state .wires .last) j none ≡ none
-    -- what it raised is among what the opening raised, for the main pass
-    pub before : List (Raise State Act Place)
+    -- its turn comes as tick 1 opens, when the watched inputs below it have been checked: ascending gate and input
+    pub rest : List ℕ
+    pub turn : before-check i j .state .wires .to-check ≡ j ∷ rest
+    -- it was never read before, so whatever it reads, nothing included, counts as a change (`as-change`)
+    pub unread : getD (before-check i j .state .wires .last) j none ≡ none
+    -- what the check raised stands among what the opening raised, behind what was raised before it, and is for the main pass
     pub after : List (Raise State Act Place)
-    pub raised : opening-1 i .raises ≡ before ++ (pending (check c state j .raises) ++ after)
+    pub raised :
+        opening-1 i .raises
+        ≡ (before-settling c (start c) (i .given) .raises ++ pending (before-check i j .raises)) ++ (pending (checked-first i j rest .raises) ++ after)
     -- and begins there, unless the tick is stopped: whatever number each act counts for, it comes to no more than what the main pass of tick 1 began
     pub begins :
         tick-1 room i .stop ≡ 0 → (m : Act → ℕ) →
-        total m (map (λ (r : Raise State Act (Unit {0})). r .act) (check c state j .raises)) ≤ total m (acts (numbered (machine c)) (tick-1 room i .main))
+        total m (map (λ (r : Raise State Act (Unit {0})). r .act) (checked-first i j rest .raises)) ≤ total m (acts (numbered (machine c)) (tick-1 room i .main))
     -- when tick 1 has opened, the input has been read
     pub read : (v : Value) × (getD (opening-1 i .state .wires .last) j none ≡ some v)
 
