@@ -82,7 +82,7 @@ impl Machine {
 }
 
 /// The form the log shows.
-fn form(act: &Activation) -> u16 {
+pub(super) fn form(act: &Activation) -> u16 {
     match act {
         Activation::Fire => 0,
         Activation::Event(_) => 1,

@@ -20,11 +20,14 @@ pub fn lines(answer: &Answer, outputs: usize) -> String {
     }
 }
 
-/// How many outputs the circuit has, from the log alone: the one number with
-/// which its words are the records of ticks 1, 2, 3 and so on.
+/// How many outputs the circuit has, from the answer alone: the one number
+/// with which the log's words are the records of the ticks done, and of the one
+/// stopped by 11 or 12.
 pub fn outputs_of(answer: &Answer) -> usize {
-    let Answer::Played { log, ticks: 1.., .. } = answer else { return 0 };
-    let mut fitting = (1..=MOST_OUTPUTS).filter(|&outputs| records(log, outputs).is_some());
+    let Answer::Played { log, stop, ticks: ticks @ 1.. } = answer else { return 0 };
+    let written = ticks + u64::from(matches!(stop, 11 | 12));
+    let fits = |outputs| records(log, outputs).is_some_and(|records| records.len() as u64 == written);
+    let mut fitting = (1..=MOST_OUTPUTS).filter(|&outputs| fits(outputs));
     let outputs = fitting.next().expect("a log of whole records");
     assert_eq!(fitting.next(), None, "the log can be read in two ways");
     outputs
@@ -39,8 +42,8 @@ fn line(record: &[i64]) -> String {
 fn records(mut log: &[i64], outputs: usize) -> Option<Vec<&[i64]>> {
     let mut records = Vec::new();
     while !log.is_empty() {
-        let &[tick, _, late, main, _, stop, ..] = log else { return None };
-        let units = usize::try_from(late.checked_add(main)?).ok()?;
+        let &[tick, _, late, main, carried, stop, ..] = log else { return None };
+        let units = usize::try_from(late.checked_add(main)?.checked_add(carried)?).ok()?;
         let shown = if stop == 0 { outputs } else { 0 };
         let length = units.checked_add(shown)?.checked_mul(2)?.checked_add(HEAD)?;
         if tick != records.len() as i64 + 1 || length > log.len() || stop != 0 && length != log.len() {

@@ -1,5 +1,6 @@
 //! A tick and its log record.
 
+use super::limits::form;
 use super::{MAX_STEPS_PER_TICK, Machine};
 use crate::SimError;
 use crate::graph::GateId;
@@ -15,7 +16,8 @@ impl Machine {
             Err(e) => self.stop(&e),
         };
         self.write_head(stop, log);
-        self.write_units(log);
+        write_units(&self.tally.begun, log);
+        write_units(&self.carried_units(), log);
         if stop == 0 {
             let trace = self.before_reading();
             self.write_outputs(log);
@@ -47,9 +49,15 @@ impl Machine {
         ]);
     }
 
-    fn write_units(&self, log: &mut Vec<i64>) {
-        log.extend(self.tally.begun.iter().map(|&(gate, _)| i64::from(gate)));
-        log.extend(self.tally.begun.iter().map(|&(_, form)| i64::from(form)));
+    /// Gate and form of each carried unit, in the order carried.
+    fn carried_units(&self) -> Vec<(GateId, u16)> {
+        self.carried.iter().map(|(gate, act)| (*gate, form(act))).collect()
+    }
+
+    /// The source's own list of what is carried: each unit's gate, and its
+    /// activation as the source names it.
+    pub fn carried(&self) -> Vec<(GateId, String)> {
+        self.carried.iter().map(|(gate, act)| (*gate, format!("{act:?}"))).collect()
     }
 
     /// Kind and content of every output, as reading it gives them; 0 0 for
@@ -68,6 +76,12 @@ impl Machine {
             }
         }
     }
+}
+
+/// The gates of units, then their forms.
+fn write_units(units: &[(GateId, u16)], log: &mut Vec<i64>) {
+    log.extend(units.iter().map(|&(gate, _)| i64::from(gate)));
+    log.extend(units.iter().map(|&(_, form)| i64::from(form)));
 }
 
 /// Kind and content of a value; 0 0 for nothing.

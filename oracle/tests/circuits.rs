@@ -52,12 +52,12 @@ fn rank_4_raising_4_and_5() {
     let carried = played("rank-4-raises-4");
     assert_eq!(carried.main(1), [2]);
     assert_eq!(carried.main(2), [0]);
-    assert_eq!(carried.ticks[1].carried, 1);
+    assert_eq!(carried.ticks[1].carried, [(2, 0)]);
     assert_eq!(carried.late(3), [2]);
     let now = played("rank-4-raises-5");
     assert_eq!(now.main(1), [2]);
     assert_eq!(now.main(2), [0, 2]);
-    assert_eq!(now.ticks[1].carried, 0);
+    assert_eq!(now.ticks[1].carried, []);
     assert_eq!(now.late(3), []);
 }
 
@@ -130,8 +130,8 @@ fn fifty_million_steps() {
 fn wrong_though_they_look_right() {
     let p = played("wrong-carry-below");
     // First the first checks, then what the Clock raises.
-    assert_eq!((p.main(1), p.ticks[0].carried), (vec![2, 3, 4], 0));
-    assert_eq!((p.main(2), p.ticks[1].carried), (vec![0, 4], 2));
+    assert_eq!((p.main(1), p.carried(1)), (vec![2, 3, 4], vec![]));
+    assert_eq!((p.main(2), p.carried(2)), (vec![0, 4], vec![2, 3]));
     assert_eq!(p.late(3), [2, 3]);
     let p = played("wrong-events-sorted");
     assert_eq!(p.late(2), [3, 0, 2]);
@@ -403,6 +403,7 @@ fn all_delays_full() {
 #[test]
 fn late_and_main() {
     let p = played("order-in-a-late-rank");
+    assert_eq!(p.ticks[2].carried, [(6, 0)]);
     assert_eq!(p.ticks[3].late, [(6, 0), (3, 2), (7, 2), (1, 0), (2, 0), (0, 0), (8, 1), (6, 0)]);
     let p = played("clocks-before-the-rest");
     assert_eq!(p.ticks[0].main, [(4, 0), (5, 0), (3, 0), (1, 0), (2, 32)]);
@@ -415,7 +416,7 @@ fn late_and_main() {
     assert_eq!([&p.ticks[1].main, &p.ticks[3].main], [&[(1, 0), (3, 16)]; 2]);
     // A first reading of 0.0 is a change, and raises no pin.
     assert_eq!((&p.ticks[0].main[..], &p.ticks[2].main[..]), (&[(1, 0)][..], &[][..]));
-    assert!(p.ticks.iter().all(|t| t.late.is_empty() && t.carried == 0));
+    assert!(p.ticks.iter().all(|t| t.late.is_empty() && t.carried.is_empty()));
     assert_eq!(played("late-pass-has-no-cursor").late(2), [0, 4, 0, 4, 3, 3, 2, 2]);
     assert_eq!(played("ranks-fall-in-the-late-pass").late(2), [1, 3, 1, 3, 0, 3, 0, 3]);
     assert_eq!(played("oldest-of-a-rank").main(2), [0, 5, 4, 6, 3, 3]);
@@ -430,22 +431,23 @@ fn raised_again() {
     let p = played("endless-in-the-late-pass");
     assert_eq!(p.words[..6], [1, 2047, 1024, 0, 0, 12]);
     let p = played("endless-by-carrying");
-    assert_eq!((p.stop, p.done, p.main(1), p.main(2), p.ticks[1].carried), (12, 2, vec![2], vec![0], 1));
-    assert_eq!((p.ticks[2].late.len(), p.ticks[2].carried), (1024, 0));
+    assert_eq!((p.stop, p.done, p.main(1), p.main(2), p.carried(2)), (12, 2, vec![2], vec![0], vec![2]));
+    assert_eq!((p.ticks[2].late.len(), p.carried(3)), (1024, vec![]));
 }
 
 #[test]
 fn carried() {
     let p = played("carried-once");
-    assert_eq!((p.ticks[3].carried, &p.ticks[4].late[..]), (3, &[(2, 0), (5, 16), (4, 32)][..]));
-    assert_eq!((p.ticks[7].carried, &p.ticks[8].late[..]), (2, &[(2, 0), (4, 33)][..]));
+    assert_eq!(p.ticks[3].carried, [(2, 0), (4, 32), (5, 16)]);
+    assert_eq!(p.ticks[4].late, [(2, 0), (5, 16), (4, 32)]);
+    assert_eq!([&p.ticks[7].carried, &p.ticks[8].late], [&[(2, 0), (4, 33)]; 2]);
     let p = played("carried-by-what-was-carried");
-    assert_eq!((p.ticks[3].carried, p.late(5), p.ticks[4].carried), (1, vec![3, 4, 5], 0));
+    assert_eq!((p.carried(4), p.late(5), p.carried(5)), (vec![3], vec![3, 4, 5], vec![]));
     // The first check of gate 3 calls and raises too: what it carries is over with tick 2.
-    assert_eq!((p.main(1), p.ticks[0].carried, p.late(2)), (vec![4, 3, 5, 5], 1, vec![4]));
+    assert_eq!((p.main(1), p.carried(1), p.late(2)), (vec![4, 3, 5, 5], vec![4], vec![4]));
     let p = played("raised-in-the-main-pass");
-    assert_eq!((p.main(3), p.ticks[2].carried, p.late(4)), (vec![0, 3, 4], 2, vec![6, 5]));
-    assert_eq!((p.main(1), p.ticks[0].carried, p.late(2)), (vec![6, 3, 5, 4, 4], 2, vec![6, 5]));
+    assert_eq!((p.main(3), p.carried(3), p.late(4)), (vec![0, 3, 4], vec![5, 6], vec![6, 5]));
+    assert_eq!((p.main(1), p.carried(1), p.late(2)), (vec![6, 3, 5, 4, 4], vec![5, 6], vec![6, 5]));
 }
 
 #[test]
@@ -453,13 +455,105 @@ fn stopped_records() {
     // Two first checks and seven outputs of nothing, then the stopped record.
     let p = played("stopped-while-carrying");
     let first = [&[1, 0, 0, 2, 0, 0, 2, 3, 0, 0][..], &[0; 14]].concat();
-    assert_eq!(p.words, [&first[..], &[2, 257, 0, 2, 2, 12, 0, 4, 0, 0]].concat());
+    assert_eq!(p.words, [&first[..], &[2, 257, 0, 2, 2, 12, 0, 4, 0, 0, 2, 3, 0, 0]].concat());
     let p = played("stopped-before-the-main-pass");
-    assert_eq!((p.ticks[1].carried, p.done), (1, 2));
+    assert_eq!((p.carried(2), p.done), (vec![2], 2));
     assert_eq!(p.words[p.words.len() - 8..], [3, 257, 1, 0, 0, 12, 2, 0]);
+    // Eight times the watchers 9 to 40; the next tick moves them to late and stops there.
     let p = played("late-full-at-the-opening");
-    assert_eq!((p.ticks[1].carried, p.done), (256, 2));
+    assert_eq!((p.carried(2), p.done), (eight_times_32(), 2));
     assert_eq!(p.words[p.words.len() - 6..], [3, 0, 0, 0, 0, 12]);
+}
+
+/// The watchers 9 to 40 of a Toggle that is flipped eight times.
+fn eight_times_32() -> Vec<i64> {
+    (9..=40).collect::<Vec<_>>().repeat(8)
+}
+
+// ---- what a record lists as carried ----
+
+#[test]
+fn the_order_carried() {
+    // In tick 1 the first checks alone, by rank. In tick 2 the Clock flips 1, then 2: the watchers of 1
+    // are checked first, 5 and 6, then those of 2, 3 and 4. In tick 3 the late pass goes by rank.
+    let p = played("carried-against-ranks");
+    let first = [&[1, 0, 0, 4, 0, 0, 4, 6, 3, 5, 0, 0, 0, 0][..], &[0; 18]].concat();
+    let shown = [0, 0, 3, 0, 3, 0, 0, 0, 0, 0, 0, 1, 0, 1, 0, 0, 0, 0];
+    let second = [&[2, 2, 0, 1, 4, 0, 0, 0, 5, 6, 3, 4, 0, 0, 0, 0][..], &shown].concat();
+    let third = [&[3, 0, 4, 0, 0, 0, 4, 6, 5, 3, 0, 0, 0, 0][..], &shown].concat();
+    assert_eq!(p.words, [first, second, third].concat());
+    // Clock 1, of rank 5, counts up 4 and flips 3; then Clock 0, of rank 6, flips 2 and counts up 4.
+    let p = played("carried-by-two-units");
+    let first = [&[1, 0, 0, 5, 0, 0, 5, 8, 9, 7, 6][..], &[0; 5], &[0; 28]].concat();
+    let shown = [0, 0, 0, 3, 0, 3, 0, 0, 1, 0, 0, 0, 0, 0, 0, 0, 0, 1, 0, 1, 0, 0, 2, 0, 0, 0, 0, 0];
+    let second = [&[2, 4, 0, 2, 6, 0, 1, 0, 0, 0, 9, 7, 8, 5, 6, 9][..], &[0; 6], &shown].concat();
+    let third = [&[3, 0, 6, 0, 0, 0, 8, 5, 9, 9, 7, 6][..], &[0; 6], &shown].concat();
+    assert_eq!(p.words, [first, second, third].concat());
+}
+
+#[test]
+fn every_form_that_can_be_carried() {
+    let p = played("carried-forms");
+    let pins: Vec<_> = (8..=14).map(|gate| (gate, 16)).collect();
+    let stopwatch = [(7, 16), (7, 17), (7, 18)];
+    let rest = [(15, 16), (15, 17), (16, 16), (17, 16), (4, 33)];
+    assert_eq!(p.ticks[1].carried, [&[(5, 0), (6, 32)][..], &stopwatch, &pins, &rest].concat());
+    // Even gates are of rank 4, odd ones of rank 5.
+    let even = [(6, 32), (8, 16), (10, 16), (12, 16), (14, 16), (16, 16), (4, 33)];
+    let odd = [(9, 16), (11, 16), (13, 16), (15, 16), (15, 17), (17, 16)];
+    assert_eq!(p.ticks[2].late, [&even[..], &[(5, 0)], &stopwatch, &odd].concat());
+    assert_eq!((p.ticks[2].steps, p.main(3), p.carried(3)), (14, vec![], vec![]));
+}
+
+#[test]
+fn what_goes_out_is_listed() {
+    // 1 is flipped in every tick from the second. Where it becomes true, 3 and the rising side of 5 are
+    // raised; where false, the falling side and, behind the Select, 4. In tick 1 the first check of 4.
+    let p = played("carried-in-and-out");
+    let records: [(&[i64], [i64; 20]); 4] = [
+        (&[1, 1, 0, 1, 0, 0, 4, 16], [0, 0, 0, 3, 0, 0, 0, 3, 0, 0, 0, 0, 0, 1, 0, 0, 0, 1, 0, 0]),
+        (
+            &[2, 1, 0, 1, 2, 0, 0, 0, 3, 5, 16, 32],
+            [0, 0, 3, 3, 0, 0, 0, 3, 0, 0, 0, 0, 1, 0, 0, 0, 0, 1, 0, 0],
+        ),
+        (
+            &[3, 2, 2, 1, 2, 0, 5, 3, 0, 32, 16, 0, 5, 4, 33, 16],
+            [0, 0, 3, 3, 0, 3, 0, 3, 0, 0, 0, 0, 0, 1, 0, 1, 0, 1, 0, 0],
+        ),
+        (
+            &[4, 2, 2, 1, 2, 0, 5, 4, 0, 33, 16, 0, 3, 5, 16, 32],
+            [0, 0, 3, 3, 0, 3, 0, 3, 0, 0, 0, 0, 1, 0, 0, 1, 0, 0, 0, 0],
+        ),
+    ];
+    let words: Vec<i64> = records.iter().flat_map(|(units, shown)| [units, &shown[..]].concat()).collect();
+    assert_eq!((p.words, p.stop), (words, 0));
+}
+
+#[test]
+fn what_a_stopped_record_lists() {
+    // In tick 3 gate 3 begins, of the three that came in, and its chain never ends.
+    let p = played("carried-in-stopped-late");
+    let first = [&[1, 1, 0, 3, 0, 0, 3, 4, 2, 0, 0, 0][..], &[0; 18]].concat();
+    let shown = [0, 0, 3, 0, 0, 0, 0, 0, 0, 0, 0, 1, 0, 0, 0, 0, 0, 0];
+    let second = [&[2, 1, 0, 1, 3, 0, 0, 0, 2, 3, 4, 0, 0, 0][..], &shown].concat();
+    assert_eq!(p.words, [first, second, vec![3, 257, 1, 0, 0, 12, 3, 0]].concat());
+    // Rank 4 carries ranks 4 and 1, and 7 and 9 wait for this tick; then the Clock of rank 5 begins.
+    let p = played("carried-and-pending-12");
+    let first = [&[1, 0, 0, 4, 0, 0, 4, 2, 3, 5, 0, 0, 0, 0][..], &[0; 18]].concat();
+    let second = vec![2, 257, 0, 2, 2, 12, 0, 6, 0, 0, 2, 4, 0, 0];
+    assert_eq!((p.words, p.done), ([first, second].concat(), 1));
+    // The same in tick 1, where 4 and 2 begin by their first checks.
+    let p = played("carried-and-pending-11");
+    let first = [1, 50_000_001, 0, 4, 2, 11, 4, 0, 2, 6, 0, 0, 0, 0, 2, 4, 0, 0];
+    assert_eq!((&p.words[..], p.done), (&first[..], 0));
+}
+
+#[test]
+fn the_printed_lines_list_it() {
+    let case = case("carried-and-pending-12");
+    let answer = run(&case.circuit, &case.script, &case.lent);
+    let first = format!("1 0 0 4 0 0 4 2 3 5 0 0 0 0{}\n", " 0".repeat(18));
+    assert_eq!(print(&answer), first + "2 257 0 2 2 12 0 6 0 0 2 4 0 0\nend 12 1\n");
 }
 
 // ---- chains ----
@@ -669,7 +763,8 @@ fn a_buffer_that_launched_nothing_is_in_flight() {
 #[test]
 fn units_of_first_checks_are_like_others() {
     let p = played("start-carries");
-    assert_eq!((p.main(1), p.ticks[0].carried, p.late(2), p.begun()), (vec![2, 5], 2, vec![3, 4], 4));
+    assert_eq!((p.main(1), p.late(2), p.begun()), (vec![2, 5], vec![3, 4], 4));
+    assert_eq!(p.ticks[0].carried, [(3, 32), (4, 32)]);
     let p = played("start-sends");
     assert_eq!((p.main(1), &p.ticks[1].late[..], p.shown(2, 3, 1)), (vec![1], &[(3, 1)][..], int(7)));
     let p = played("start-pending-256");
@@ -709,8 +804,8 @@ fn limits_pass_at_their_edge_and_stop_past_it() {
         assert_eq!(played(&names[0]).stop, 0, "{name}");
         let p = played(&names[1]);
         let last = p.ticks.last().unwrap();
-        let begun = (last.late.len() as i64, last.main.len() as i64);
-        assert_eq!([last.tick, last.steps, begun.0, begun.1, last.carried, last.stop], *head, "{name}");
+        let [late, main, carried] = [&last.late, &last.main, &last.carried].map(|units| units.len() as i64);
+        assert_eq!([last.tick, last.steps, late, main, carried, last.stop], *head, "{name}");
         assert_eq!((p.stop, p.done as i64), (12, head[0] - 1), "{name}");
     }
 }
@@ -722,7 +817,14 @@ fn is_edge(case: &str, limit: &str) -> bool {
 
 #[test]
 fn the_edge_is_reached() {
-    assert_eq!(played("carried-256").ticks[1].carried, 256);
+    // All of them of form 0; the 257th is not listed.
+    for name in ["carried-256", "carried-257"] {
+        let carried = eight_times_32().into_iter().map(|gate| (gate, 0)).collect::<Vec<_>>();
+        assert_eq!(played(name).ticks[1].carried, carried, "{name}");
+    }
+    // The even ones are of rank 0, the odd ones of rank 1.
+    let [even, odd] = [10, 9].map(|first| (first..=40).step_by(2).collect::<Vec<_>>().repeat(8));
+    assert_eq!(played("carried-256").late(3), [even, odd].concat());
     // Beside the 32 first checks of tick 1.
     let p = played("pending-at-the-opening-256");
     assert_eq!((p.main(1).len(), p.main(2).len()), (32, 256));
@@ -751,6 +853,12 @@ fn logs() {
         ("log-12-empty", 13, 0, 0),
         ("log-11-exact", 11, 0, 8),
         ("log-11-byte-short", 13, 0, 0),
+        ("log-carried-exact", 0, 2, 66),
+        ("log-carried-byte-short", 13, 1, 32),
+        ("log-carried-word-short", 13, 1, 32),
+        ("log-carried-12-exact", 12, 1, 46),
+        ("log-carried-12-byte-short", 13, 1, 32),
+        ("log-carried-12-word-short", 13, 1, 32),
     ];
     for (name, stop, done, words) in rows {
         let p = played(name);

@@ -51,7 +51,7 @@ fn the_families_reach_what_they_are_about() {
             let played = reading::read(&valid(seed, family)).unwrap();
             stopped += usize::from(played.stop != 0);
             for tick in &played.ticks {
-                carried += tick.carried;
+                carried += tick.carried.len();
                 late += tick.late.len();
                 main += tick.main.len();
                 begun.extend(tick.late.iter().chain(&tick.main).map(|u| (played.kinds[u.0 as usize], u.1)));

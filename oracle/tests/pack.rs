@@ -93,7 +93,7 @@ fn the_packed_runs_are_up_to_date() {
 #[test]
 fn the_runs_that_are_left_out() {
     let runs = runs::runs();
-    assert_eq!(runs.packed.len(), 974);
+    assert_eq!(runs.packed.len(), 987);
     let left = [
         "ticks-100000",
         "stimuli-65535",

@@ -13,7 +13,7 @@ const FIRST: (f64, &[(usize, Pin)]) = (0.0, &[]);
 
 /// The words of a record before its units begun.
 fn head(r: &Record) -> [i64; 6] {
-    [r.tick, r.steps, r.late, r.main, r.carried, r.stop]
+    [r.tick, r.steps, r.late, r.main, r.carried.len() as i64, r.stop]
 }
 
 /// The head of the last record of a plan played on these ticks.

@@ -4,14 +4,15 @@ use mathlib.Core.List.{List}
 use Rattle.model.specs.Circuit.{Circuit}
 use Rattle.model.specs.State.{Send, State}
 use Rattle.model.specs.Chain.{Calls}
+use Rattle.model.specs.Record.{Listed}
 use Rattle.wires.specs.View.{Values, values}
 use Rattle.states.specs.View.{Delays, delays}
-use Rattle.units.specs.View.{Lists, Begun, Units, units}
+use Rattle.units.specs.View.{Lists, Units, units}
 use Rattle.units.specs.Raising.{Went}
 
 -- what a unit leaves as it is: the units begun, the events of the tick before, which part each Queue has, and what lies behind the tables of each area
 pub record Kept : Type 0 where
-  pub begun : List Begun
+  pub begun : List Listed
   pub events : List Send
   pub parts : List ℕ
   pub behind-values : List ℕ

@@ -1,13 +1,13 @@
 -- What the proofs of the functions over stacks cite.
 use Prim.Native.Nat.{ℕ, zero, suc, _+_, _-_, _≤_, _<_, min}
-use mathlib.Core.Path.{_≡_, refl, sym, ap, _∙_}
+use mathlib.Core.Path.{_≡_, refl, ap, _∙_}
 use mathlib.Core.Bool.{Bool, true, false}
 use mathlib.Core.List.{List, [], _∷_, _++_, reverse, reverse-append}
 use native.Mathlib.Omega.{arith}
 use native.Mathlib.Numerals.{add-one}
 use borrow.Author.Tests.{ltb-true, ltb-false}
 use lib.Dec.{ltb}
-use lib.ListN.{length, getD, set, drop, length-set, length-reverse, List·getD-append, List·getD-eq-default}
+use lib.ListN.{length, getD, set, drop, length-set, length-reverse, List·getD-append}
 use lib.Seq.{getD-set-same, getD-set-other, getD-at}
 use Rattle.lists.specs.declared.Filed.the-variants.{Done}
 use Rattle.lists.specs.declared.Taken.the-variants.{Entry}
@@ -101,10 +101,7 @@ downward-entry (suc n) i w h = rw (reverse-append (getD w (suc n) 0 ∷ []) (dow
         let q : i ≡ n = omega arith in
         rw (q, add-one) (getD-at (reverse (downward n w)) (getD w (suc n) 0) [] 0 n k)
 
--- the ways out of `entry`
-pub entry-past : (most n i : ℕ) (w : List ℕ) → n ≡ length (stacked most w) → n ≤ i → 0 ≡ getD (appended most w) i 0
-entry-past most n i w e h = sym (List·getD-eq-default (appended most w) 0 (omega (arith, length-reverse (stacked most w))))
-
+-- for callers: entry i from the bottom on stands in word i + 1
 pub entry-is : (most n i x : ℕ) (w : List ℕ) → n ≡ length (stacked most w) → i < n → x ≡ getD w (i + 1) 0 → x ≡ getD (appended most w) i 0
 entry-is most n i x w e h ex = rw (stacked-is most n w e, downward-entry n i w h) ex
 

@@ -2,10 +2,10 @@
 ghost use mathlib.Core.Path.{_≡_};
 ghost use mathlib.Core.List.{[], _∷_, _++_};
 ghost use Prim.Native.Nat.{_+_, _*_, _<_, _≤_};
-ghost use lib.ListN.{length, getD, drop};
+ghost use lib.ListN.{length, drop};
 ghost use Rattle.words.specs.Words.{Stored};
 ghost use Rattle.words.specs.Slices.{before, after, was, is};
-ghost use Rattle.lists.specs.Lists.{stacked, appended, wrapped, first-slot, queued, filed, if-room, taken, Emptied};
+ghost use Rattle.lists.specs.Lists.{stacked, wrapped, first-slot, queued, filed, if-room, taken, Emptied};
 use words::get;
 use words::put;
 
@@ -78,17 +78,6 @@ pub fn stack_pop(list: &mut [u8], most: usize) -> Taken
     let x = get(list, height);
     put(list, COUNT, (height - 1) as u64);
     Taken::Entry(x)
-}
-
-// Entry i of a stack from its bottom on: 0 is the oldest. 0 where there is no such entry.
-pub fn entry(list: &[u8], most: usize, i: usize) -> u64
-    requires { ⌜ (length (now list) ≡ (most + 1) * 8) × (most ≤ 1024) ⌝ }
-    ensures { λ r. ⌜ r ≡ getD (appended most (was list)) i 0 ⌝ }
-{
-    if count(list, most) <= i {
-        return 0;
-    }
-    get(list, i + 1)
 }
 
 // Slot i of a ring, where past the last slot the first one follows.

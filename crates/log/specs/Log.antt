@@ -1,24 +1,30 @@
--- The record of a tick as the code writes it, and the log after it.
+-- The record of a tick by what the areas hold, and the log after it.
 use Prim.Native.Nat.{ℕ, _+_}
 use mathlib.Core.Path.{_≡_}
 use mathlib.Core.Bool.{Bool, true, false}
-use mathlib.Core.List.{List, [], _∷_, _++_, map}
+use mathlib.Core.List.{List, [], _++_}
 use lib.Dec.{leb, eqb}
 use lib.ListN.{length, take, drop}
 use Rattle.words.specs.Words.{words, tail}
 use Rattle.model.specs.declared.Value.{Value}
 use Rattle.model.specs.Base.{if_then_else_}
-use Rattle.model.specs.Value.{kind-of, content-of}
-use Rattle.units.specs.View.{Begun}
+use Rattle.model.specs.Record.{Listed, Log-record}
 use Rattle.log.specs.declared.Head.{Head}
 use Rattle.log.specs.declared.Written.{Written}
 use Rattle.log.specs.declared.Written.the-variants.{Fits, Full}
 
--- the words of a record: its head, gates and forms of the units begun, and, where the tick has no stop, kinds and contents of all outputs
-unfoldable pub record-of : Head → List Begun → List Value → List ℕ
-record-of h begun outs =
-    h .tick ∷ h .steps ∷ h .late ∷ h .main ∷ h .carried ∷ h .stop
-    ∷ (map (λ b. b .gate) begun ++ map (λ b. b .form) begun ++ (if eqb (h .stop) 0 then map kind-of outs ++ map content-of outs else []))
+-- the record with this head, of the units begun and carried and of what the outputs show; a stopped tick shows none
+unfoldable pub record-of : Head → List Listed → List Listed → List Value → Log-record
+record-of h begun carried outs =
+    record {
+      tick = h .tick;
+      steps = h .steps;
+      late = take (h .late) begun;
+      main = drop (h .late) begun;
+      carried = carried;
+      stop = h .stop;
+      outs = if eqb (h .stop) 0 then outs else [];
+    }
 
 -- whether a record fits behind the first `at` words of a log
 unfoldable pub fits : List ℕ → ℕ → List ℕ → Bool

@@ -1,17 +1,16 @@
 -- A row of words that is written to the log, and what the rows of a record are.
-use Prim.Native.Nat.{ℕ}
+use Prim.Native.Nat.{ℕ, _-_}
 use mathlib.Core.Path.{_≡_}
-use mathlib.Core.List.{List, [], _∷_, _++_, map}
-use lib.ListN.{take}
+use mathlib.Core.List.{List, [], _∷_, map}
+use lib.ListN.{getD, take}
 use lib.Seq.{sets}
 use Rattle.words.specs.Words.{words, tail}
-use Rattle.lists.specs.Lists.{appended}
 use Rattle.model.specs.declared.Value.{Value}
-use Rattle.model.specs.Base.{both}
-use Rattle.model.specs.Value.{kind-of, content-of}
+use Rattle.model.specs.Base.{both, from}
+use Rattle.model.specs.Record.{Listed}
 use Rattle.wires.specs.Held.{held}
 use Rattle.wires.specs.View.{cut as cut-values}
-use Rattle.units.specs.View.{Begun, begun-of, cut}
+use Rattle.units.specs.View.{listed-of}
 use Rattle.log.specs.declared.Head.{Head}
 
 -- The bytes `after` are `before` with the words from word p on made xs, and the same elsewhere.
@@ -19,22 +18,14 @@ pub record Filled (before after : List ℕ) (p : ℕ) (xs : List ℕ) : Type 0 w
   pub words : words after ≡ sets (words before) p xs
   pub tail : tail after ≡ tail before
 
--- the six words of a head
-unfoldable pub head-row : Head → List ℕ
-head-row h = h .tick ∷ h .steps ∷ h .late ∷ h .main ∷ h .carried ∷ h .stop ∷ []
+-- the head, where n units have begun, the late ones of them at most n, and k are carried
+unfoldable pub head-row : Head → ℕ → ℕ → List ℕ
+head-row h n k = h .tick ∷ h .steps ∷ (n - (n - h .late)) ∷ (n - h .late) ∷ k ∷ h .stop ∷ []
 
--- the units begun that the area `units` holds, whatever the circuit
-unfoldable pub begun-in : List ℕ → List Begun
-begun-in bs = map begun-of (appended 1024 (cut (words bs) .begun))
-
--- their gates, then their forms
-unfoldable pub units-row : List Begun → List ℕ
-units-row begun = map (λ b. b .gate) begun ++ map (λ b. b .form) begun
+-- n entries of the area `units`, from word k on, as a record lists them
+unfoldable pub entries-in : ℕ → ℕ → List ℕ → List Listed
+entries-in k n bs = map (λ i. listed-of (getD (words bs) i 0)) (from k n)
 
 -- what the first n outputs show, by the area `values`
 unfoldable pub outs-in : ℕ → List ℕ → List Value
 outs-in n bs = take n (both held (cut-values (words bs) .out-tags) (cut-values (words bs) .out-contents))
-
--- their kinds, then their contents
-unfoldable pub outputs-row : List Value → List ℕ
-outputs-row outs = map kind-of outs ++ map content-of outs

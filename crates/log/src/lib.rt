@@ -5,36 +5,37 @@ ghost use Prim.Native.Nat.{_+_, _*_, _<_, _≤_};
 ghost use lib.Dec.{eqb};
 ghost use lib.ListN.{length, getD};
 ghost use Rattle.words.specs.Slices.{before, after, was, Has-words};
-ghost use Rattle.schedule.specs.Schedule.{most-units};
 ghost use Rattle.model.specs.Base.{if_then_else_};
 // The definitions `values` and `units` are named for what they hold, beside the slices of their names.
 ghost use Rattle.model.specs.Value.{kind-of, content-of};
+ghost use Rattle.model.specs.Record.{head-size, gates-and-forms, kinds-and-contents};
 ghost use Rattle.links.specs.Lent.{Linked, net-of, Room};
 ghost use Rattle.links.specs.Links.{most-outputs};
 ghost use Rattle.wires.specs.Held.{held};
 ghost use Rattle.wires.specs.View.{out-tags-at, out-contents-at};
 ghost use Rattle.log.specs.Log.{fits, written-as, Writes};
-ghost use Rattle.log.specs.Rows.{Filled, head-row, begun-in, units-row, outs-in, outputs-row};
+ghost use Rattle.log.specs.Rows.{Filled, head-row, entries-in, outs-in};
 ghost use Rattle.log.specs.Lent.{record-in};
 use links::outputs;
 use units::begun::begun;
 use units::entries::form_of;
 use units::entries::gate_of;
 use units::layout::BEGUN_COUNT;
+use units::layout::CARRIED_COUNT;
+use units::raising::carried;
 use wires::held::content_held;
 use wires::held::kind_held;
 use wires::layout::OUT_CONTENTS;
 use wires::layout::OUT_TAGS;
+use words::counting::less;
 use words::get;
 use words::put;
 
-// The head of a record.
+// What a record says of its tick beside what the areas hold: the tick, its steps, how many of its units began in the late pass, and its stop, or 0.
 pub struct Head {
     pub tick: u64,
     pub steps: u64,
-    pub late: u64,
-    pub main: u64,
-    pub carried: u64,
+    pub late: usize,
     pub stop: u64,
 }
 
@@ -44,64 +45,59 @@ pub enum Written {
     Full,
 }
 
-// How many words a head has, the definition's `head` (crates/model/specs/Record.antt).
+// How many words a head has.
 pub const HEAD: usize = 6;
 
-// Where the entries of the units begun begin in the area `units`, in words: behind their count.
+// Where the entries of the units begun and of those carried begin in the area `units`, in words: behind their counts.
 const BEGUN: usize = BEGUN_COUNT + 1;
 
-// The head becomes the words of the log from word p on.
-fn write_head(log: &mut [u8], p: usize, head: Head)
-    requires { ⌜ Has-words log p 6 ⌝ }
-    ensures { λ _. ⌜ Filled (before log) (after log) p (head-row head) ⌝ }
+const CARRIED: usize = CARRIED_COUNT + 1;
+
+// The head becomes the words of the log from word p on, where n units have begun and k are carried.
+fn write_head(log: &mut [u8], p: usize, head: Head, n: usize, k: usize)
+    requires { ⌜ Has-words log p head-size ⌝ }
+    ensures { λ _. ⌜ Filled (before log) (after log) p (head-row head n k) ⌝ }
 {
+    let main = less(n, head.late);
     put(log, p, head.tick);
     put(log, p + 1, head.steps);
-    put(log, p + 2, head.late);
-    put(log, p + 3, head.main);
-    put(log, p + 4, head.carried);
+    put(log, p + 2, (n - main) as u64);
+    put(log, p + 3, main as u64);
+    put(log, p + 4, k as u64);
     put(log, p + 5, head.stop);
 }
 
-// How many units have begun.
-fn units_begun(units: &[u8]) -> usize
-    requires { ⌜ Room units ⌝ }
-    ensures { λ r. ⌜ (r ≡ length (begun-in (before units))) × (r ≤ most-units) ⌝ }
-{
-    begun(units)
-}
-
-// The gates of the n units begun become the words from word p on.
-fn write_gates(units: &[u8], log: &mut [u8], p: usize, n: usize)
-    requires { ⌜ Room units × (n ≡ length (begun-in (now units))) × (n ≤ most-units) × Has-words log p n ⌝ }
-    ensures { λ _. ⌜ Filled (before log) (after log) p (map (λ b. b .gate) (begun-in (before units))) ⌝ }
+// The gates of the n units whose entries stand from word `first` on become the words of the log from word p on.
+fn write_gates(units: &[u8], first: usize, n: usize, log: &mut [u8], p: usize)
+    requires { ⌜ Has-words units first n × Has-words log p n ⌝ }
+    ensures { λ _. ⌜ Filled (before log) (after log) p (map (λ u. u .gate) (entries-in first n (before units))) ⌝ }
 {
     let mut i = 0;
     while i < n {
-        put(log, p + i, gate_of(get(units, BEGUN + i)) as u64);
+        put(log, p + i, gate_of(get(units, first + i)) as u64);
         i += 1;
     }
 }
 
 // Their forms become the words from word p on.
-fn write_forms(units: &[u8], log: &mut [u8], p: usize, n: usize)
-    requires { ⌜ Room units × (n ≡ length (begun-in (now units))) × (n ≤ most-units) × Has-words log p n ⌝ }
-    ensures { λ _. ⌜ Filled (before log) (after log) p (map (λ b. b .form) (begun-in (before units))) ⌝ }
+fn write_forms(units: &[u8], first: usize, n: usize, log: &mut [u8], p: usize)
+    requires { ⌜ Has-words units first n × Has-words log p n ⌝ }
+    ensures { λ _. ⌜ Filled (before log) (after log) p (map (λ u. u .form) (entries-in first n (before units))) ⌝ }
 {
     let mut i = 0;
     while i < n {
-        put(log, p + i, form_of(get(units, BEGUN + i)) as u64);
+        put(log, p + i, form_of(get(units, first + i)) as u64);
         i += 1;
     }
 }
 
-// The gates and then the forms of the n units begun become the words from word p on.
-fn write_units(units: &[u8], log: &mut [u8], p: usize, n: usize)
-    requires { ⌜ Room units × (n ≡ length (begun-in (now units))) × (n ≤ most-units) × Has-words log p (2 * n) ⌝ }
-    ensures { λ _. ⌜ Filled (before log) (after log) p (units-row (begun-in (before units))) ⌝ }
+// The gates and then the forms of the n units whose entries stand from word `first` on become the words of the log from word p on.
+fn write_units(units: &[u8], first: usize, n: usize, log: &mut [u8], p: usize)
+    requires { ⌜ Has-words units first n × Has-words log p (2 * n) ⌝ }
+    ensures { λ _. ⌜ Filled (before log) (after log) p (gates-and-forms (entries-in first n (before units))) ⌝ }
 {
-    write_gates(units, log, p, n);
-    write_forms(units, log, p + n, n);
+    write_gates(units, first, n, log, p);
+    write_forms(units, first, n, log, p + n);
 }
 
 // How many outputs the record of a tick with this stop shows: all, or none where there is a stop.
@@ -155,7 +151,7 @@ fn write_contents(values: &[u8], log: &mut [u8], p: usize, n: usize)
 // The kinds and then the contents of the first n outputs become the words from word p on.
 fn write_outputs(values: &[u8], log: &mut [u8], p: usize, n: usize)
     requires { ⌜ Room values × (n ≤ most-outputs) × Has-words log p (2 * n) ⌝ }
-    ensures { λ _. ⌜ Filled (before log) (after log) p (outputs-row (outs-in n (before values))) ⌝ }
+    ensures { λ _. ⌜ Filled (before log) (after log) p (kinds-and-contents (outs-in n (before values))) ⌝ }
 {
     write_kinds(values, log, p, n);
     write_contents(values, log, p + n, n);
@@ -174,14 +170,16 @@ pub fn write_record(
     ensures { λ r. ⌜ r ≡ written-as (fits (before log) at (record-in links values units head)) (record-in links values units head) ⌝ }
     ensures { λ _. ⌜ Writes (before log) (after log) at (record-in links values units head) ⌝ }
 {
-    let n = units_begun(units);
+    let n = begun(units);
+    let k = carried(units);
     let o = outputs_shown(links, head.stop);
-    let size = HEAD + 2 * n + 2 * o;
+    let size = HEAD + 2 * n + 2 * k + 2 * o;
     if log.len() / 8 < at + size {
         return Written::Full;
     }
-    write_head(log, at, head);
-    write_units(units, log, at + HEAD, n);
-    write_outputs(values, log, at + HEAD + 2 * n, o);
+    write_head(log, at, head, n, k);
+    write_units(units, BEGUN, n, log, at + HEAD);
+    write_units(units, CARRIED, k, log, at + HEAD + 2 * n);
+    write_outputs(values, log, at + HEAD + 2 * n + 2 * k, o);
     Written::Fits(size)
 }

@@ -13,7 +13,7 @@ use Rattle.model.specs.Circuit.{Circuit, output}
 use Rattle.model.specs.State.{State, Act}
 use Rattle.model.specs.Chain.{Chained, run-chain}
 use Rattle.model.specs.Unit.{World, state≔, raises-in, begin, enter, run-unit, finish-chain}
-use Rattle.model.specs.Record.{read-outputs, write, close}
+use Rattle.model.specs.Closing.{read-outputs, write, close}
 use Rattle.model.specs.Run.{Allowed, opening, body, closing, machine, world-at-start}
 use Rattle.model.specs.Order.{numbered-ticks}
 use Rattle.model.specs.Fresh.{Begins-fresh, Tick-fresh}

@@ -18,7 +18,7 @@ use Rattle.model.specs.Base.{if_then_else_, joined}
 use Rattle.model.specs.Circuit.{Circuit, circuit}
 use Rattle.model.specs.State.{State, Act}
 use Rattle.model.specs.Unit.{World, state≔, raises-in, finish-chain}
-use Rattle.model.specs.Record.{write, close}
+use Rattle.model.specs.Closing.{write, close}
 use Rattle.model.specs.Run.{Played, Allowed, opening, body, closing, machine, world-at-start, ticks-of, seen}
 use Rattle.model.specs.Questions.{Areas, refusal}
 use Rattle.model.specs.Answer.{Answer, refused, played, play, answer-to, answer, log-after, area-after}

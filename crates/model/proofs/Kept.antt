@@ -25,7 +25,7 @@ use Rattle.model.specs.Chain.{Calls, run-chain}
 use Rattle.model.specs.Settle.{Settled, calm, raise, publish-writes, pulse, compared, check, check-on, settle}
 use Rattle.model.specs.Opening.{wires-stale, wires-fresh, wires-at-start, start, Opened, next-tick, begin-tick, lower, before-settling, open-tick}
 use Rattle.model.specs.Unit.{World, enter, run-unit}
-use Rattle.model.specs.Record.{read-outputs}
+use Rattle.model.specs.Closing.{read-outputs}
 use Rattle.model.proofs.Lists.{if-both, if-by, each-keeps, each-keeps-all, all-keep, among-from, either-false}
 use Rattle.model.proofs.Walks.{run-chain-keeps, check-on-keeps, Opened-keeps, Opening-keeps, before-settling-keeps, open-tick-keeps}
 use Rattle.model.proofs.Checks.{detect-keeps}

@@ -34,6 +34,8 @@ pub mod Settling
 pub mod Chains
 -- refreshing in any order is the same: `stale-is-dirty`
 pub mod Stale
+-- the words of a record are read back as that record: `parts-back`
+pub mod ReadBack
 -- the order promise at this machine: `in-order`
 pub mod InOrder
 -- which numbers an answer can have: `numbers`

@@ -21,7 +21,7 @@ use Rattle.model.specs.Chain.{Calls, no-calls, Chained, run-chain}
 use Rattle.model.specs.Settle.{calm, check-on, publish-writes, settle}
 use Rattle.model.specs.Opening.{start, open-tick}
 use Rattle.model.specs.Unit.{World, run-unit, finish-chain}
-use Rattle.model.specs.Record.{read-outputs}
+use Rattle.model.specs.Closing.{read-outputs}
 use Rattle.model.specs.Run.{Allowed, machine, ticks-of}
 use Rattle.model.specs.Questions.{Areas, question-1, question-3, question-6, refusal}
 use Rattle.model.proofs.Laid.{Laid, laid, Full, filled}

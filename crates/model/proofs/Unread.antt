@@ -21,7 +21,8 @@ use Rattle.model.specs.State.{State, Act, wires≔}
 use Rattle.model.specs.Wires.{refresh-all}
 use Rattle.model.specs.Opening.{start}
 use Rattle.model.specs.Unit.{World, state≔, raises-in}
-use Rattle.model.specs.Record.{read-outputs, log-record, write, close, record-opened}
+use Rattle.model.specs.Record.{record-words, record-opened}
+use Rattle.model.specs.Closing.{read-outputs, log-record, write, close, closing-opened}
 use Rattle.model.specs.Run.{Allowed, ticks-get, opening, closing, machine, world-at-start, ticks-of, last-stop, seen}
 use Rattle.model.specs.Questions.{Areas, refusal}
 use Rattle.model.specs.Answer.{played, play, answer}
@@ -99,8 +100,8 @@ module _ (c : Circuit) (W : Wired c) where
           let d = write-over v r′ (sym (λ j. leb (8 * length (e j)) (m j)) ∙ h) in
           record { fits = a .1 ∙ sym (d .1); logged = a .0 ∙ sym (d .0) }
 
-  cut-record : (limit : ℕ) (x y : World) → Same-record x y → log-record limit x (outcome S [] [] [] list-full) ≡ log-record limit y (outcome S [] [] [] list-full)
-  unfolding record-opened if_then_else_
+  cut-record : (limit : ℕ) (x y : World) → Same-record x y → record-words (log-record limit x (outcome S [] [] [] list-full)) ≡ record-words (log-record limit y (outcome S [] [] [] list-full))
+  unfolding record-opened closing-opened if_then_else_
   cut-record limit x y e = λ j. e .tick j ∷ (limit - e .left j + 0) ∷ 0 ∷ 0 ∷ 0 ∷ list-full ∷ []
 
   cut-closing :

@@ -1,7 +1,7 @@
 -- Every world of a run is sized: wherever a unit begins, and after each tick.
 use mathlib.Core.List.{List}
 use Prim.Native.Nat.{ℕ}
-use Rattle.schedule.specs.Schedule.{Raise, Outcome, Closed, plain}
+use Rattle.schedule.specs.Schedule.{Raise, Outcome, Closed, numbered, plain, run}
 use Rattle.schedule.specs.Promise.{All, [·]}
 use Rattle.schedule.specs.Keeping.{Did-keep, Tick-keeps}
 use Rattle.schedule.proofs.Theorems.{run-keeps}
@@ -9,7 +9,7 @@ use Rattle.model.specs.Circuit.{Circuit}
 use Rattle.model.specs.State.{State, Act}
 use Rattle.model.specs.Chain.{Chained}
 use Rattle.model.specs.Unit.{World, state≔, raises-in, finish-chain}
-use Rattle.model.specs.Record.{write, close}
+use Rattle.model.specs.Closing.{write, close}
 use Rattle.model.specs.Run.{Allowed, opening, body, closing, machine, world-at-start, ticks-of}
 use Rattle.model.proofs.Lists.{if-both, map-all}
 use Rattle.model.proofs.Laid.{Laid}
@@ -45,7 +45,15 @@ module _ (c : Circuit) where
       let y = read-outputs-sized c (w .state) (o .stop) z in
       if-both (λ (k : Closed World). World-sized (k .world)) _ y y
 
-  -- in every world of a run, of any script and with a log of any size
+  pub start-world-sized : (room : ℕ) → World-sized (world-at-start c room)
+  unfolding world-at-start
+  start-world-sized room = start-sized c
+
+  -- in every world of a run from such a world on, of any script
+  pub run-from-sized : Laid c → (is : List Allowed) (w : World) → World-sized w → All (Tick-keeps (numbered (machine c)) World-sized) (run (numbered (machine c)) is w)
+  run-from-sized laid is w z = run-keeps (numbered (machine c)) World-sized (opening-sized laid) body-sized closing-sized is w z
+
+  -- and of a call, with a log of any size
   pub run-sized : Laid c → (room : ℕ) (is : List Allowed) → All (Tick-keeps (plain (machine c)) World-sized) (ticks-of c room is)
-  unfolding ticks-of world-at-start
-  run-sized laid room is = run-keeps (plain (machine c)) World-sized (opening-sized laid) body-sized closing-sized is _ (start-sized c)
+  unfolding ticks-of
+  run-sized laid room is = run-keeps (plain (machine c)) World-sized (opening-sized laid) body-sized closing-sized is _ (start-world-sized room)

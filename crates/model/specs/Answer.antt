@@ -21,6 +21,7 @@ use Rattle.model.specs.Settle.{settle-opened}
 use Rattle.model.specs.Opening.{opening-opened}
 use Rattle.model.specs.Unit.{unit-opened}
 use Rattle.model.specs.Record.{record-opened}
+use Rattle.model.specs.Closing.{closing-opened}
 use Rattle.model.specs.Run.{Played, ticks-get, ticks-of, seen, run-opened}
 use Rattle.model.specs.Questions.{Areas, refusal, questions-opened}
 
@@ -68,5 +69,5 @@ area-after (played p) area = replicate (length area) 0
 
 -- opens the whole definition, for proofs by computation
 unfoldable pub model-opened : ℕ
-unfolding words bytes schedule-opened base-opened value-opened kinds-opened circuit-opened script-opened state-opened wires-opened delays-opened exec-opened chain-opened settle-opened opening-opened unit-opened record-opened run-opened questions-opened play answer-to answer checked number log-after area-after
+unfolding words bytes schedule-opened base-opened value-opened kinds-opened circuit-opened script-opened state-opened wires-opened delays-opened exec-opened chain-opened settle-opened opening-opened unit-opened record-opened closing-opened run-opened questions-opened play answer-to answer checked number log-after area-after
 model-opened = 0

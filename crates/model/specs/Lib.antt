@@ -12,6 +12,7 @@ pub mod Settle
 pub mod Opening
 pub mod Unit
 pub mod Record
+pub mod Closing
 pub mod Run
 pub mod Questions
 pub mod Answer

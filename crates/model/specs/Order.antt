@@ -6,13 +6,14 @@ use mathlib.Core.Logic.{_⊎_}
 use Prim.Native.Nat.{ℕ}
 use lib.ListN.{length}
 use Rattle.words.specs.Words.{words}
-use Rattle.schedule.specs.Schedule.{log-full, numbered, Turn, Tick, outcome, run}
-use Rattle.schedule.specs.Promise.{All, Order, Follows}
+use Rattle.schedule.specs.Schedule.{log-full, numbered, Activation, Turn, Tick, outcome, run}
+use Rattle.schedule.specs.Promise.{All, Along, Order, Follows}
 use Rattle.schedule.specs.Erasure.{bare-tick}
 use Rattle.model.specs.Circuit.{Circuit, circuit}
 use Rattle.model.specs.Chain.{no-calls}
 use Rattle.model.specs.Unit.{run-unit}
-use Rattle.model.specs.Record.{units-begun}
+use Rattle.model.specs.Record.{Log-record, record-words, record-at}
+use Rattle.model.specs.Closing.{as-listed, log-record}
 use Rattle.model.specs.Run.{Allowed, ticks-get, machine, world-at-start, seen}
 use Rattle.model.specs.Questions.{Areas}
 use Rattle.model.specs.Answer.{played, answer}
@@ -26,14 +27,25 @@ module _ (c : Circuit) where
   abbrev pub numbered-ticks : ℕ → List Allowed → List Numbered-tick
   numbered-ticks room is = run (numbered (machine c)) is (world-at-start c room)
 
-  -- The record of a tick has two numbers (its tick and its steps), how many units the tick began in its late pass and in its main pass, how many it carries, and its
-  -- stop, then the gates and forms of the units that it began, in that order; or the record did not fit.
-  abbrev pub Recorded : Numbered-tick → Type 0
-  Recorded t =
-      ((tick : ℕ) × (steps : ℕ) × (shown : List ℕ) × (t .world .logged ≡
-      tick ∷ steps ∷ length (t .late) ∷ length (t .main) ∷ length (t .carried) ∷ t .stop
-      ∷ (units-begun (outcome (numbered (machine c)) (t .late) (t .main) (t .carried) (t .stop)) ++ shown)))
-      ⊎ ((t .stop ≡ log-full) × (t .world .logged ≡ []))
+  -- the record of a tick that got this: it lists the units that the tick began and those that it carries, in their order
+  abbrev pub record-of : Allowed → Numbered-tick → Log-record
+  record-of i t = log-record (i .limit) (t .world) (outcome (numbered (machine c)) (t .late) (t .main) (t .carried) (t .stop))
+
+  -- its words were written to the log, or they did not fit
+  abbrev pub Recorded : Allowed → Numbered-tick → Type 0
+  Recorded i t = (t .world .logged ≡ record-words (record-of i t)) ⊎ ((t .stop ≡ log-full) × (t .world .logged ≡ []))
+
+  -- and what was written is read back as that record, whatever follows it
+  abbrev pub Read-back : Numbered-tick → Type 0
+  Read-back t =
+      (i : Allowed) → t .world .logged ≡ record-words (record-of i t) → (rest : List ℕ) → record-at (length (c .outputs)) (t .world .logged ++ rest) ≡ record-of i t
+
+  -- Where a next tick u is played, the units that the record of t lists as carried are those that come into u, in that order, and that u puts into its late list first
+  -- (`first-late` of the promise).
+  abbrev pub Shows-what-waits : List Numbered-tick → Type 0
+  Shows-what-waits ticks =
+      (pre : List Numbered-tick) (t u : Numbered-tick) (post : List Numbered-tick) → ticks ≡ pre ++ (t ∷ u ∷ post) →
+      record-at (length (c .outputs)) (t .world .logged) .carried ≡ map (λ (e : Activation (numbered (machine c))). as-listed (e .act)) (u .came)
 
   -- a unit that is said to have run left no call on the chain stack, and none on the forks
   abbrev pub Ended : Turn (numbered (machine c)) → Type 0
@@ -45,7 +57,9 @@ pub record In-order (areas : Areas) (room : ℕ) (circuit-bytes script-bytes : L
   pub order : Order (machine c) ticks
   -- one tick for each that the script gives, up to a stop; each tick and each unit begins in the world that the one before it left; what openings raised
   pub follows : Follows (numbered (machine c)) is (world-at-start c room) ticks
-  pub recorded : All (Recorded c) ticks
+  pub recorded : Along (Recorded c) is ticks
+  pub read-back : All (Read-back c) ticks
+  pub shows-what-waits : Shows-what-waits c ticks
   pub ended : All (λ t. All (Ended c) (t .late) × All (Ended c) (t .main)) ticks
   -- the answer is made of this run, the numbers left out
   pub answered : answer areas room circuit-bytes script-bytes ≡ played (seen c (map (bare-tick (numbered (machine c))) ticks))

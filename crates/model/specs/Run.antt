@@ -10,7 +10,7 @@ use Rattle.model.specs.Script.{Given, script}
 use Rattle.model.specs.State.{Act}
 use Rattle.model.specs.Opening.{open-tick, start}
 use Rattle.model.specs.Unit.{World, state≔, raises-in, run-unit, finish-chain}
-use Rattle.model.specs.Record.{read-outputs, close}
+use Rattle.model.specs.Closing.{read-outputs, close}
 
 -- the steps of a tick
 abbrev pub most-steps : ℕ

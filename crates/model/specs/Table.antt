@@ -33,6 +33,12 @@ answered r = answer (record { values = 65536; units = 65536; delays = 65536 }) 6
 abbrev -1 : ℕ
 -1 = 2 ^ 64 - 1
 
+-- A Clock (rank 4) calls a Toggle, whose output is read by an EdgeExec, a ChangeDetector, a Toggle's pin (ranks 4, 3, 2) and two more EdgeExecs (5, 6); the first of
+-- these calls the second Toggle.
+abbrev carries : List (List ℕ)
+carries =
+    ((7 ∷ 1 ∷ 9 ∷ 2 ∷ []) ∷ (2 ∷ []) ∷ (4598175219545276416 ∷ []) ∷ (14 ∷ 22 ∷ 9 ∷ 6 ∷ 22 ∷ 9 ∷ 9 ∷ []) ∷ (4 ∷ 0 ∷ 4 ∷ 3 ∷ 2 ∷ 5 ∷ 6 ∷ []) ∷ (-1 ∷ -1 ∷ -1 ∷ -1 ∷ 2 ∷ 2 ∷ 2 ∷ 2 ∷ 2 ∷ []) ∷ (0 ∷ 0 ∷ 1 ∷ 0 ∷ 0 ∷ 0 ∷ 0 ∷ 0 ∷ 0 ∷ []) ∷ (0 ∷ 8 ∷ []) ∷ (6 ∷ 12 ∷ []) ∷ [])
+
 -- document 01's examples are marked *
 unfoldable pub rows : List Row
 rows =
@@ -53,7 +59,7 @@ rows =
     ((4 ∷ 1 ∷ 6 ∷ 1 ∷ []) ∷ (2 ∷ []) ∷ (4598175219545276416 ∷ []) ∷ (14 ∷ 22 ∷ 9 ∷ 9 ∷ []) ∷ (4 ∷ 0 ∷ 4 ∷ 5 ∷ []) ∷ (-1 ∷ -1 ∷ -1 ∷ -1 ∷ 2 ∷ 2 ∷ []) ∷ (0 ∷ 0 ∷ 1 ∷ 0 ∷ 0 ∷ 0 ∷ []) ∷ (0 ∷ []) ∷ (6 ∷ []) ∷ [])
     ((2 ∷ 0 ∷ []) ∷ (4598175219545276416 ∷ 0 ∷ []) ∷ (0 ∷ 0 ∷ []) ∷ [] ∷ [] ∷ [])
     (plays
-    ((1 ∷ 1 ∷ 0 ∷ 2 ∷ 1 ∷ 0 ∷ 0 ∷ 3 ∷ 0 ∷ 32 ∷ 0 ∷ 0 ∷ 3 ∷ 0 ∷ 0 ∷ 0 ∷ 0 ∷ 0 ∷ 0 ∷ 1 ∷ 0 ∷ 0 ∷ 0 ∷ 0 ∷ [])
+    ((1 ∷ 1 ∷ 0 ∷ 2 ∷ 1 ∷ 0 ∷ 0 ∷ 3 ∷ 0 ∷ 32 ∷ 2 ∷ 32 ∷ 0 ∷ 0 ∷ 3 ∷ 0 ∷ 0 ∷ 0 ∷ 0 ∷ 0 ∷ 0 ∷ 1 ∷ 0 ∷ 0 ∷ 0 ∷ 0 ∷ [])
     ∷ (2 ∷ 0 ∷ 1 ∷ 0 ∷ 0 ∷ 0 ∷ 2 ∷ 32 ∷ 0 ∷ 0 ∷ 3 ∷ 0 ∷ 0 ∷ 0 ∷ 0 ∷ 0 ∷ 0 ∷ 1 ∷ 0 ∷ 0 ∷ 0 ∷ 0 ∷ [])
     ∷ []) 0 2)
     -- * A pulse raised in tick 5 is true in records 5 and 6, and false in 7.
@@ -137,8 +143,17 @@ rows =
     ((7 ∷ 2 ∷ 22 ∷ 4 ∷ []) ∷ (2 ∷ 1 ∷ []) ∷ (4598175219545276416 ∷ 1 ∷ []) ∷ (15 ∷ 16 ∷ 11 ∷ 28 ∷ 14 ∷ 22 ∷ 9 ∷ []) ∷ (0 ∷ 0 ∷ 0 ∷ 0 ∷ 0 ∷ 0 ∷ 0 ∷ []) ∷ (-1 ∷ -1 ∷ -1 ∷ -1 ∷ -1 ∷ -1 ∷ -1 ∷ -1 ∷ -1 ∷ -1 ∷ -1 ∷ -1 ∷ -1 ∷ -1 ∷ -1 ∷ -1 ∷ -1 ∷ -1 ∷ -1 ∷ -1 ∷ -1 ∷ 16 ∷ []) ∷ (0 ∷ 0 ∷ 0 ∷ 1 ∷ 0 ∷ 0 ∷ 0 ∷ 0 ∷ 0 ∷ 0 ∷ 0 ∷ 0 ∷ 0 ∷ 2 ∷ 0 ∷ 2 ∷ 0 ∷ 0 ∷ 0 ∷ 1 ∷ 0 ∷ 0 ∷ []) ∷ (12 ∷ 12 ∷ 12 ∷ 14 ∷ []) ∷ (0 ∷ 8 ∷ 28 ∷ 40 ∷ []) ∷ [])
     ((2 ∷ 2 ∷ []) ∷ (4598175219545276416 ∷ 4598175219545276416 ∷ []) ∷ (1 ∷ 1 ∷ []) ∷ (3 ∷ 3 ∷ []) ∷ (0 ∷ 0 ∷ []) ∷ [])
     (plays
-    ((1 ∷ 4 ∷ 1 ∷ 1 ∷ 1 ∷ 0 ∷ 3 ∷ 4 ∷ 2 ∷ 0 ∷ 2 ∷ 0 ∷ 0 ∷ 0 ∷ 0 ∷ 0 ∷ 0 ∷ 0 ∷ 0 ∷ 0 ∷ 0 ∷ 0 ∷ 0 ∷ 0 ∷ 0 ∷ 0 ∷ 3 ∷ 0 ∷ 0 ∷ 0 ∷ 0 ∷ 0 ∷ 0 ∷ 0 ∷ 0 ∷ 0 ∷ 0 ∷ 0 ∷ 0 ∷ 0 ∷ 0 ∷ 0 ∷ 0 ∷ 0 ∷ 0 ∷ 1 ∷ 0 ∷ 0 ∷ [])
-    ∷ (2 ∷ 4 ∷ 5 ∷ 1 ∷ 1 ∷ 0 ∷ 6 ∷ 3 ∷ 1 ∷ 2 ∷ 0 ∷ 4 ∷ 32 ∷ 2 ∷ 0 ∷ 0 ∷ 0 ∷ 0 ∷ 2 ∷ 0 ∷ 0 ∷ 0 ∷ 0 ∷ 0 ∷ 0 ∷ 0 ∷ 0 ∷ 0 ∷ 0 ∷ 0 ∷ 0 ∷ 0 ∷ 0 ∷ 0 ∷ 3 ∷ 0 ∷ 0 ∷ 0 ∷ 0 ∷ 0 ∷ 0 ∷ 0 ∷ 0 ∷ 0 ∷ 0 ∷ 0 ∷ 0 ∷ 0 ∷ 0 ∷ 0 ∷ 0 ∷ 0 ∷ 0 ∷ 0 ∷ 0 ∷ 0 ∷ [])
+    ((1 ∷ 4 ∷ 1 ∷ 1 ∷ 1 ∷ 0 ∷ 3 ∷ 4 ∷ 2 ∷ 0 ∷ 6 ∷ 32 ∷ 2 ∷ 0 ∷ 0 ∷ 0 ∷ 0 ∷ 0 ∷ 0 ∷ 0 ∷ 0 ∷ 0 ∷ 0 ∷ 0 ∷ 0 ∷ 0 ∷ 0 ∷ 0 ∷ 3 ∷ 0 ∷ 0 ∷ 0 ∷ 0 ∷ 0 ∷ 0 ∷ 0 ∷ 0 ∷ 0 ∷ 0 ∷ 0 ∷ 0 ∷ 0 ∷ 0 ∷ 0 ∷ 0 ∷ 0 ∷ 0 ∷ 1 ∷ 0 ∷ 0 ∷ [])
+    ∷ (2 ∷ 4 ∷ 5 ∷ 1 ∷ 1 ∷ 0 ∷ 6 ∷ 3 ∷ 1 ∷ 2 ∷ 0 ∷ 4 ∷ 32 ∷ 2 ∷ 0 ∷ 0 ∷ 0 ∷ 0 ∷ 6 ∷ 33 ∷ 2 ∷ 0 ∷ 0 ∷ 0 ∷ 0 ∷ 0 ∷ 0 ∷ 0 ∷ 0 ∷ 0 ∷ 0 ∷ 0 ∷ 0 ∷ 0 ∷ 0 ∷ 0 ∷ 3 ∷ 0 ∷ 0 ∷ 0 ∷ 0 ∷ 0 ∷ 0 ∷ 0 ∷ 0 ∷ 0 ∷ 0 ∷ 0 ∷ 0 ∷ 0 ∷ 0 ∷ 0 ∷ 0 ∷ 0 ∷ 0 ∷ 0 ∷ 0 ∷ 0 ∷ [])
+    ∷ []) 0 2)
+    -- K4: a Clock of rank 4 turns a Toggle on; of its readers those of ranks 4, 3 and 2 (gates 2, 3, 4) are carried, and listed in that order, by which they were raised. In
+    -- tick 2 they begin by rank.
+    ∷ row
+    carries
+    ((2 ∷ 0 ∷ []) ∷ (4598175219545276416 ∷ 0 ∷ []) ∷ (0 ∷ 0 ∷ []) ∷ [] ∷ [] ∷ [])
+    (plays
+    ((1 ∷ 2 ∷ 0 ∷ 4 ∷ 3 ∷ 0 ∷ 3 ∷ 0 ∷ 5 ∷ 6 ∷ 0 ∷ 0 ∷ 32 ∷ 32 ∷ 2 ∷ 3 ∷ 4 ∷ 32 ∷ 0 ∷ 16 ∷ 0 ∷ 0 ∷ 3 ∷ 0 ∷ 0 ∷ 0 ∷ 0 ∷ 3 ∷ 0 ∷ 0 ∷ 0 ∷ 0 ∷ 0 ∷ 0 ∷ 1 ∷ 0 ∷ 0 ∷ 0 ∷ 0 ∷ 1 ∷ 0 ∷ 0 ∷ 0 ∷ 0 ∷ [])
+    ∷ (2 ∷ 1 ∷ 3 ∷ 0 ∷ 0 ∷ 0 ∷ 4 ∷ 3 ∷ 2 ∷ 16 ∷ 0 ∷ 32 ∷ 0 ∷ 0 ∷ 3 ∷ 0 ∷ 0 ∷ 0 ∷ 0 ∷ 3 ∷ 0 ∷ 0 ∷ 0 ∷ 0 ∷ 0 ∷ 0 ∷ 1 ∷ 0 ∷ 0 ∷ 0 ∷ 0 ∷ 0 ∷ 0 ∷ 0 ∷ 0 ∷ 0 ∷ [])
     ∷ []) 0 2)
     -- K2: a card lies in the slot at the start. In tick 1 its first reading is a change, for a ChangeDetector (gate 1) and for a pin (2); nothing is one too (3). Of one
     -- rank the lower gate begins first.
@@ -275,3 +290,11 @@ pub limits-differ :
     }
 unfolding model-opened three-steps
 limits-differ = refl
+
+-- K4: where one step may be made, the unit of gate 5 stops the tick: its record lists what is carried, and not gate 6, which is pending.
+pub stopped-carries :
+    (let c = circuit (joined carries) in
+    seen c (ticks-of c 65536 (allowed 1 (script (c .constants) (1 ∷ 0 ∷ 4598175219545276416 ∷ 0 ∷ [])))))
+    ≡ record { log = 1 ∷ 2 ∷ 0 ∷ 3 ∷ 3 ∷ 11 ∷ 3 ∷ 0 ∷ 5 ∷ 0 ∷ 0 ∷ 32 ∷ 2 ∷ 3 ∷ 4 ∷ 32 ∷ 0 ∷ 16 ∷ []; stop = 11; ticks = 0 }
+unfolding model-opened
+stopped-carries = refl

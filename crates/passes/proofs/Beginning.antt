@@ -14,10 +14,12 @@ use Rattle.lists.specs.declared.Taken.the-variants.{Empty, Entry}
 use Rattle.model.specs.Base.{snoc}
 use Rattle.model.specs.Circuit.{Circuit}
 use Rattle.model.specs.State.{Act as Unit-act, Send}
+use Rattle.model.specs.Record.{Listed}
+use Rattle.model.specs.Closing.{as-listed}
 use Rattle.wires.specs.View.{Values}
 use Rattle.states.specs.View.{Delays}
 use Rattle.units.specs.declared.Place.{Place}
-use Rattle.units.specs.View.{gate-of, form-of, entry-of, act-of, event-of, begun-of, Begun, Lists, Units}
+use Rattle.units.specs.View.{gate-of, form-of, entry-of, act-of, event-of, listed-of, Lists, Units}
 use Rattle.units.specs.Raising.{late≔, delivered≔, with-lists}
 use Rattle.units.specs.Calls.{with-begun, first-of, act-taken}
 use Rattle.areas.specs.Areas.{Contents, together}
@@ -26,7 +28,6 @@ use Rattle.unit.specs.declared.Act.{Act}
 use Rattle.unit.specs.declared.Act.the-variants.{Waiting, Event}
 use Rattle.unit.specs.Unit.{act-in, ran, Ran-as}
 use Rattle.passes.specs.declared.Next.the-variants.{Nothing, Begins}
-use Rattle.passes.specs.Passes.{begun-as}
 use Rattle.passes.specs.Taking.{next-of, rest-of, act-next, Takes, over, one-begun, Works}
 
 -- ---- units left
@@ -37,8 +38,8 @@ none-left n m e h = omega arith
 
 -- ---- the entry of a unit begun
 
-pub listed-waiting : (c : Circuit) (es : List Send) (a : Act) (x : ℕ) → a ≡ Waiting x → begun-of x ≡ begun-as (act-in c es a)
-unfolding begun-of act-in act-of
+pub listed-waiting : (c : Circuit) (es : List Send) (a : Act) (x : ℕ) → a ≡ Waiting x → listed-of x ≡ as-listed (act-in c es a)
+unfolding listed-of act-in act-of
 listed-waiting c es a x e = rw e refl
 
 event-gate : (g x : ℕ) → (g ≡ gate-of x) × (g < 65536) → gate-of (entry-of g 1 0) ≡ gate-of x
@@ -51,24 +52,24 @@ event-form g = omega arith
 
 pub listed-event :
     (c : Circuit) (es : List Send) (a : Act) (x g r : ℕ) → a ≡ Event x → (g ≡ gate-of x) × (g < 65536) → r ≡ entry-of g 1 0 →
-    begun-of r ≡ begun-as (act-in c es a)
-unfolding begun-of act-in event-of
+    listed-of r ≡ as-listed (act-in c es a)
+unfolding listed-of act-in event-of
 listed-event c es a x g r e eg er = rw (e, er) (λ j. record { gate = event-gate g x eg j; form = event-form g j })
 
 -- ---- a unit begins
 
-one-more : (U U₁ : Units) (b : Begun) → length (U .begun) < 1024 → U₁ ≡ with-begun U (cond (ltb (length (U .begun)) 1024) (snoc (U .begun) b) (U .begun)) → U₁ ≡ with-begun U (snoc (U .begun) b)
+one-more : (U U₁ : Units) (b : Listed) → length (U .begun) < 1024 → U₁ ≡ with-begun U (cond (ltb (length (U .begun)) 1024) (snoc (U .begun) b) (U .begun)) → U₁ ≡ with-begun U (snoc (U .begun) b)
 one-more U U₁ b h e = e ∙ ap (λ (t : Bool). with-begun U (cond t (snoc (U .begun) b) (U .begun))) (lt-ltb (length (U .begun)) 1024 h)
 
 pub begins :
     (c : Circuit) (vs : Values) (U U₁ : Units) (D : Delays) (b : Contents) (r : Ran) (x left : ℕ) (a : Act) (to : Place) → length (U .begun) < 1024 →
-    begun-of x ≡ begun-as (act-in c (U .events) a) →
-    U₁ ≡ with-begun U (cond (ltb (length (U .begun)) 1024) (snoc (U .begun) (begun-of x)) (U .begun)) →
+    listed-of x ≡ as-listed (act-in c (U .events) a) →
+    U₁ ≡ with-begun U (cond (ltb (length (U .begun)) 1024) (snoc (U .begun) (listed-of x)) (U .begun)) →
     Ran-as (together vs U₁ D) b r (ran c to left (act-in c (U₁ .events) a) (together vs U₁ D .state) (U₁ .lists)) →
     Works b r (one-begun (together vs U D .kept) (act-in c (U .events) a)) (ran c to left (act-in c (U .events) a) (together vs U D .state) (U .lists))
 begins c vs U U₁ D b r x left a to h e f q =
-    let k : U₁ ≡ with-begun U (snoc (U .begun) (begun-as (act-in c (U .events) a))) = one-more U U₁ (begun-of x) h f ∙ ap (λ (y : Begun). with-begun U (snoc (U .begun) y)) e in
-    let p : Ran-as (together vs (with-begun U (snoc (U .begun) (begun-as (act-in c (U .events) a)))) D) b r (ran c to left (act-in c (U .events) a) (together vs U D .state) (U .lists)) =
+    let k : U₁ ≡ with-begun U (snoc (U .begun) (as-listed (act-in c (U .events) a))) = one-more U U₁ (listed-of x) h f ∙ ap (λ (y : Listed). with-begun U (snoc (U .begun) y)) e in
+    let p : Ran-as (together vs (with-begun U (snoc (U .begun) (as-listed (act-in c (U .events) a)))) D) b r (ran c to left (act-in c (U .events) a) (together vs U D .state) (U .lists)) =
     subst (λ (u : Units). Ran-as (together vs u D) b r (ran c to left (act-in c (u .events) a) (together vs u D .state) (u .lists))) k q in
     record {
       state = ap (λ (x : Contents). x .state) (p .areas);

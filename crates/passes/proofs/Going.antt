@@ -10,14 +10,16 @@ use Rattle.model.specs.Base.{snoc}
 use Rattle.model.specs.Circuit.{Circuit}
 use Rattle.model.specs.State.{Act, State}
 use Rattle.model.specs.Unit.{World, state≔}
+use Rattle.model.specs.Record.{Listed}
+use Rattle.model.specs.Closing.{as-listed}
 use Rattle.units.specs.declared.Place.{Place}
-use Rattle.units.specs.View.{Lists, Begun}
+use Rattle.units.specs.View.{Lists}
 use Rattle.units.specs.Raising.{activate}
 use Rattle.areas.specs.Areas.{Contents, Kept}
 use Rattle.chain.specs.declared.Ran.{Ran}
 use Rattle.unit.specs.Unit.{ran}
 use Rattle.passes.specs.Waiting.{bare, waiting}
-use Rattle.passes.specs.Passes.{begun-as, with-begun, units-left, Passes}
+use Rattle.passes.specs.Passes.{with-begun, units-left, Passes}
 use Rattle.passes.proofs.Filing.{through}
 use Rattle.passes.proofs.Turns.{Like, like-same, like-on, turn, no-more, no-room, stopped}
 
@@ -35,7 +37,7 @@ module _ (c : Circuit) where
     pub record Going (a b : Contents) (w : World) (left n : ℕ) : Type 0 where
       pub before : List Act
       pub like : Like c (pass S next act (units-left a) tt (h (a .lists)) w 0) (pass S next act n tt (h (b .lists)) (state≔ w left (b .state)) 0) before
-      pub kept : b .kept ≡ with-begun (a .kept) (a .kept .begun ++ map begun-as before)
+      pub kept : b .kept ≡ with-begun (a .kept) (a .kept .begun ++ map as-listed before)
       pub rest : n ≡ units-left b
 
     -- at its start
@@ -52,7 +54,7 @@ module _ (c : Circuit) where
     pub going-on :
         (a b b₁ : Contents) (w : World) (left n : ℕ) (x : Act) (rest : Lists) → next (h (b .lists)) ≡ took (waiting c x) (h rest) →
         let z = ran c (to x) left x (b .state) rest in
-        b₁ .state ≡ z .state → b₁ .lists ≡ z .lists → b₁ .kept ≡ with-begun (b .kept) (snoc (b .kept .begun) (begun-as x)) → z .stop ≡ 0 →
+        b₁ .state ≡ z .state → b₁ .lists ≡ z .lists → b₁ .kept ≡ with-begun (b .kept) (snoc (b .kept .begun) (as-listed x)) → z .stop ≡ 0 →
         Going a b w left (suc n) → Going a b₁ w (z .left) n
     unfolding snoc state≔
     going-on a b b₁ w left n x rest e s l k stop g =
@@ -65,8 +67,8 @@ module _ (c : Circuit) where
               (subst (λ (o : Lists). Like c (pass S next act (units-left a) tt (h (a .lists)) w 0) (pass S next act n tt (h o) (state≔ w (z .left) (b₁ .state)) (z .stop)) (g .before ++ (x ∷ []))) (sym l)
               (subst (λ (o : State). Like c (pass S next act (units-left a) tt (h (a .lists)) w 0) (pass S next act n tt (h (z .lists)) (state≔ w (z .left) o) (z .stop)) (g .before ++ (x ∷ []))) (sym s)
               (like-on c (g .like) i)));
-          kept = k ∙ ap (λ (q : Kept). with-begun q (q .begun ++ (begun-as x ∷ []))) (g .kept) ∙ ap (with-begun (a .kept)) (append-assoc (a .kept .begun) (map begun-as (g .before)) (begun-as x ∷ []) ∙ ap (λ (r : List Begun). a .kept .begun ++ r) (sym (map-append begun-as (g .before) (x ∷ []))));
-          rest = let q : length (b₁ .kept .begun) ≡ length (b .kept .begun) + 1 = ap (λ (r : Kept). length (r .begun)) k ∙ length-append (b .kept .begun) (begun-as x ∷ []) in let r = g .rest in omega arith;
+          kept = k ∙ ap (λ (q : Kept). with-begun q (q .begun ++ (as-listed x ∷ []))) (g .kept) ∙ ap (with-begun (a .kept)) (append-assoc (a .kept .begun) (map as-listed (g .before)) (as-listed x ∷ []) ∙ ap (λ (r : List Listed). a .kept .begun ++ r) (sym (map-append as-listed (g .before) (x ∷ []))));
+          rest = let q : length (b₁ .kept .begun) ≡ length (b .kept .begun) + 1 = ap (λ (r : Kept). length (r .begun)) k ∙ length-append (b .kept .begun) (as-listed x ∷ []) in let r = g .rest in omega arith;
         }
 
     -- ---- its end
@@ -74,14 +76,14 @@ module _ (c : Circuit) where
     -- it came to this
     ended :
         (a b : Contents) (r : Ran) (w : World) (p : Passed S Q) (n s : ℕ) (before : List Act) → Like c p (no-turn S n tt (h (b .lists)) (state≔ w (r .left) (b .state)) s) before →
-        r .stop ≡ s → n ≡ units-left b → b .kept ≡ with-begun (a .kept) (a .kept .begun ++ map begun-as before) → Passes c h a b r w p
+        r .stop ≡ s → n ≡ units-left b → b .kept ≡ with-begun (a .kept) (a .kept .begun ++ map as-listed before) → Passes c h a b r w p
     ended a b r w p n s before i e f k =
         record {
           world = i .world;
           queue = i .queue;
           stop = i .stop ∙ sym e;
           left = i .left ∙ f;
-          kept = k ∙ ap (λ (o : List Act). with-begun (a .kept) (a .kept .begun ++ map begun-as o)) (sym (i .begun ∙ append-nil before));
+          kept = k ∙ ap (λ (o : List Act). with-begun (a .kept) (a .kept .begun ++ map as-listed o)) (sym (i .begun ∙ append-nil before));
         }
 
     -- nothing waits
@@ -106,7 +108,7 @@ module _ (c : Circuit) where
     pub going-stop :
         (a b b₁ : Contents) (r : Ran) (w : World) (left n : ℕ) (x : Act) (rest : Lists) → next (h (b .lists)) ≡ took (waiting c x) (h rest) →
         let z = ran c (to x) left x (b .state) rest in
-        b₁ .state ≡ z .state → b₁ .lists ≡ z .lists → b₁ .kept ≡ with-begun (b .kept) (snoc (b .kept .begun) (begun-as x)) → r .left ≡ z .left → r .stop ≡ z .stop → (r .stop ≡ 0 → ⊥) →
+        b₁ .state ≡ z .state → b₁ .lists ≡ z .lists → b₁ .kept ≡ with-begun (b .kept) (snoc (b .kept .begun) (as-listed x)) → r .left ≡ z .left → r .stop ≡ z .stop → (r .stop ≡ 0 → ⊥) →
         Going a b w left (suc n) → Passes c h a b₁ r w (pass S next act (units-left a) tt (h (a .lists)) w 0)
     unfolding snoc state≔
     going-stop a b b₁ r w left n x rest e s l k f o not-zero g =
@@ -120,5 +122,5 @@ module _ (c : Circuit) where
         (subst (λ (m : Passed S Q). Like c p m (g .before ++ (x ∷ []))) (stopped c h next act to files n (z .stop) _ (z .lists) (λ y. not-zero (o ∙ y)))
         (like-on c (g .like) i)))))
         o
-        (let q : length (b₁ .kept .begun) ≡ length (b .kept .begun) + 1 = ap (λ (y : Kept). length (y .begun)) k ∙ length-append (b .kept .begun) (begun-as x ∷ []) in let y = g .rest in omega arith)
-        (k ∙ ap (λ (q : Kept). with-begun q (q .begun ++ (begun-as x ∷ []))) (g .kept) ∙ ap (with-begun (a .kept)) (append-assoc (a .kept .begun) (map begun-as (g .before)) (begun-as x ∷ []) ∙ ap (λ (y : List Begun). a .kept .begun ++ y) (sym (map-append begun-as (g .before) (x ∷ [])))))
+        (let q : length (b₁ .kept .begun) ≡ length (b .kept .begun) + 1 = ap (λ (y : Kept). length (y .begun)) k ∙ length-append (b .kept .begun) (as-listed x ∷ []) in let y = g .rest in omega arith)
+        (k ∙ ap (λ (q : Kept). with-begun q (q .begun ++ (as-listed x ∷ []))) (g .kept) ∙ ap (with-begun (a .kept)) (append-assoc (a .kept .begun) (map as-listed (g .before)) (as-listed x ∷ []) ∙ ap (λ (y : List Listed). a .kept .begun ++ y) (sym (map-append as-listed (g .before) (x ∷ [])))))

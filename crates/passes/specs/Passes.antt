@@ -5,19 +5,16 @@ use mathlib.Core.List.{List, _++_, map}
 use lib.ListN.{length}
 use Rattle.schedule.specs.Schedule.{most-units, Passed, acts}
 use Rattle.model.specs.Circuit.{Circuit}
-use Rattle.model.specs.State.{Act}
 use Rattle.model.specs.Unit.{World, state≔}
-use Rattle.units.specs.View.{Lists, Begun}
+use Rattle.model.specs.Record.{Listed}
+use Rattle.model.specs.Closing.{as-listed}
+use Rattle.units.specs.View.{Lists}
 use Rattle.areas.specs.Areas.{Contents, Kept}
 use Rattle.chain.specs.declared.Ran.{Ran}
 use Rattle.passes.specs.Waiting.{bare}
 
--- a unit begun
-abbrev pub begun-as : Act → Begun
-begun-as a = record { gate = a .gate; form = a .form }
-
 -- all but the units begun
-abbrev pub with-begun : Kept → List Begun → Kept
+abbrev pub with-begun : Kept → List Listed → Kept
 with-begun k b =
     record { begun = b; events = k .events; parts = k .parts; behind-values = k .behind-values; behind-units = k .behind-units; behind-delays = k .behind-delays }
 
@@ -31,4 +28,4 @@ pub record Passes (c : Circuit) {Q : Type 0} (h : Lists → Q) (a b : Contents) 
   pub queue : p .queue ≡ h (b .lists)
   pub stop : p .stop ≡ r .stop
   pub left : p .left ≡ units-left b
-  pub kept : b .kept ≡ with-begun (a .kept) (a .kept .begun ++ map begun-as (acts (bare c) (p .turns)))
+  pub kept : b .kept ≡ with-begun (a .kept) (a .kept .begun ++ map as-listed (acts (bare c) (p .turns)))

@@ -8,6 +8,7 @@ use Rattle.schedule.specs.Schedule.{list-full}
 use Rattle.model.specs.Base.{snoc}
 use Rattle.model.specs.Circuit.{Circuit}
 use Rattle.model.specs.State.{Act, Send}
+use Rattle.model.specs.Closing.{as-listed}
 use Rattle.units.specs.View.{Lists, Units}
 use Rattle.units.specs.Raising.{late≔, delivered≔, with-lists}
 use Rattle.areas.specs.Areas.{Contents, Kept}
@@ -15,7 +16,7 @@ use Rattle.chain.specs.declared.Ran.{Ran}
 use Rattle.unit.specs.Unit.{act-in, Result}
 use Rattle.passes.specs.declared.Next.{Next}
 use Rattle.passes.specs.declared.Next.the-variants.{Nothing, Begins}
-use Rattle.passes.specs.Passes.{begun-as, with-begun}
+use Rattle.passes.specs.Passes.{with-begun}
 
 -- ---- the late pass
 
@@ -51,7 +52,7 @@ over (some a) = list-full
 
 -- one more unit begun
 abbrev pub one-begun : Kept → Act → Kept
-one-begun k a = with-begun k (snoc (k .begun) (begun-as a))
+one-begun k a = with-begun k (snoc (k .begun) (as-listed a))
 
 -- The areas became b, with the answer r, as a unit that came to z and keeps k.
 pub record Works (b : Contents) (r : Ran) (k : Kept) (z : Result) : Type 0 where

@@ -6,16 +6,16 @@ ghost use lib.ListN.{length};
 ghost use Rattle.schedule.specs.Schedule.{most-units};
 ghost use Rattle.model.specs.Circuit.{Circuit};
 ghost use Rattle.model.specs.State.{Send};
+ghost use Rattle.model.specs.Closing.{as-listed};
 // The definition `units` is named `view` here, beside the slice of that name.
 ghost use Rattle.links.specs.Links.{net};
 ghost use Rattle.links.specs.Lent.{Linked, Room};
 ghost use Rattle.states.specs.Lent.{Slots, Slots-stay};
-ghost use Rattle.units.specs.View.{begun-of, units as view};
+ghost use Rattle.units.specs.View.{listed-of, units as view};
 ghost use Rattle.units.specs.Calls.{first-of};
 ghost use Rattle.units.specs.Lent.{Reads, Changes};
 ghost use Rattle.areas.specs.Lent.{Over-all};
 ghost use Rattle.unit.specs.Unit.{Few-calls, act-in};
-ghost use Rattle.passes.specs.Passes.{begun-as};
 ghost use Rattle.passes.specs.Taking.{next-of, Takes, over};
 ghost use Rattle.passes.specs.Lent.{Passes-late, Passes-main, Leaves-main, Begins-unit};
 use chain::Ran;
@@ -54,7 +54,7 @@ fn units_left(units: &[u8]) -> usize
 
 // The entry by which a unit begun is listed.
 fn listed(a: Act) -> u64
-    ensures { λ r. ⌜ ((c : Circuit) (es : List Send) → begun-of r ≡ begun-as (act-in c es a)) ⌝ }
+    ensures { λ r. ⌜ ((c : Circuit) (es : List Send) → listed-of r ≡ as-listed (act-in c es a)) ⌝ }
 {
     match a {
         Act::Waiting(x) => x,

@@ -2,12 +2,17 @@
 use mathlib.Core.Path.{_≡_, refl, sym, ap, _∙_}
 use Prim.Native.Nat.{ℕ, suc, _+_, _-_, _*_, _<_, _≤_, min}
 use mathlib.Core.List.{List}
-use lib.ListN.{length, getD}
+use lib.Dec.{eqb}
+use lib.ListN.{length, getD, drop}
+use lib.Seq.{getD-drop}
 use native.Mathlib.Omega.{arith}
 use borrow.Author.Tests.{eq-eqb, ne-eqb}
+use Rattle.model.specs.Base.{if_then_else_}
 use Rattle.model.specs.Kinds.{kind-at}
+use Rattle.model.specs.Circuit.{word-at}
+use Rattle.model.specs.Record.{begun-count, carried-count, stop-in, shown-count, carried-at, shown-at, record-size}
 use Rattle.kinds.proofs.Laws.{few-outputs}
-use Rattle.play.specs.Records.{outputs-from, outputs-of, record-words}
+use Rattle.play.specs.Outputs.{outputs-from, outputs-of}
 
 -- the outputs of one more gate
 pub outputs-next : (ws : List ℕ) (a n g t k w x : ℕ) → g < n → w ≡ getD ws (a + g) 0 → k ≡ length (kind-at w .outs) → t + outputs-from ws (a + g) (n - g) ≡ x → t + k + outputs-from ws (a + (g + 1)) (n - (g + 1)) ≡ x
@@ -46,18 +51,18 @@ outputs-are ws u v g c f r eu eg ev ec ef e =
     let q : f ≡ 4 + 2 * min (getD ws 1 0) 64 = ef ∙ ap (λ (x : ℕ). 4 + 2 * x) (ec ∙ ap (λ (x : ℕ). min x 64) ev) in
     e ∙ ap (λ (x : ℕ). outputs-from ws x g) q ∙ ap (λ (x : ℕ). outputs-from ws (4 + 2 * min (getD ws 1 0) 64) x) p
 
--- a record with outputs
-pub words-shown : (ws : List ℕ) (o k u v l m s : ℕ) → u ≡ getD ws (k + 2) 0 → l ≡ min u 1024 → v ≡ getD ws (k + 3) 0 → m ≡ min v 1024 → s ≡ getD ws (k + 5) 0 → s ≡ 0 → 6 + 2 * (l + m) + 2 * o ≡ record-words ws o k
-unfolding record-words
-words-shown ws o k u v l m s eu el ev em es h =
-    let p : l ≡ min (getD ws (k + 2) 0) 1024 = el ∙ ap (λ (x : ℕ). min x 1024) eu in
-    let q : m ≡ min (getD ws (k + 3) 0) 1024 = em ∙ ap (λ (x : ℕ). min x 1024) ev in
-    rw (p, q, eq-eqb (getD ws (k + 5) 0) 0 (sym es ∙ h)) refl
+-- ---- how many words a record has, by words of its head that are cut where no more are left
 
--- and one without
-pub words-hidden : (ws : List ℕ) (o k u v l m s : ℕ) → u ≡ getD ws (k + 2) 0 → l ≡ min u 1024 → v ≡ getD ws (k + 3) 0 → m ≡ min v 1024 → s ≡ getD ws (k + 5) 0 → (s ≡ 0 → ⊥) → 6 + 2 * (l + m) ≡ record-words ws o k
-unfolding record-words
-words-hidden ws o k u v l m s eu el ev em es h =
-    let p : l ≡ min (getD ws (k + 2) 0) 1024 = el ∙ ap (λ (x : ℕ). min x 1024) eu in
-    let q : m ≡ min (getD ws (k + 3) 0) 1024 = em ∙ ap (λ (x : ℕ). min x 1024) ev in
-    rw (p, q, ne-eqb (getD ws (k + 5) 0) 0 (λ z. h (es ∙ z))) (omega arith)
+module _ (ws : List ℕ) (at left outputs a b k s : ℕ) {l m c : ℕ} (ea : a ≡ getD ws (at + 2) 0) (el : l ≡ min a left) (eb : b ≡ getD ws (at + 3) 0) (em : m ≡ min b left) (ek : k ≡ getD ws (at + 4) 0) (ec : c ≡ min k left) (es : s ≡ getD ws (at + 5) 0) where
+  size-is : (n : ℕ) → (if eqb s 0 then outputs else 0) ≡ n → record-size outputs (drop at ws) ≡ 6 + 2 * (a + b) + 2 * k + 2 * n
+  unfolding record-size shown-at carried-at begun-count carried-count shown-count stop-in word-at
+  size-is n e =
+      rw (getD-drop at ws 2 0, getD-drop at ws 3 0, getD-drop at ws 4 0, getD-drop at ws 5 0, sym ea, sym eb, sym ek, sym es, e) refl
+
+  pub size-shown : (r : ℕ) → s ≡ 0 → r ≡ min (6 + 2 * (l + m) + 2 * c + 2 * outputs) left → r ≡ min (record-size outputs (drop at ws)) left
+  unfolding if_then_else_
+  size-shown r h e = omega (arith, e, size-is outputs (rw (eq-eqb s 0 h) refl))
+
+  pub size-hidden : (r : ℕ) → (s ≡ 0 → ⊥) → r ≡ min (6 + 2 * (l + m) + 2 * c) left → r ≡ min (record-size outputs (drop at ws)) left
+  unfolding if_then_else_
+  size-hidden r h e = omega (arith, e, size-is 0 (rw (ne-eqb s 0 h) refl))

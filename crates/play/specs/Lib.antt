@@ -1,3 +1,3 @@
 -- What the contracts of the program cite.
-pub mod Records
+pub mod Outputs
 pub mod Text

@@ -1,15 +1,14 @@
 // Plays script.bin over circuit.bin, both in the folder that the program runs in, and prints the records and how the run ended, or the refusal.
-ghost use Prim.Native.Nat.{_^_, _≤_, _<_};
+ghost use Prim.Native.Nat.{_^_, _<_};
 ghost use Rattle.words.specs.Slices.{after};
 ghost use Rattle.io.specs.Counts.{Counts};
-ghost use Rattle.play.specs.Records.{longest-record};
 
 mod records;
 mod text;
 
 use libc::STDOUT_FILENO;
 use records::outputs;
-use records::record_words;
+use records::record_size;
 use run::Answer;
 use text::add_word;
 use words::read;
@@ -28,7 +27,7 @@ fn print_word(word: u64, last: u8) {
 
 // Prints n words from word `at` on as a line.
 fn print_record(log: &[u8], at: usize, n: usize)
-    requires { ⌜ (at < 2 ^ 62) × (n ≤ longest-record) ⌝ }
+    requires { ⌜ (at < 2 ^ 61) × (n < 2 ^ 61) ⌝ }
 {
     let mut i = 0;
     while i + 1 < n {
@@ -40,12 +39,12 @@ fn print_record(log: &[u8], at: usize, n: usize)
 
 // Prints the records in the first `size` words of the log.
 fn print_records(circuit: &[u8], log: &[u8], size: usize)
-    requires { ⌜ size < 2 ^ 62 ⌝ }
+    requires { ⌜ size < 2 ^ 61 ⌝ }
 {
     let shown = outputs(circuit);
     let mut at = 0;
     while at < size {
-        let n = record_words(log, at, shown);
+        let n = record_size(log, at, size - at, shown);
         print_record(log, at, n);
         at += n;
     }

@@ -1,13 +1,14 @@
 // Where the records of a log begin and end.
 ghost use mathlib.Core.Path.{_≡_};
 ghost use Prim.Native.Nat.{_^_, _≤_, _<_, min};
+ghost use lib.ListN.{drop};
 ghost use Rattle.words.specs.Slices.{was};
+ghost use Rattle.model.specs.Record.{head-size, record-size};
 ghost use Rattle.links.specs.Links.{most-outputs};
-ghost use Rattle.play.specs.Records.{outputs-of, record-words, longest-record};
+ghost use Rattle.play.specs.Outputs.{outputs-of};
 use links::layout::MOST_CONSTANTS;
 use links::layout::MOST_GATES;
 use log::HEAD;
-use units::layout::MOST_UNITS;
 use words::read;
 
 // n, or most where that is less.
@@ -35,19 +36,20 @@ pub fn outputs(circuit: &[u8]) -> usize
     total
 }
 
-// How many words the record has that begins at word `at`.
-pub fn record_words(log: &[u8], at: usize, outputs: usize) -> usize
-    requires { ⌜ (at < 2 ^ 62) × (outputs ≤ most-outputs) ⌝ }
-    ensures { λ r. ⌜ r ≡ record-words (was log) outputs at ⌝ }
-    ensures { λ r. ⌜ (6 ≤ r) × (r ≤ longest-record) ⌝ }
+// How many words the record has that begins at word `at` of a log, behind which `left` words are left, and not more than these.
+pub fn record_size(log: &[u8], at: usize, left: usize, outputs: usize) -> usize
+    requires { ⌜ (at < 2 ^ 61) × (left < 2 ^ 61) × (outputs ≤ most-outputs) ⌝ }
+    ensures { λ r. ⌜ r ≡ min (record-size outputs (drop at (was log))) left ⌝ }
+    ensures { λ r. ⌜ (min head-size left ≤ r) × (r ≤ left) ⌝ }
 {
-    let late = least(read(log, at + 2), MOST_UNITS);
-    let main = least(read(log, at + 3), MOST_UNITS);
+    let late = least(read(log, at + 2), left);
+    let main = least(read(log, at + 3), left);
+    let carried = least(read(log, at + 4), left);
     let stop = read(log, at + 5);
-    let units = HEAD + 2 * (late + main);
+    let units = HEAD + 2 * (late + main) + 2 * carried;
     if stop == 0 {
-        units + 2 * outputs
+        least((units + 2 * outputs) as u64, left)
     } else {
-        units
+        least(units as u64, left)
     }
 }

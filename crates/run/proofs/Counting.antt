@@ -19,7 +19,7 @@ use Rattle.model.specs.Chain.{Calls, Chained, run-chain}
 use Rattle.model.specs.Settle.{Settled, calm, raise, publish-writes, pulse, compared, check, check-on, settle}
 use Rattle.model.specs.Opening.{wires-fresh, wires-at-start, start, next-tick, begin-tick, lower, open-tick}
 use Rattle.model.specs.Unit.{World, state≔, raises-in, enter, run-unit, finish-chain}
-use Rattle.model.specs.Record.{read-outputs, write, close}
+use Rattle.model.specs.Closing.{read-outputs, write, close}
 use Rattle.model.specs.Run.{Allowed, opening, body, closing, machine}
 use Rattle.model.proofs.Lists.{all-pass, if-both, each-keeps, map-all}
 use Rattle.model.proofs.Checks.{detect-keeps}

@@ -49,7 +49,8 @@ pub record Right (k : Call) (l : Left) (Tells : Answer → Type 0) : Type 0 wher
   pub values : l .values ≡ area-after (call-answer k) (k .values)
   pub units : l .units ≡ area-after (call-answer k) (k .units)
   pub delays : l .delays ≡ area-after (call-answer k) (k .delays)
-  -- demand 3: where it is not refused, the whole run is in order. This is a theorem about the definition; `answer` and `log` tie the code to it.
+  -- demand 3: where it is not refused, the whole run is in order, and each record shows its units, begun and carried (document 02, K4). This is a theorem about the
+  -- definition; `answer` and `log` tie the code to it.
   pub order : refusal (some (lent k)) (k .circuit) (k .script) ≡ 0 → Whole-run-in-order (lent k) (length (k .log)) (k .circuit) (k .script)
   -- document 02, K13: where it is not refused, no unit of the run reads, when it begins, a value left from before. Like `order`, a theorem about the definition.
   pub begins-fresh : refusal (some (lent k)) (k .circuit) (k .script) ≡ 0 → Whole-run-fresh (length (k .log)) (k .circuit) (k .script)

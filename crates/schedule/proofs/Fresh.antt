@@ -38,7 +38,7 @@ module _ (M : Machine) where
   numbered-fresh x (Numbered.one {e = e} r) = omega (arith, numbered-fresh x r, coming-suc x (e .tag))
 
   module _ {P Q : Type 0} (activate : P → Raised M → Q → Filed Q) where
-    raises-numbered : {t t₁ : ℕ} {q q₁ : Q} {es : List (Raised M)} → Raises (numbered M) activate t q es t₁ q₁ → Numbered M t es t₁
+    pub raises-numbered : {t t₁ : ℕ} {q q₁ : Q} {es : List (Raised M)} → Raises (numbered M) activate t q es t₁ q₁ → Numbered M t es t₁
     raises-numbered Raises.none = Numbered.none
     raises-numbered (Raises.one p h r) = Numbered.one (raises-numbered r)
 

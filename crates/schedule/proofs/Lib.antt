@@ -14,6 +14,8 @@ pub mod Ranked
 pub mod Fresh
 -- (c) what is carried
 pub mod Carry
+-- and first in the next late list: `tick-led`
+pub mod Leading
 -- raised as told, and the worlds of a run: `follows`
 pub mod Told
 -- what the opening raises to pending begins in the main pass: `begins-pending`

@@ -51,23 +51,23 @@ module _ (M : Machine) where
           Sorted._∷·_ (All._∷·_ hx (all-map (λ f b. before-trans e x f hx b) p)) (Sorted._∷·_ p s)
 
   -- sorted, and each was raised before the number t was given
-  record Good (t : ℕ) (l : List (Raised M)) : Type 0 where
+  pub record Good (t : ℕ) (l : List (Raised M)) : Type 0 where
     pub sorted : Sorted M l
     pub older : All (λ e. e .tag < t) l
 
-  good-le : {t t₁ : ℕ} {l : List (Raised M)} → t ≤ t₁ → Good t l → Good t₁ l
+  pub good-le : {t t₁ : ℕ} {l : List (Raised M)} → t ≤ t₁ → Good t l → Good t₁ l
   good-le h g = record { sorted = g .sorted; older = all-map (λ e k. omega arith) (g .older) }
 
-  good-push : (e : Raised M) {l : List (Raised M)} → Good (e .tag) l → Good (suc (e .tag)) (push (numbered M) e l)
+  pub good-push : (e : Raised M) {l : List (Raised M)} → Good (e .tag) l → Good (suc (e .tag)) (push (numbered M) e l)
   good-push e {l} g = record { sorted = push-sorted e l (g .sorted) (g .older); older = push-all-of e l (omega arith) (all-map (λ e h. omega arith) (g .older)) }
 
-  good-tail : {t : ℕ} {u : Raised M} {l : List (Raised M)} → Good t (u ∷ l) → Good t l
+  pub good-tail : {t : ℕ} {u : Raised M} {l : List (Raised M)} → Good t (u ∷ l) → Good t l
   good-tail {t} {u} {l} g = go (g .sorted) (g .older)
     where
       go : Sorted M (u ∷ l) → All (λ e. e .tag < t) (u ∷ l) → Good t l
       go (Sorted._∷·_ a s) (All._∷·_ p ps) = record { sorted = s; older = ps }
 
-  good-head : {t : ℕ} {u : Raised M} {l : List (Raised M)} → Good t (u ∷ l) → All (Before M u) l
+  pub good-head : {t : ℕ} {u : Raised M} {l : List (Raised M)} → Good t (u ∷ l) → All (Before M u) l
   good-head {t} {u} {l} g = go (g .sorted)
     where
       go : Sorted M (u ∷ l) → All (Before M u) l

@@ -14,6 +14,7 @@ use Rattle.schedule.proofs.Ticks.{Ticked, ticked, tick-ran, main-keeps,
 use Rattle.schedule.proofs.Ranked.{tick-sorted}
 use Rattle.schedule.proofs.Fresh.{coming, tick-fresh, tick-numbered, numbered-append}
 use Rattle.schedule.proofs.Carry.{tick-carry}
+use Rattle.schedule.proofs.Leading.{Rising, none-rises, tick-rising, tick-led}
 use Rattle.schedule.proofs.Told.{tick-told}
 
 module _ (M : Machine) where
@@ -62,13 +63,14 @@ module _ (M : Machine) where
       carried-once : k .stop ≡ 0 → (x : ℕ) → 1 ≤ times M x c → times M x (has-run (numbered M) k) ≡ 1
       carried-once h x i = omega (arith, ap (times M x) (tick-ran (numbered M) T h), kept (numbered M) (is x) T h, tick-fresh M x T, main-new x, one x)
 
-      orderly : Orderly M c k
-      orderly =
+      orderly : Rising M 0 c t₀ → Orderly M c k
+      orderly rising =
           record {
             by-rank = tick-sorted M T;
             only = λ m. omega (arith, tick-keeps (numbered M) m T);
             carries = tick-carry (numbered M) T;
             came = T .came;
+            first-late = tick-led M T rising;
             raised-once = raised-once;
             carried-once = carried-once;
             counts = counts;
@@ -94,10 +96,10 @@ module _ (M : Machine) where
       go zero h r = more (ticked (numbered M) w i c t) h r
       go (suc s) h r = stopped (ticked (numbered M) w i c t)
 
-  chain-each : {c : List (Raised M)} {t : ℕ} {ts : List (Played M)} → Chain c t ts → ((x : ℕ) → times M x c + coming x t ≤ 1) → Each M c ts
-  chain-each none one = over
-  chain-each (stopped T) one = last (orderly T one)
-  chain-each (more T h r) one = on (orderly T one) h (chain-each r (λ x. omega (arith, potential T x, one x)))
+  chain-each : {c : List (Raised M)} {t : ℕ} {ts : List (Played M)} → Chain c t ts → ((x : ℕ) → times M x c + coming x t ≤ 1) → Rising M 0 c t → Each M c ts
+  chain-each none one rising = over
+  chain-each (stopped T) one rising = last (orderly T one rising)
+  chain-each (more T h r) one rising = on (orderly T one rising) h (chain-each r (λ x. omega (arith, potential T x, one x)) (tick-rising M T))
 
   chain-numbered : {c : List (Raised M)} {t : ℕ} {ts : List (Played M)} → Chain c t ts → (n : ℕ) × Numbered M t (all-raised M ts) n
   chain-numbered {t = t} none = (t, Numbered.none)
@@ -149,7 +151,7 @@ module _ (M : Machine) where
       let r = chain is w [] 0 in
       let one : (x : ℕ) → times M x [] + coming x 0 ≤ 1 = λ x. omega (arith, zero-coming x) in
       record {
-        each = chain-each r one;
+        each = chain-each r one (none-rises M 0);
         as-raised = chain-numbered r;
         fresh = λ x. omega (arith, chain-raises x r, zero-coming x);
         once = λ x. omega (arith, chain-begins x r, zero-coming x);
@@ -158,3 +160,23 @@ module _ (M : Machine) where
             let b = chain-before pre k post x (rw h at r) in
             (omega (arith, one x), omega (arith, one x), chain-after pre k post x (rw h at r) one i);
       }
+
+  -- ---- a tick that is followed by another
+
+  each-rest : {c : List (Raised M)} {k : Played M} {ts : List (Played M)} → Each M c (k ∷ ts) → Each M (k .carried) ts
+  each-rest (last o) = over
+  each-rest (on o h r) = r
+
+  each-first : {c : List (Raised M)} {k : Played M} {ts : List (Played M)} → Each M c (k ∷ ts) → Orderly M c k
+  each-first (last o) = o
+  each-first (on o h r) = o
+
+  each-on : {c : List (Raised M)} {k l : Played M} {ts : List (Played M)} → Each M c (k ∷ l ∷ ts) → k .stop ≡ 0
+  each-on (on o h r) = h
+
+  -- has no stop, and what it carries is what comes into the next one
+  pub comes-in :
+      (pre : List (Played M)) (k l : Played M) (post : List (Played M)) {c : List (Raised M)} → Each M c (pre ++ (k ∷ l ∷ post)) →
+      (k .stop ≡ 0) × (l .came ≡ k .carried)
+  comes-in [] k l post e = (each-on e, each-first (each-rest e) .came)
+  comes-in (p ∷ pre) k l post e = comes-in pre k l post (each-rest e)

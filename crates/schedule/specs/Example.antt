@@ -187,6 +187,14 @@ record-written :
 unfolding schedule-opened
 record-written = refl
 
+-- In a tick that stops, too, it gets what is carried, in the order raised, and not what is pending (60).
+record-of-stopped :
+    records (record { raises = on 40 (41 ∷ 30 ∷ []); stops = λ a. cond (eqb a 50) 11 0; records = 99 }) (pending (60 ∷ 50 ∷ 40 ∷ []) ∷ [] ∷ [])
+    ≡ (record { late = []; main = 40 ∷ 50 ∷ []; carried = 41 ∷ 30 ∷ []; stop = 11 } ∷ [], 11)
+    ∷ []
+unfolding schedule-opened
+record-of-stopped = refl
+
 -- Where the record does not fit, the stop is 13.
 record-over :
     records (record { raises = λ a. []; stops = λ a. 0; records = 1 }) ([] ∷ [] ∷ [] ∷ [])

@@ -18,6 +18,11 @@ pub data All {A : Type 0} (P : A → Type 0) : List A → Type 0 where
   [·] : All P []
   _∷·_ : {a : A} {l : List A} → P a → All P l → All P (a ∷ l)
 
+-- P holds of each of a list, with the one in its place in another list
+pub data Along {A B : Type 0} (P : A → B → Type 0) : List A → List B → Type 0 where
+  [·] : {as₁ : List A} → Along P as₁ []
+  _∷·_ : {a : A} {as₁ : List A} {b : B} {bs : List B} → P a b → Along P as₁ bs → Along P (a ∷ as₁) (b ∷ bs)
+
 -- ---- of a tick
 
 module _ (S : Setup) where
@@ -141,6 +146,11 @@ module _ (M : Machine) where
     -- into this one.
     pub carries : t .carried ≡ raised-not-above (numbered M) (t .main)
     pub came : t .came ≡ c
+    -- They are put into the late list first: whatever begins in the late pass is of a lower rank than each of them that has not begun by then, or of the same and raised
+    -- before it, up to a stop as well.
+    pub first-late :
+        (pre : List Raised) (e : Raised) (post : List Raised) → units (numbered M) (t .late) ≡ pre ++ (e ∷ post) →
+        All (λ f. times (f .tag) (pre ++ (e ∷ [])) ≡ 0 → Before e f) c
     -- (d) Without a stop, each one raised and not carried runs once in the tick, and so does each one that was carried into it.
     pub raised-once : t .stop ≡ 0 → (x : ℕ) → 1 ≤ times x (raised (numbered M) t) → times x (t .carried) ≡ 0 → times x (has-run (numbered M) t) ≡ 1
     pub carried-once : t .stop ≡ 0 → (x : ℕ) → 1 ≤ times x c → times x (has-run (numbered M) t) ≡ 1

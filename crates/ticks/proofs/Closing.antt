@@ -6,24 +6,24 @@ use mathlib.Core.List.{List, [], _++_, map, append-nil}
 use native.Mathlib.Omega.{arith}
 use borrow.Author.Tests.{leb-true, leb-false, le-leb, lt-leb}
 use lib.Dec.{eqb, leb}
-use lib.ListN.{length, take, drop, length-append, length-map, take-append-drop}
+use lib.ListN.{length, take, drop, length-map, take-append-drop}
 use Rattle.words.specs.Words.{words, tail}
 use Rattle.words.proofs.Laws.{lengths}
 use Rattle.schedule.specs.Schedule.{Setup, Activation, LateQ, MainQ, OpenQ, log-full, Passed, main-pass, acts, outcome, tick, Closed}
 use Rattle.model.specs.Base.{if_then_else_}
 use Rattle.model.specs.Circuit.{Circuit}
 use Rattle.model.specs.Script.{Given}
-use Rattle.model.specs.State.{Act, State}
+use Rattle.model.specs.State.{State}
 use Rattle.model.specs.Unit.{World, state≔}
-use Rattle.model.specs.Record.{steps, log-record, write, close, read-outputs}
+use Rattle.model.specs.Record.{Listed, Log-record, record-words}
+use Rattle.model.specs.Closing.{steps, as-listed, log-record, write, close, read-outputs}
 use Rattle.model.specs.Run.{Allowed, closing}
-use Rattle.units.specs.View.{Begun}
 use Rattle.areas.specs.Areas.{Contents, Kept, with-state, with-went}
 use Rattle.chain.specs.declared.Ran.{Ran}
 use Rattle.opening.specs.Opening.{opened-into, reopened, opened}
 use Rattle.unit.specs.Unit.{stop-of}
 use Rattle.passes.specs.Waiting.{bare, waiting, for-late, for-main, for-both}
-use Rattle.passes.specs.Passes.{begun-as, units-left, Passes}
+use Rattle.passes.specs.Passes.{units-left, Passes}
 use Rattle.passes.proofs.Kept.{opening-carries}
 use Rattle.log.specs.declared.Head.{Head}
 use Rattle.log.specs.Log.{record-of, fits, Writes}
@@ -73,48 +73,38 @@ module _ (c : Circuit) where
     module _ (same : w .state ≡ a .state) (late : Passes c (for-late c) a₁ a₂ r₁ v (late-from c q v s)) (e : a₂ .lists .pending ≡ a₁ .lists .pending) (f : a₂ .lists .carried ≡ a₁ .lists .carried)
         (main : Passes c (for-main c) a₂ a₃ r₂ (state≔ v (r₁ .left) (a₂ .state)) (main-pass S (units-left a₂) tt (for-main c (a₂ .lists)) (state≔ v (r₁ .left) (a₂ .state)) (r₁ .stop)))
         (h : Head) (ended : State) (reads : ended ≡ read-outputs c (a₃ .state) (r₂ .stop)) (h₁ : h .tick ≡ ended .wires .tick) (h₂ : h .steps ≡ i .limit - r₂ .left + (if eqb (r₂ .stop) 11 then 1 else 0))
-        (h₃ : h .late ≡ length (a₂ .kept .begun)) (h₄ : h .main ≡ length (a₃ .kept .begun) - length (a₂ .kept .begun)) (h₅ : h .carried ≡ length (a₃ .lists .carried)) (h₆ : h .stop ≡ r₂ .stop) where
+        (h₃ : h .late ≡ length (a₂ .kept .begun)) (h₄ : h .stop ≡ r₂ .stop) where
       abbrev l : Passed S (LateQ (Activation S))
       l = late-from c q v s
 
       abbrev m : Passed S (MainQ (Activation S))
       m = main-pass S (units-left a₂) tt (for-main c (a₂ .lists)) (state≔ v (r₁ .left) (a₂ .state)) (r₁ .stop)
 
-      begun₂ : a₂ .kept .begun ≡ map begun-as (acts S (l .turns))
+      begun₂ : a₂ .kept .begun ≡ map as-listed (acts S (l .turns))
       unfolding reopened
-      begun₂ = ap (λ (k : Kept). k .begun) (late .kept) ∙ ap (λ (x : Contents). x .kept .begun ++ map begun-as (acts S (l .turns))) came
+      begun₂ = ap (λ (k : Kept). k .begun) (late .kept) ∙ ap (λ (x : Contents). x .kept .begun ++ map as-listed (acts S (l .turns))) came
 
-      begun₃ : a₃ .kept .begun ≡ map begun-as (acts S (l .turns)) ++ map begun-as (acts S (m .turns))
-      begun₃ = ap (λ (k : Kept). k .begun) (main .kept) ∙ ap (λ (b : List Begun). b ++ map begun-as (acts S (m .turns))) begun₂
+      begun₃ : a₃ .kept .begun ≡ map as-listed (acts S (l .turns)) ++ map as-listed (acts S (m .turns))
+      begun₃ = ap (λ (k : Kept). k .begun) (main .kept) ∙ ap (λ (b : List Listed). b ++ map as-listed (acts S (m .turns))) begun₂
 
       -- the world whose record is written
       abbrev u : World
       u = state≔ w (r₂ .left) ended
 
-      closed-is : closed-from c i q v s ≡ write u (record-of h (a₃ .kept .begun) (ended .wires .outs))
+      -- its words
+      abbrev rs : List ℕ
+      rs = record-words (record-of h (a₃ .kept .begun) (map as-listed (a₃ .lists .carried)) (ended .wires .outs))
+
+      closed-is : closed-from c i q v s ≡ write u rs
       unfolding closing close state≔ steps if_then_else_
       closed-is =
           ap (λ (x : Passed S (MainQ (Activation S))). closing c (x .world) i (outcome S (l .turns) (x .turns) (x .queue .carried) (x .stop))) (main-is late e f)
-          ∙ rw (main .world, main .queue, main .stop) (ap (λ (x : State). write (state≔ w (r₂ .left) x) (log-record (i .limit) (state≔ w (r₂ .left) x) (outcome S (l .turns) (m .turns) (map (waiting c) (a₃ .lists .carried)) (r₂ .stop)))) (sym reads))
-          ∙ ap (write u) (record-is c (i .limit) u (l .turns) (m .turns) (map (waiting c) (a₃ .lists .carried)) (r₂ .stop) h (a₃ .kept .begun)
-          h₁ (h₂ ∙ refl) (h₃ ∙ counted (acts S (l .turns)) (a₂ .kept .begun) begun₂)
-          (h₄ ∙ more) (h₅ ∙ sym (length-map (a₃ .lists .carried) (waiting c))) h₆ begun₃)
-        where
-          counted : (as₁ : List Act) (b : List Begun) → b ≡ map begun-as as₁ → length b ≡ length as₁
-          counted as₁ b k = ap length k ∙ length-map as₁ begun-as
-
-          more : length (a₃ .kept .begun) - length (a₂ .kept .begun) ≡ length (acts S (m .turns))
-          more =
-              let i : length (a₃ .kept .begun) ≡ length (map begun-as (acts S (l .turns))) + length (map begun-as (acts S (m .turns))) = ap length begun₃ ∙ length-append (map begun-as (acts S (l .turns))) (map begun-as (acts S (m .turns))) in
-              let j = ap length begun₂ in
-              let k = length-map (acts S (m .turns)) begun-as in
-              omega arith
+          ∙ rw (main .world, main .queue, main .stop) (ap (λ (x : State). write (state≔ w (r₂ .left) x) (record-words (log-record (i .limit) (state≔ w (r₂ .left) x) (outcome S (l .turns) (m .turns) (map (waiting c) (a₃ .lists .carried)) (r₂ .stop))))) (sym reads))
+          ∙ ap (λ (r : Log-record). write u (record-words r)) (record-is c (i .limit) u (l .turns) (m .turns) (a₃ .lists .carried) (r₂ .stop) h (a₃ .kept .begun)
+          h₁ h₂ (h₃ ∙ ap length begun₂ ∙ length-map (acts S (l .turns)) as-listed) h₄ begun₃)
 
       -- ---- the tick
-      module _ (before after : List ℕ) (at : ℕ) (room : w .room ≡ length before - 8 * at) (inside : 8 * at ≤ length before) (kept : Writes before after at (record-of h (a₃ .kept .begun) (ended .wires .outs))) where
-        abbrev rs : List ℕ
-        rs = record-of h (a₃ .kept .begun) (ended .wires .outs)
-
+      module _ (before after : List ℕ) (at : ℕ) (room : w .room ≡ length before - 8 * at) (inside : 8 * at ≤ length before) (kept : Writes before after at rs) where
         abbrev b : Contents
         b = with-state a₃ ended
 

@@ -1,23 +1,24 @@
 -- A tick by its parts.
 use Prim.Native.Nat.{ℕ}
-use mathlib.Core.Path.{_≡_, refl, sym, ap, _∙_, subst}
+use mathlib.Core.Path.{_≡_, refl, sym, ap, ap₂, _∙_, subst}
 use mathlib.Core.Bool.{cond}
-use mathlib.Core.List.{List, [], _∷_, _++_, map, append-assoc}
-use lib.ListN.{length, length-map}
+use mathlib.Core.List.{List, [], _∷_, _++_, map}
+use lib.Dec.{eqb}
+use lib.ListN.{length, take, drop, length-map}
+use lib.Seq.{take-append-seam, drop-append-seam}
 use Rattle.schedule.specs.Schedule.{Setup, Activation, LateQ, MainQ, OpenQ, most-units, log-full, push-all, activate-open, Raising, raise-all, Turn, Passed, late-pass, main-pass, Tick, acts, outcome, tick, Closed}
-use Rattle.schedule.proofs.Erase.{map-append}
+use Rattle.model.specs.Base.{if_then_else_}
 use Rattle.model.specs.Circuit.{Circuit}
 use Rattle.model.specs.State.{Act, State}
 use Rattle.model.specs.Opening.{open-tick}
 use Rattle.model.specs.Unit.{World, state≔, raises-in}
-use Rattle.model.specs.Record.{steps, head, units-begun, outputs-shown, log-record}
+use Rattle.model.specs.Record.{Listed}
+use Rattle.model.specs.Closing.{steps, outputs-shown, as-listed, log-record}
 use Rattle.model.specs.Run.{Allowed, opening, closing}
-use Rattle.units.specs.View.{Begun}
 use Rattle.areas.specs.Areas.{Contents}
 use Rattle.opening.specs.Opening.{put-to, opened-into, reopened, opened}
 use Rattle.unit.specs.Unit.{stop-of}
 use Rattle.passes.specs.Waiting.{bare, waiting, for-both}
-use Rattle.passes.specs.Passes.{begun-as}
 use Rattle.passes.proofs.Filing.{push-all-by-rank, open-files, Raised, raised-as}
 use Rattle.log.specs.declared.Head.{Head}
 use Rattle.log.specs.Log.{record-of}
@@ -90,23 +91,29 @@ module _ (c : Circuit) where
 
   -- ---- the record
 
+  -- what waits, the tags left out
+  acts-waiting : (l : List Act) → map (λ (e : Activation S). e .act) (map (waiting c) l) ≡ l
+  acts-waiting [] = refl
+  acts-waiting (a ∷ l) = ap (λ (r : List Act). a ∷ r) (acts-waiting l)
+
   -- the record of a tick, by what the areas hold
   pub record-is :
-      (limit : ℕ) (v : World) (late : List (Turn S)) (main : List (Turn S)) (carried : List (Activation S)) (stop : ℕ) (h : Head) (begun : List Begun) →
-      h .tick ≡ v .state .wires .tick → h .steps ≡ steps limit v stop → h .late ≡ length (acts S late) → h .main ≡ length (acts S main) → h .carried ≡ length carried → h .stop ≡ stop →
-      begun ≡ map begun-as (acts S late) ++ map begun-as (acts S main) →
-      log-record limit v (outcome S late main carried stop) ≡ record-of h begun (v .state .wires .outs)
-  unfolding log-record head units-begun outputs-shown record-of
-  record-is limit v late main carried stop h begun e₁ e₂ e₃ e₄ e₅ e₆ e₇ =
-      let as₁ = acts S late ++ acts S main in
-      let b : begun ≡ map begun-as as₁ = e₇ ∙ sym (map-append begun-as (acts S late) (acts S main)) in
-      let n : length (map (λ (e : Activation S). e .act) carried) ≡ h .carried = length-map carried (λ (e : Activation S). e .act) ∙ sym e₅ in
-      rw (e₁, e₂, e₃, e₄, e₆, n, b, gates-of as₁, forms-of as₁, append-assoc (map (λ a. a .gate) as₁) (map (λ a. a .form) as₁) (outputs-shown (v .state) stop)) refl
-    where
-      gates-of : (l : List Act) → map (λ (b : Begun). b .gate) (map begun-as l) ≡ map (λ (a : Act). a .gate) l
-      gates-of [] = refl
-      gates-of (a ∷ l) = ap (λ (r : List ℕ). a .gate ∷ r) (gates-of l)
-
-      forms-of : (l : List Act) → map (λ (b : Begun). b .form) (map begun-as l) ≡ map (λ (a : Act). a .form) l
-      forms-of [] = refl
-      forms-of (a ∷ l) = ap (λ (r : List ℕ). a .form ∷ r) (forms-of l)
+      (limit : ℕ) (v : World) (late : List (Turn S)) (main : List (Turn S)) (carried : List Act) (stop : ℕ) (h : Head) (begun : List Listed) →
+      h .tick ≡ v .state .wires .tick → h .steps ≡ steps limit v stop → h .late ≡ length (acts S late) → h .stop ≡ stop →
+      begun ≡ map as-listed (acts S late) ++ map as-listed (acts S main) →
+      log-record limit v (outcome S late main (map (waiting c) carried) stop) ≡ record-of h begun (map as-listed carried) (v .state .wires .outs)
+  unfolding log-record outputs-shown record-of
+  record-is limit v late main carried stop h begun e₁ e₂ e₃ e₄ e₅ =
+      let n : h .late ≡ length (map as-listed (acts S late)) = e₃ ∙ sym (length-map (acts S late) as-listed) in
+      let l : take (h .late) begun ≡ map as-listed (acts S late) = ap₂ take n e₅ ∙ take-append-seam (map as-listed (acts S late)) (map as-listed (acts S main)) in
+      let m : drop (h .late) begun ≡ map as-listed (acts S main) = ap₂ drop n e₅ ∙ drop-append-seam (map as-listed (acts S late)) (map as-listed (acts S main)) in
+      λ j.
+      record {
+        tick = sym e₁ j;
+        steps = sym e₂ j;
+        late = sym l j;
+        main = sym m j;
+        carried = map as-listed (acts-waiting carried j);
+        stop = sym e₄ j;
+        outs = if eqb (sym e₄ j) 0 then v .state .wires .outs else [];
+      }

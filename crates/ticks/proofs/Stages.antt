@@ -26,9 +26,9 @@ use Rattle.passes.proofs.Turns.{stopped}
 use Rattle.log.specs.declared.Head.{Head}
 use Rattle.log.specs.declared.Written.{Written}
 use Rattle.log.specs.declared.Written.the-variants.{Fits, Full as Too-long}
-use Rattle.log.specs.Log.{record-of, fits, written-as, Writes}
+use Rattle.log.specs.Log.{fits, written-as, Writes}
 use Rattle.ticks.specs.declared.Ticked.{Ticked}
-use Rattle.ticks.specs.Stages.{Ran-late, Ran-main, steps-made, outputs-read, head-of, words-of, ticked-as, Closes}
+use Rattle.ticks.specs.Stages.{Ran-late, Ran-main, steps-made, outputs-read, head-of, words-with, words-of, ticked-as, Closes}
 
 -- ---- the passes
 
@@ -105,22 +105,21 @@ read-all c v b stop h e = rw h e
 
 -- the head of the record
 pub head-is :
-    (limit late left stop n tick made main carried : ℕ) (v : Values) (u : Units) →
-    n ≡ length (u .begun) → tick ≡ v .wires .tick → made ≡ steps-made limit left stop → main ≡ n - late → carried ≡ length (u .lists .carried) →
-    _≡_ {A = Head} (record { tick = tick; steps = made; late = late; main = main; carried = carried; stop = stop }) (head-of limit late left stop v u)
+    (limit late left stop tick made : ℕ) (v : Values) → tick ≡ v .wires .tick → made ≡ steps-made limit left stop →
+    _≡_ {A = Head} (record { tick = tick; steps = made; late = late; stop = stop }) (head-of limit late left stop v)
 unfolding head-of
-head-is limit late left stop n tick made main carried v u e₁ e₂ e₃ e₄ e₅ = rw (e₂, e₃, e₄, e₁, e₅) refl
+head-is limit late left stop tick made v e₁ e₂ = rw (e₁, e₂) refl
 
 -- the record fits
 pub closes-fit :
     (c : Circuit) (limit late : ℕ) (r : Ran) (v b : Values) (u : Units) (before after : List ℕ) (at n : ℕ) (h : Head) (x : Written) →
-    b ≡ with-wires v (outputs-read c (v .wires) (r .stop)) → h ≡ head-of limit late (r .left) (r .stop) b u →
-    x ≡ written-as (fits before at (record-of h (u .begun) (b .wires .outs))) (record-of h (u .begun) (b .wires .outs)) → Writes before after at (record-of h (u .begun) (b .wires .outs)) → x ≡ Fits n →
+    b ≡ with-wires v (outputs-read c (v .wires) (r .stop)) → h ≡ head-of limit late (r .left) (r .stop) b →
+    x ≡ written-as (fits before at (words-with h b u)) (words-with h b u) → Writes before after at (words-with h b u) → x ≡ Fits n →
     Closes c limit late r v b u before after at (record { size = n; stop = r .stop })
 unfolding words-of written-as ticked-as
 closes-fit c limit late r v b u before after at n h x e₁ e₂ e₃ e₄ e₅ =
     let rs = words-of limit late r b u in
-    let same : record-of h (u .begun) (b .wires .outs) ≡ rs = ap (λ (y : Head). record-of y (u .begun) (b .wires .outs)) e₂ in
+    let same : words-with h b u ≡ rs = ap (λ (y : Head). words-with y b u) e₂ in
     record {
       values = e₁;
       answer = go rs (fits before at rs) (sym e₅ ∙ e₃ ∙ ap (λ (y : List ℕ). written-as (fits before at y) y) same);
@@ -134,13 +133,13 @@ closes-fit c limit late r v b u before after at n h x e₁ e₂ e₃ e₄ e₅ =
 -- it does not
 pub closes-full :
     (c : Circuit) (limit late : ℕ) (r : Ran) (v b : Values) (u : Units) (before after : List ℕ) (at : ℕ) (h : Head) (x : Written) →
-    b ≡ with-wires v (outputs-read c (v .wires) (r .stop)) → h ≡ head-of limit late (r .left) (r .stop) b u →
-    x ≡ written-as (fits before at (record-of h (u .begun) (b .wires .outs))) (record-of h (u .begun) (b .wires .outs)) → Writes before after at (record-of h (u .begun) (b .wires .outs)) → x ≡ Too-long →
+    b ≡ with-wires v (outputs-read c (v .wires) (r .stop)) → h ≡ head-of limit late (r .left) (r .stop) b →
+    x ≡ written-as (fits before at (words-with h b u)) (words-with h b u) → Writes before after at (words-with h b u) → x ≡ Too-long →
     Closes c limit late r v b u before after at (record { size = 0; stop = 13 })
 unfolding words-of written-as ticked-as
 closes-full c limit late r v b u before after at h x e₁ e₂ e₃ e₄ e₅ =
     let rs = words-of limit late r b u in
-    let same : record-of h (u .begun) (b .wires .outs) ≡ rs = ap (λ (y : Head). record-of y (u .begun) (b .wires .outs)) e₂ in
+    let same : words-with h b u ≡ rs = ap (λ (y : Head). words-with y b u) e₂ in
     record {
       values = e₁;
       answer = go rs (fits before at rs) (sym e₅ ∙ e₃ ∙ ap (λ (y : List ℕ). written-as (fits before at y) y) same);

@@ -13,7 +13,7 @@ use Rattle.model.specs.Circuit.{Circuit}
 use Rattle.model.specs.Script.{Given}
 use Rattle.model.specs.State.{State, wires≔}
 use Rattle.model.specs.Unit.{World, state≔}
-use Rattle.model.specs.Record.{read-outputs}
+use Rattle.model.specs.Closing.{read-outputs}
 use Rattle.model.specs.Run.{Allowed, allow}
 use Rattle.wires.specs.View.{Values, with-wires}
 use Rattle.units.specs.View.{Units}
@@ -82,13 +82,13 @@ module _ (c : Circuit) (i : Allowed) (a a₁ a₂ : Contents) (v b : Values) (u 
     unfolding words-of head-of steps-made
     tick-fits y =
         subst (λ (x : Contents). Ticks c a x before after at (length rs) (r₂ .stop) w (tick (bare c) w i (map (waiting c) (a .lists .carried)) tt)) areas-are
-        (ticks-fit c w i a a₁ a₂ a₃ r₁ r₂ came same late-is (l .pending) (l .carried) main-is₁ (head-of (i .limit) late (r₂ .left) (r₂ .stop) b u) ended reads refl refl n (ap (λ (x : ℕ). length (u .begun) - x) n) refl refl before after at room (omega arith) kept y)
+        (ticks-fit c w i a a₁ a₂ a₃ r₁ r₂ came same late-is (l .pending) (l .carried) main-is₁ (head-of (i .limit) late (r₂ .left) (r₂ .stop) b) ended reads refl refl n refl before after at room (omega arith) kept y)
 
     tick-full : fits before at rs ≡ false → Ticks c a (together b u d) before after at 0 log-full w (tick (bare c) w i (map (waiting c) (a .lists .carried)) tt)
     unfolding words-of head-of steps-made
     tick-full y =
         subst (λ (x : Contents). Ticks c a x before after at 0 log-full w (tick (bare c) w i (map (waiting c) (a .lists .carried)) tt)) areas-are
-        (ticks-full c w i a a₁ a₂ a₃ r₁ r₂ came same late-is (l .pending) (l .carried) main-is₁ (head-of (i .limit) late (r₂ .left) (r₂ .stop) b u) ended reads refl refl n (ap (λ (x : ℕ). length (u .begun) - x) n) refl refl before after at room (omega arith) kept y)
+        (ticks-full c w i a a₁ a₂ a₃ r₁ r₂ came same late-is (l .pending) (l .carried) main-is₁ (head-of (i .limit) late (r₂ .left) (r₂ .stop) b) ended reads refl refl n refl before after at room (omega arith) kept y)
 
     pub tick-answers :
         (t : Ticked) → t ≡ ticked-as (fits before at rs) rs (r₂ .stop) →

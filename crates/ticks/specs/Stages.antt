@@ -2,7 +2,7 @@
 use Prim.Native.Nat.{ℕ, _+_, _-_}
 use mathlib.Core.Path.{_≡_}
 use mathlib.Core.Bool.{Bool, true, false}
-use mathlib.Core.List.{List}
+use mathlib.Core.List.{List, map}
 use lib.Dec.{eqb}
 use lib.ListN.{length}
 use Rattle.schedule.specs.Schedule.{log-full, late-pass, main-pass}
@@ -12,6 +12,8 @@ use Rattle.model.specs.State.{Wires}
 use Rattle.model.specs.Wires.{refresh-all}
 use Rattle.model.specs.Chain.{runaway}
 use Rattle.model.specs.Unit.{World}
+use Rattle.model.specs.Record.{record-words}
+use Rattle.model.specs.Closing.{as-listed}
 use Rattle.wires.specs.View.{Values, with-wires}
 use Rattle.units.specs.View.{Units}
 use Rattle.areas.specs.Areas.{Contents}
@@ -41,13 +43,16 @@ unfoldable pub outputs-read : Circuit → Wires → ℕ → Wires
 outputs-read c w stop = if eqb stop 0 then refresh-all c w else w
 
 -- the head of a tick's record
-unfoldable pub head-of : ℕ → ℕ → ℕ → ℕ → Values → Units → Head
-head-of limit late left stop v u =
-    record { tick = v .wires .tick; steps = steps-made limit left stop; late = late; main = length (u .begun) - late; carried = length (u .lists .carried); stop = stop }
+unfoldable pub head-of : ℕ → ℕ → ℕ → ℕ → Values → Head
+head-of limit late left stop v = record { tick = v .wires .tick; steps = steps-made limit left stop; late = late; stop = stop }
+
+-- the words of a record with this head
+abbrev pub words-with : Head → Values → Units → List ℕ
+words-with h v u = record-words (record-of h (u .begun) (map as-listed (u .lists .carried)) (v .wires .outs))
 
 -- the words of a tick's record
 unfoldable pub words-of : ℕ → ℕ → Ran → Values → Units → List ℕ
-words-of limit late r v u = record-of (head-of limit late (r .left) (r .stop) v u) (u .begun) (v .wires .outs)
+words-of limit late r v u = words-with (head-of limit late (r .left) (r .stop) v) v u
 
 -- the answer of a tick, by whether its record fits
 unfoldable pub ticked-as : Bool → List ℕ → ℕ → Ticked

@@ -27,7 +27,6 @@ use stops::LIST_FULL;
 use stops::LOG_FULL;
 use stops::RUNAWAY;
 use units::begun::begun;
-use units::raising::carried;
 use wires;
 use wires::refreshing::refresh_all;
 use words::counting::less;
@@ -99,25 +98,14 @@ fn read_outputs(links: &[usize], values: &mut [u8], stop: u64)
 }
 
 // The head of the tick's record, where `late` units began in the late pass.
-fn head(
-    links: &[usize],
-    values: &[u8],
-    units: &[u8],
-    limit: u64,
-    late: usize,
-    left: u64,
-    stop: u64,
-) -> Head
-    requires { ⌜ Linked links × Room values × Room units × (limit < 2 ^ 63) ⌝ }
-    ensures { λ r. ⌜ r ≡ head-of limit late left stop (values-in links values) (units-in links units) ⌝ }
+fn head(links: &[usize], values: &[u8], limit: u64, late: usize, left: u64, stop: u64) -> Head
+    requires { ⌜ Linked links × Room values × (limit < 2 ^ 63) ⌝ }
+    ensures { λ r. ⌜ r ≡ head-of limit late left stop (values-in links values) ⌝ }
 {
-    let n = begun(units);
     Head {
         tick: wires::ticks::tick(links, values),
         steps: steps(limit, left, stop),
-        late: late as u64,
-        main: less(n, late) as u64,
-        carried: carried(units) as u64,
+        late,
         stop,
     }
 }
@@ -139,7 +127,7 @@ fn close(
     let left = r.left;
     let stop = r.stop;
     read_outputs(links, values, stop);
-    let h = head(links, values, units, limit, late, left, stop);
+    let h = head(links, values, limit, late, left, stop);
     match write_record(links, values, units, log, at, h) {
         Written::Fits(n) => Ticked { size: n, stop },
         Written::Full => Ticked {

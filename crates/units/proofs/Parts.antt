@@ -6,7 +6,7 @@ use lib.ListN.{getD}
 use native.Mathlib.Omega.{arith}
 use Rattle.model.specs.Circuit.{Circuit}
 use Rattle.model.specs.State.{Send}
-use Rattle.units.specs.View.{gate-of, form-of, brings, entry-of, row-of, act-of, event-of, begun-of}
+use Rattle.units.specs.View.{gate-of, form-of, brings, entry-of, row-of, act-of, event-of, listed-of}
 
 -- each part of an entry
 pub gate-of-entry : (g form k : ℕ) → gate-of (entry-of g form k) ≡ g % 2 ^ 16
@@ -39,9 +39,9 @@ event-of-entry es g e a b =
     rw (p, r)
 
 -- a unit begun
-pub begun-of-entry : (g form k : ℕ) → g < 65536 → form < 65536 → begun-of (entry-of g form k) ≡ record { gate = g; form = form }
-unfolding begun-of
-begun-of-entry g form k a b =
+pub listed-of-entry : (g form k : ℕ) → g < 65536 → form < 65536 → listed-of (entry-of g form k) ≡ record { gate = g; form = form }
+unfolding listed-of
+listed-of-entry g form k a b =
     let p : gate-of (entry-of g form k) ≡ g = omega (arith, gate-of-entry g form k) in
     let q : form-of (entry-of g form k) ≡ form = omega (arith, form-of-entry g form k) in
     rw (p, q)

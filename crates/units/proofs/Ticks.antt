@@ -20,7 +20,7 @@ use Rattle.model.specs.Circuit.{Circuit, rank-of-gate}
 use Rattle.model.specs.State.{Act, Send}
 use Rattle.model.specs.Chain.{no-calls}
 use Rattle.units.specs.declared.Place.the-variants.{Late}
-use Rattle.units.specs.View.{Tables, Units, sizes, cut, act-of, event-of, begun-of, half-at, event-at, events-of, second-half, units}
+use Rattle.units.specs.View.{Tables, Units, sizes, cut, act-of, event-of, listed-of, half-at, event-at, events-of, second-half, units}
 use Rattle.units.specs.Raising.{late≔, delivered≔, pending≔, carried≔, with-lists, by-rank, all-by-rank, activate, lists-after}
 use Rattle.units.specs.Calls.{with-calls, with-begun, stack≔, forks≔, reopened, empty}
 use Rattle.units.proofs.Lending.{poke, cut-poke, cut-peek, sized}
@@ -75,7 +75,7 @@ module _ (c : Circuit) (s t : List ℕ) where
   unfolding units events-of second-half
   begun-emptied e =
       stored-in c s t 6 0 0 (omega arith) e
-      ∙ ap (λ (k : List ℕ). with-begun (units c s) (map begun-of (reverse k))) (stacked-none 1024 (set (cut (words s) .begun) 0 0) (zero-at (cut (words s) .begun) 0))
+      ∙ ap (λ (k : List ℕ). with-begun (units c s) (map listed-of (reverse k))) (stacked-none 1024 (set (cut (words s) .begun) 0 0) (zero-at (cut (words s) .begun) 0))
 
 -- What `clear_rest` ensures: no call, nothing pending or carried, no unit begun.
 abbrev pub cleared : Units → Units
@@ -131,7 +131,7 @@ with-events c t t′ bs o es e₀ e₁ e₂ e₃ e₄ e₅ e₆ e₇ eo ee =
     λ j. record {
       calls = record { stack = stacked 256 (e₀ j); forks = queued 256 (e₁ j) };
       lists = record { late = map (act-of c) (stacked 256 (e₃ j)); delivered = d j; pending = map (act-of c) (stacked 256 (e₂ j)); carried = map (act-of c) (appended 256 (e₄ j)) };
-      begun = map begun-of (appended 1024 (e₆ j));
+      begun = map listed-of (appended 1024 (e₆ j));
       outbox = eo j;
       events = ee j;
       rest = e₇ j ++ bs;

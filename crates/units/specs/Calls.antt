@@ -13,7 +13,8 @@ use Rattle.model.specs.Base.{if_then_else_, snoc, among}
 use Rattle.model.specs.Circuit.{Circuit, most-gates}
 use Rattle.model.specs.State.{Act, Send}
 use Rattle.model.specs.Chain.{Calls, no-calls, Popped, most-calls}
-use Rattle.units.specs.View.{Begun, Units}
+use Rattle.model.specs.Record.{Listed}
+use Rattle.units.specs.View.{Units}
 use Rattle.units.specs.Raising.{all-by-rank}
 
 -- ---- one part changed, and nothing else
@@ -21,7 +22,7 @@ use Rattle.units.specs.Raising.{all-by-rank}
 abbrev pub with-calls : Units → Calls → Units
 with-calls u q = record { calls = q; lists = u .lists; begun = u .begun; outbox = u .outbox; events = u .events; rest = u .rest }
 
-abbrev pub with-begun : Units → List Begun → Units
+abbrev pub with-begun : Units → List Listed → Units
 with-begun u b = record { calls = u .calls; lists = u .lists; begun = b; outbox = u .outbox; events = u .events; rest = u .rest }
 
 abbrev pub with-outbox : Units → List Send → Units

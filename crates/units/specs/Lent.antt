@@ -17,7 +17,7 @@ use Rattle.model.specs.Circuit.{Circuit}
 use Rattle.model.specs.State.{Act, Send}
 use Rattle.model.specs.Chain.{pop}
 use Rattle.links.specs.Lent.{net-of}
-use Rattle.units.specs.View.{act-of, begun-of, Lists, Units, units}
+use Rattle.units.specs.View.{act-of, listed-of, Lists, Units, units}
 use Rattle.units.specs.Raising.{with-lists, carried≔, by-rank, answer, lists-after}
 use Rattle.units.specs.Calls.{with-calls, with-begun, popped, calls-left, first-of}
 
@@ -60,7 +60,7 @@ Pops u v r =
 abbrev pub Lists-unit : Units → Units → Answer → ℕ → Type 0
 Lists-unit u v r x =
     (r ≡ cond (ltb (length (u .begun)) most-units) Done Full)
-    × (v ≡ with-begun u (cond (ltb (length (u .begun)) most-units) (snoc (u .begun) (begun-of x)) (u .begun)))
+    × (v ≡ with-begun u (cond (ltb (length (u .begun)) most-units) (snoc (u .begun) (listed-of x)) (u .begun)))
 
 -- the two halves of the events have changed places, or were cleared
 abbrev pub with-halves : Units → List Send → List Send → Units

@@ -1,5 +1,5 @@
 -- How the area `units` holds the lists of a tick: tables of 64-bit words, one behind the other.
-use Prim.Native.Nat.{ℕ, _+_, _-_, _*_, _/_, _%_, _^_, min}
+use Prim.Native.Nat.{ℕ, _+_, _*_, _/_, _%_, _^_, min}
 use mathlib.Core.Bool.{Bool, not}
 use mathlib.Core.List.{List, [], _∷_, _++_, map}
 use lib.Dec.{eqb}
@@ -14,6 +14,7 @@ use Rattle.model.specs.Value.{value-of}
 use Rattle.model.specs.Circuit.{Circuit, part}
 use Rattle.model.specs.State.{Act, Send}
 use Rattle.model.specs.Chain.{Calls}
+use Rattle.model.specs.Record.{Listed, listed}
 
 -- The tables, in their order: the chain stack, the forks; what is pending, late and carried; the delivered events; the units begun; which half of the
 -- events is the outbox; how many events each half has; their senders and their rows, 64 to a half, a row of eight kinds and eight contents; and the words behind
@@ -119,22 +120,18 @@ pub record Lists : Type 0 where
   pub pending : List Act
   pub carried : List Act
 
--- a unit begun, as in the log
-pub record Begun : Type 0 where
-  pub gate : ℕ
-  pub form : ℕ
-
 -- the calls, what waits, the units begun in this tick, the events sent in this tick and in the one before, and what lies behind the tables
 pub record Units : Type 0 where
   pub calls : Calls
   pub lists : Lists
-  pub begun : List Begun
+  pub begun : List Listed
   pub outbox : List Send
   pub events : List Send
   pub rest : List ℕ
 
-unfoldable pub begun-of : ℕ → Begun
-begun-of x = record { gate = gate-of x; form = form-of x }
+-- as a record lists it
+unfoldable pub listed-of : ℕ → Listed
+listed-of x = listed (gate-of x) (form-of x)
 
 abbrev pub units-of : Circuit → Tables → Units
 units-of c t =
@@ -147,7 +144,7 @@ units-of c t =
             pending = map (act-of c) (ranked 256 (t .pending));
             carried = map (act-of c) (appended 256 (t .carried));
           };
-      begun = map begun-of (appended 1024 (t .begun));
+      begun = map listed-of (appended 1024 (t .begun));
       outbox = events-of (second-half t) t;
       events = events-of (not (second-half t)) t;
       rest = t .rest;

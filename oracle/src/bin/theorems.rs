@@ -115,7 +115,7 @@ impl Case<'_> {
         while at + 6 <= log.len() {
             let units = (log[at + 2] + log[at + 3]) as usize;
             done += log[at + 1] as usize + units;
-            at += 6 + 2 * units + if log[at + 5] == 0 { 2 * outputs } else { 0 };
+            at += 6 + 2 * (units + log[at + 4] as usize) + if log[at + 5] == 0 { 2 * outputs } else { 0 };
         }
         done * *gates as usize
     }

@@ -1,6 +1,7 @@
 //! The stated circuits: every circuit and script that the player is compared
 //! on, each with what it shows. docs/CIRCUITS.md is written from this list.
 
+mod carried;
 mod families;
 mod kinds;
 mod limits;
@@ -37,6 +38,7 @@ pub fn groups() -> Vec<Group> {
             "What is in place at the start is noticed in tick 1 (document 02, K2).",
             start::cases(),
         ),
+        group("carried", "What a tick carries is listed in its record (document 02, K4).", carried::cases()),
         group("kinds", "Every kind and every pin.", kinds::cases()),
         group("limits", "Every limit at its edge and one past it.", limits::cases()),
         group(

@@ -2,7 +2,7 @@
 
 /// Each in short; a case names the places that it tells by their numbers,
 /// from 1.
-pub const PLACES: [&str; 50] = [
+pub const PLACES: [&str; 53] = [
     "Settling refreshes stale gates once, before its checks. A pulse raised by a check leaves gates \
      stale, and a later VarSet is seen through them at once.",
     "Refreshing a gate refreshes all its stale pure sources, the unchosen side of a Select too.",
@@ -75,6 +75,12 @@ pub const PLACES: [&str; 50] = [
     "First checks are made in tick 1's opening, behind Clocks and with tick 1's time. What they raise \
      waits for the main pass; what the late pass changes is checked again.",
     "A value buffer whose first reading is nothing is in flight with it.",
+    "A record lists what it carried in the order carried, not by rank or gate, and a gate twice that was \
+     carried twice. The next late pass begins them by rank, of one rank the first carried first.",
+    "What a record lists is what its tick carried, not what came into it, also where no tick follows; a \
+     stopped one lists what was carried up to the stop, and none that is pending or late.",
+    "The carried units count in a record's length, of a stopped one too; a record that just fills the \
+     log's rest fits.",
 ];
 
 /// Places that no circuit can tell, and how they are held.

@@ -95,30 +95,36 @@ const DRIVEN: [(Option<bool>, &str, &str); 3] = [
     (None, "start-pins-nothing", "An exec pin that reads nothing at the start is not raised."),
 ];
 
-/// A gate of each kind with exec pins, each pin driven by one Var.
+/// Every pin driven by one Var.
 fn driven((value, name, shows): (Option<bool>, &str, &str)) -> Case {
     let mut c = Circuit::new();
     let slot = c.var(value.map_or(NOTHING, Feed::from));
     let kept = c.var(4);
+    drive_every_pin(&mut c, slot, kept, |_| 3);
+    let mut s = Script::new();
+    s.ticks(2, 0.25);
+    Case::new(name, shows, &c, &s).tells(&[48]).delays(2 << 16)
+}
+
+/// A gate of each kind with exec pins, each pin driven by `by`, of the rank
+/// that goes with the gate's number. `kept` is the Var that they name.
+pub(super) fn drive_every_pin(c: &mut Circuit, by: Gate, kept: Gate, rank: impl Fn(i64) -> i64) {
     for kind in [STOPWATCH, QUEUE_TICKS, QUEUE_SECONDS, VAR_GET, VAR_SET, BRANCH, UNION, TOGGLE, CYCLE]
         .into_iter()
         .chain([SEND_EVENT, SEND_EVENT_GLOBAL])
     {
-        let gate = c.gate(kind, 3);
+        let gate = c.gate(kind, rank(c.gates.len() as i64));
         for (k, pin) in inputs_of(kind).into_iter().enumerate() {
             let number = Input(gate.first_input + k as i64);
             match pin {
                 "S:variable" => c.feed(number, kept.number),
                 "S:channel" => c.feed(number, 0),
                 "Value" => c.feed(number, 8),
-                _ if pin.starts_with("E:") => c.feed(number, slot),
+                _ if pin.starts_with("E:") => c.feed(number, by),
                 _ => {}
             }
         }
     }
-    let mut s = Script::new();
-    s.ticks(2, 0.25);
-    Case::new(name, shows, &c, &s).tells(&[48]).delays(2 << 16)
 }
 
 fn ascending() -> Case {

@@ -208,7 +208,7 @@ fn lorry() -> Case {
     let s = every(&s, feed, &speeds, 11, 29);
     let s = every(&s, own.button, &[0], 2, 31);
     let s = every(&s, mate.button, &[0], 7, 37);
-    let shows = "A lorry: two slots with a recorder each, ranks against the flow, so that much is carried; 2,000 ticks.";
+    let shows = "A lorry: two slots with a recorder each, ranks against the flow; 2,000 ticks.";
     Case::new("vehicle-lorry", shows, &c, &s).log(1 << 22)
 }
 

@@ -138,10 +138,11 @@ pub struct Record {
     pub steps: i64,
     pub late: i64,
     pub main: i64,
-    pub carried: i64,
     pub stop: i64,
     /// Gate and form.
     pub units: Vec<(i64, i64)>,
+    /// Gate and form of the carried units.
+    pub carried: Vec<(i64, i64)>,
     /// Kind and content.
     pub shown: Vec<(i64, i64)>,
 }
@@ -162,12 +163,12 @@ impl Run {
 fn records(mut log: &[i64], outputs: usize) -> Vec<Record> {
     let mut records = vec![];
     while let &[tick, steps, late, main, carried, stop, ref rest @ ..] = log {
-        let units = (late + main) as usize;
         let shown = if stop == 0 { outputs } else { 0 };
-        let (units, rest) = rest.split_at(2 * units);
+        let (units, rest) = rest.split_at(2 * (late + main) as usize);
+        let (carried, rest) = rest.split_at(2 * carried as usize);
         let (shown, rest) = rest.split_at(2 * shown);
-        let (units, shown) = (pairs(units), pairs(shown));
-        records.push(Record { tick, steps, late, main, carried, stop, units, shown });
+        let [units, carried, shown] = [units, carried, shown].map(pairs);
+        records.push(Record { tick, steps, late, main, stop, units, carried, shown });
         log = rest;
     }
     assert!(log.is_empty());

@@ -17,7 +17,7 @@ pub struct Tick {
     pub steps: i64,
     pub late: Vec<(i64, i64)>,
     pub main: Vec<(i64, i64)>,
-    pub carried: i64,
+    pub carried: Vec<(i64, i64)>,
     pub stop: i64,
     /// Kinds and contents.
     pub outputs: Vec<(i64, i64)>,
@@ -45,9 +45,14 @@ pub fn played(name: &str) -> Played {
 
 /// What a case played, unless it is refused.
 pub fn read(case: &Case) -> Option<Played> {
-    let Answer::Played { log, stop, ticks: done } = run(&case.circuit, &case.script, &case.lent) else {
-        return None;
-    };
+    match run(&case.circuit, &case.script, &case.lent) {
+        Answer::Refused(_) => None,
+        Answer::Played { log, stop, ticks } => Some(of_log(case, log, stop, ticks)),
+    }
+}
+
+/// A case that has played into this log.
+pub fn of_log(case: &Case, log: Vec<i64>, stop: u8, done: u64) -> Played {
     let circuit = words_of(&case.circuit);
     let (g, k) = (circuit[0] as usize, circuit[1] as usize);
     let kinds = circuit[4 + 2 * k..][..g].to_vec();
@@ -58,7 +63,7 @@ pub fn read(case: &Case) -> Option<Played> {
     while !rest.is_empty() {
         ticks.push(record(&mut rest, outputs));
     }
-    Some(Played { kinds, ranks, ticks, words: log, stop, done })
+    Played { kinds, ranks, ticks, words: log, stop, done }
 }
 
 /// The distances in ticks between one stimulus of a gate and the next, among
@@ -97,8 +102,9 @@ fn record(rest: &mut &[i64], outputs: usize) -> Tick {
     let (late, main) = (head[2] as usize, head[3] as usize);
     let mut begun = pairs(rest, late + main);
     let main = begun.split_off(late);
+    let carried = pairs(rest, head[4] as usize);
     let outputs = if head[5] == 0 { pairs(rest, outputs) } else { Vec::new() };
-    Tick { tick: head[0], steps: head[1], late: begun, main, carried: head[4], stop: head[5], outputs }
+    Tick { tick: head[0], steps: head[1], late: begun, main, carried, stop: head[5], outputs }
 }
 
 fn pairs(rest: &mut &[i64], n: usize) -> Vec<(i64, i64)> {
@@ -116,6 +122,11 @@ impl Played {
     /// The gates that the main pass of a tick began.
     pub fn main(&self, tick: usize) -> Vec<i64> {
         self.ticks[tick - 1].main.iter().map(|u| u.0).collect()
+    }
+
+    /// The gates that a tick carried.
+    pub fn carried(&self, tick: usize) -> Vec<i64> {
+        self.ticks[tick - 1].carried.iter().map(|u| u.0).collect()
     }
 
     /// How many units the run began.
@@ -137,8 +148,8 @@ impl Played {
     }
 
     /// Ticks count up, a stop stands in the last record alone, main ranks
-    /// never fall, what is carried begins in the next late pass, each unit is
-    /// of a form its kind has, and exec outputs show nothing.
+    /// never fall, each unit is of a form its kind has, carried ones are of
+    /// kinds 6 and 9 or begin with a pin, and exec outputs show nothing.
     pub fn assert_whole(&self, case: &Case) {
         let name = &case.name;
         for (k, tick) in self.ticks.iter().enumerate() {
@@ -147,12 +158,11 @@ impl Played {
             assert!(tick.stop == 0 || last && tick.stop == i64::from(self.stop), "{name}");
             let ranks: Vec<i64> = tick.main.iter().map(|u| self.ranks[u.0 as usize]).collect();
             assert!(ranks.is_sorted(), "{name}, tick {}", tick.tick);
-            if let Some(next) = self.ticks.get(k + 1).filter(|next| next.stop == 0) {
-                assert!(tick.carried <= next.late.len() as i64, "{name}, tick {}", tick.tick);
-            }
-            for &(gate, form) in tick.late.iter().chain(&tick.main) {
+            for &(gate, form) in tick.late.iter().chain(&tick.main).chain(&tick.carried) {
                 assert!(has_form(self.kinds[gate as usize], form), "{name}: gate {gate}, form {form}");
             }
+            let may_wait = |u: &(i64, i64)| u.1 >= 16 || self.kinds[u.0 as usize] == build::CHANGE_DETECTOR;
+            assert!(tick.carried.iter().all(may_wait), "{name}, tick {}", tick.tick);
             self.assert_outputs(tick, name);
         }
         let ended = self.ticks.iter().filter(|t| t.stop == 0).count();

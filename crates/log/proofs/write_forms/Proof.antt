@@ -2,21 +2,21 @@ use Prim.Native.Nat.{_-_, _≤_}
 use mathlib.Core.Path.{_≡_}
 use lib.ListN.{length}
 use borrow.Author.Needs.{needs}
-use Rattle.units.specs.View.{begun-of}
-use Rattle.log.specs.Rows.{begun-in}
+use Rattle.units.specs.View.{listed-of}
+use Rattle.log.specs.Rows.{entries-in}
 use Rattle.log.proofs.Filling.{Filling, filling-first}
-use Rattle.log.proofs.Turns.{units-next, units-last}
+use Rattle.log.proofs.Turns.{entries-next, entries-last}
 use Rattle.log.proofs.write_forms.Statement.{statement}
 use Rattle.log.proofs.write_forms.Tie as tie
 
 abbrev Inv-loop : tie.InvT-loop
-Inv-loop units log₀ p n i₀ log i = (length log ≡ length log₀) × (i ≤ n) × Filling (λ b. b .form) (begun-in units) log₀ log p i
+Inv-loop units first n log₀ p i₀ log i = (length log ≡ length log₀) × (i ≤ n) × Filling (λ u. u .form) (entries-in first n units) log₀ log p i
 
 abbrev μ-loop : tie.MeasureT-loop
-μ-loop units log₀ p n i₀ log i = n - i
+μ-loop units first n log₀ p i₀ log i = n - i
 
 loop-holds : tie.Need-loop-holds Inv-loop μ-loop
-loop-holds c = (search needs, search needs, filling-first (λ b. b .form) _ _ _)
+loop-holds c = (search needs, search needs, filling-first (λ u. u .form) _ _ _)
 
 add-put : tie.Need-add-put Inv-loop μ-loop
 add-put c = search needs
@@ -40,14 +40,14 @@ loop-less : tie.Need-loop-less Inv-loop μ-loop
 loop-less c = search needs
 
 loop-again : tie.Need-loop-again Inv-loop μ-loop
-unfolding begun-of
-loop-again c = (search needs, search needs, units-next (λ b. b .form) _ _ (c .before .before .before .before .before .before .before .before .before .before .pre .1) (c .before .before .before .before .before .before .loop-test .taken) (c .before .before .before .before .get .ensures) (c .before .before .before .form-of .ensures .0) (c .before .before .put .ensures) (c .before .before .before .before .before .before .before .loop .inv .2))
+unfolding listed-of
+loop-again c = (search needs, search needs, entries-next (λ u. u .form) _ _ _ _ (c .before .before .before .before .before .before .loop-test .taken) (c .before .before .before .before .get .ensures) (c .before .before .before .form-of .ensures .0) (c .before .before .put .ensures) (c .before .before .before .before .before .before .before .loop .inv .2))
 
 same-length : tie.Need-same-length Inv-loop μ-loop
 same-length c = search needs
 
 returns : tie.Need-returns Inv-loop μ-loop
-returns c = units-last (λ b. b .form) _ (c .before .before .before .before .pre .1) (c .loop-test .left) (c .before .loop .inv .2)
+returns c = entries-last (λ u. u .form) _ _ _ (c .loop-test .left) (c .before .loop .inv .2)
 
 pub write-forms-spec : {M : Type 1} → statement M
 write-forms-spec =

@@ -16,7 +16,7 @@ same-length : tie.Need-same-length
 same-length c = search needs
 
 returns : tie.Need-returns
-returns c = units-filled _ (c .before .before .before .before .before .before .before .before .before .before .pre .1) (c .before .before .before .before .before .before .write-gates .ensures) (c .before .before .write-forms .ensures)
+returns c = units-filled _ _ _ (c .before .before .before .before .before .before .write-gates .ensures) (c .before .before .write-forms .ensures)
 
 pub write-units-spec : {M : Type 1} → statement M
 write-units-spec =

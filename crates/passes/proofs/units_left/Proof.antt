@@ -12,10 +12,10 @@ sub-result : tie.Need-sub-result
 sub-result c = search needs
 
 returns : tie.Need-returns
-returns c = λ k. ap (λ (m : ℕ). 1024 - m) (c .before .begun .ensures k)
+returns c = λ k. ap (λ (m : ℕ). 1024 - m) (c .before .begun .ensures .0 k)
 
 returns-2 : tie.Need-returns-2
-returns-2 c = λ k. none-left _ _ (c .before .begun .ensures k) (c .if1 .left)
+returns-2 c = λ k. none-left _ _ (c .before .begun .ensures .0 k) (c .if1 .left)
 
 pub units-left-spec : {M : Type 1} → statement M
 units-left-spec = tie.close (tie.spec begun-requires sub-result returns returns-2)

@@ -15,8 +15,11 @@ outputs-requires c κs = search needs
 loop-holds : tie.Need-loop-holds Inv-loop μ-loop
 loop-holds c = search needs
 
-record-words-requires : tie.Need-record-words-requires Inv-loop μ-loop
-record-words-requires c κs = search needs
+sub-record-size : tie.Need-sub-record-size Inv-loop μ-loop
+sub-record-size c = search needs
+
+record-size-requires : tie.Need-record-size-requires Inv-loop μ-loop
+record-size-requires c κs = search needs
 
 print-record-requires : tie.Need-print-record-requires Inv-loop μ-loop
 print-record-requires c κs = search needs
@@ -41,7 +44,8 @@ print-records-spec =
     μ-loop
     outputs-requires
     loop-holds
-    record-words-requires
+    sub-record-size
+    record-size-requires
     print-record-requires
     add-at
     loop-less

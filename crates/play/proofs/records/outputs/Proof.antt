@@ -1,7 +1,7 @@
 use Rattle.play.proofs.Laws.{outputs-first, outputs-next, outputs-last, outputs-are, few-more}
 use mathlib.Core.Path.{refl}
 use native.Mathlib.Omega.{arith}
-use Rattle.play.specs.Records.{outputs-from}
+use Rattle.play.specs.Outputs.{outputs-from}
 use Rattle.words.specs.Words.{words}
 use mathlib.Core.Path.{_≡_}
 use Prim.Native.Nat.{_+_, _-_, _*_, _≤_}

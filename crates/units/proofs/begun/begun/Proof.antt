@@ -16,7 +16,7 @@ count-requires : tie.Need-count-requires
 count-requires c κs = search needs
 
 returns : tie.Need-returns
-returns c = begun-counted _ _ (c .count .ensures .0)
+returns c = (begun-counted _ _ (c .count .ensures .0), c .count .ensures .1 .1)
 
 pub begun-spec : {M : Type 1} → statement M
 begun-spec = tie.close (tie.spec sub-count part-count-start part-count-end count-requires returns)
