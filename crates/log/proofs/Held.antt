@@ -23,7 +23,7 @@ use Rattle.wires.proofs.Lists.{both-get}
 use Rattle.wires.proofs.Area.{cut-peek, sized}
 use Rattle.units.specs.View.{sizes, cut, act-of, listed-of, units}
 use Rattle.units.proofs.Lending.{to, cut-peek as units-peek}
-use Rattle.log.specs.Rows.{entries-in, outs-in}
+use Rattle.log.specs.Rows.{begun-first, carried-first, entries-in, outs-in}
 
 -- ---- the outputs
 
@@ -98,14 +98,14 @@ module _ (bs : List ℕ) (t most n : ℕ) (e : getD sizes t 0 ≡ most + 1) wher
           ext-getD 0 (appended most table) (map (λ i. getD (words bs) i 0) (from (base sizes t + 1) n)) (a ∙ sym b) (λ i h. word i (omega (arith, a)))
 
 -- the units begun,
-pub begun-is : (c : Circuit) (bs : List ℕ) (n : ℕ) → n ≡ length (units c bs .begun) → units c bs .begun ≡ entries-in 1353 n bs
+pub begun-is : (c : Circuit) (bs : List ℕ) (n : ℕ) → n ≡ length (units c bs .begun) → units c bs .begun ≡ entries-in begun-first n bs
 unfolding units
 begun-is c bs n e =
     let w = cut (words bs) .begun in
     table-entries bs 6 1024 n refl (e ∙ length-map (appended 1024 w) listed-of ∙ length-reverse (stacked 1024 w))
 
 -- and those carried
-pub carried-is : (c : Circuit) (bs : List ℕ) (n : ℕ) → n ≡ length (units c bs .lists .carried) → map as-listed (units c bs .lists .carried) ≡ entries-in 1030 n bs
+pub carried-is : (c : Circuit) (bs : List ℕ) (n : ℕ) → n ≡ length (units c bs .lists .carried) → map as-listed (units c bs .lists .carried) ≡ entries-in carried-first n bs
 unfolding units act-of listed-of
 carried-is c bs n e =
     let w = cut (words bs) .carried in

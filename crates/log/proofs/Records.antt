@@ -14,7 +14,7 @@ use Rattle.model.specs.declared.Value.{Value}
 use Rattle.model.specs.Base.{if_then_else_}
 use Rattle.model.specs.Value.{kind-of, content-of}
 use Rattle.model.specs.Circuit.{Circuit}
-use Rattle.model.specs.Record.{Listed, Log-record, head, gates-and-forms, kinds-and-contents, record-words}
+use Rattle.model.specs.Record.{Listed, Log-record, head-size, head, gates-and-forms, kinds-and-contents, record-words}
 use Rattle.model.specs.Closing.{as-listed}
 use Rattle.model.proofs.ReadBack.{length-units, record-length}
 use Rattle.wires.specs.View.{values}
@@ -22,7 +22,7 @@ use Rattle.units.specs.View.{units}
 use Rattle.log.specs.declared.Head.{Head}
 use Rattle.log.specs.declared.Written.the-variants.{Fits, Full}
 use Rattle.log.specs.Log.{record-of, fits, written-as, Writes}
-use Rattle.log.specs.Rows.{Filled, head-row, entries-in, outs-in}
+use Rattle.log.specs.Rows.{Filled, head-row, begun-first, carried-first, entries-in, outs-in}
 use Rattle.log.proofs.Filling.{filled-more}
 use Rattle.log.proofs.Held.{outs-are, outs-in-length, entries-length, begun-is, carried-is}
 
@@ -85,7 +85,7 @@ module _ (c : Circuit) (us vs : List ℕ) (h : Head) {n k o : ℕ} (l : 65536 �
   -- its rows
   record-rows :
       the-record
-      ≡ head-row h n k ++ (gates-and-forms (entries-in 1353 n us) ++ (gates-and-forms (entries-in 1030 k us) ++ kinds-and-contents (outs-in o vs)))
+      ≡ head-row h n k ++ (gates-and-forms (entries-in begun-first n us) ++ (gates-and-forms (entries-in carried-first k us) ++ kinds-and-contents (outs-in o vs)))
   unfolding record-words record-of
   record-rows =
       λ j.
@@ -94,7 +94,7 @@ module _ (c : Circuit) (us vs : List ℕ) (h : Head) {n k o : ℕ} (l : 65536 �
       ++ (gates-and-forms (carried-is c us k (ek c) j) ++ kinds-and-contents (outs-shown c vs (h .stop) o (eo .0) j)))
 
   -- its length, as the code works it out
-  pub record-size : 6 + 2 * n + 2 * k + 2 * o ≡ length the-record
+  pub record-size : head-size + 2 * n + 2 * k + 2 * o ≡ length the-record
   unfolding record-of
   record-size =
       omega (
@@ -109,7 +109,7 @@ module _ (c : Circuit) (us vs : List ℕ) (h : Head) {n k o : ℕ} (l : 65536 �
       )
 
   -- It does not fit.
-  pub record-full : {s : List ℕ} {at : ℕ} → length s / 8 < at + (6 + 2 * n + 2 * k + 2 * o) → (Full ≡ written-as (fits s at the-record) the-record) × Writes s s at the-record
+  pub record-full : {s : List ℕ} {at : ℕ} → length s / 8 < at + (head-size + 2 * n + 2 * k + 2 * o) → (Full ≡ written-as (fits s at the-record) the-record) × Writes s s at the-record
   unfolding fits written-as if_then_else_
   record-full {s = s} {at = at} x =
       let q : leb (at + length the-record) (length (words s)) ≡ false = lt-leb (at + length the-record) (length (words s)) (omega (arith, count-words s, record-size)) in
@@ -117,13 +117,13 @@ module _ (c : Circuit) (us vs : List ℕ) (h : Head) {n k o : ℕ} (l : 65536 �
 
   -- It fits, and its rows are written one behind the other.
   pub record-written :
-      {s t u v w : List ℕ} {at : ℕ} → at + (6 + 2 * n + 2 * k + 2 * o) ≤ length s / 8 → Filled s t at (head-row h n k) → Filled t u (at + 6) (gates-and-forms (entries-in 1353 n us)) →
-      Filled u v (at + 6 + 2 * n) (gates-and-forms (entries-in 1030 k us)) → Filled v w (at + 6 + 2 * n + 2 * k) (kinds-and-contents (outs-in o vs)) →
-      (Fits (6 + 2 * n + 2 * k + 2 * o) ≡ written-as (fits s at the-record) the-record) × Writes s w at the-record
+      {s t u v w : List ℕ} {at : ℕ} → at + (head-size + 2 * n + 2 * k + 2 * o) ≤ length s / 8 → Filled s t at (head-row h n k) → Filled t u (at + head-size) (gates-and-forms (entries-in begun-first n us)) →
+      Filled u v (at + head-size + 2 * n) (gates-and-forms (entries-in carried-first k us)) → Filled v w (at + head-size + 2 * n + 2 * k) (kinds-and-contents (outs-in o vs)) →
+      (Fits (head-size + 2 * n + 2 * k + 2 * o) ≡ written-as (fits s at the-record) the-record) × Writes s w at the-record
   unfolding fits written-as if_then_else_ head-row
   record-written {s = s} {w = w} {at = at} x a b d e =
-      let y : at + 6 + 2 * n ≡ at + 6 + length (gates-and-forms (entries-in 1353 n us)) = omega (arith, length-units (entries-in 1353 n us), entries-length 1353 n us) in
-      let z : at + 6 + 2 * n + 2 * k ≡ at + 6 + 2 * n + length (gates-and-forms (entries-in 1030 k us)) = omega (arith, length-units (entries-in 1030 k us), entries-length 1030 k us) in
+      let y : at + head-size + 2 * n ≡ at + head-size + length (gates-and-forms (entries-in begun-first n us)) = omega (arith, length-units (entries-in begun-first n us), entries-length begun-first n us) in
+      let z : at + head-size + 2 * n + 2 * k ≡ at + head-size + 2 * n + length (gates-and-forms (entries-in carried-first k us)) = omega (arith, length-units (entries-in carried-first k us), entries-length carried-first k us) in
       let f : Filled s w at the-record = subst (λ (x : List ℕ). Filled s w at x) (sym record-rows) (filled-more refl a (filled-more y b (filled-more z d e))) in
       let m : at + length the-record ≤ length (words s) = omega (arith, count-words s, record-size) in
       let q : leb (at + length the-record) (length (words s)) ≡ true = le-leb (at + length the-record) (length (words s)) m in

@@ -1,16 +1,17 @@
 -- A row of words that is written to the log, and what the rows of a record are.
-use Prim.Native.Nat.{ℕ, _-_}
+use Prim.Native.Nat.{ℕ, _+_, _-_}
 use mathlib.Core.Path.{_≡_}
 use mathlib.Core.List.{List, [], _∷_, map}
 use lib.ListN.{getD, take}
 use lib.Seq.{sets}
 use Rattle.words.specs.Words.{words, tail}
+use Rattle.words.specs.Tables.{base}
 use Rattle.model.specs.declared.Value.{Value}
 use Rattle.model.specs.Base.{both, from}
 use Rattle.model.specs.Record.{Listed}
 use Rattle.wires.specs.Held.{held}
 use Rattle.wires.specs.View.{cut as cut-values}
-use Rattle.units.specs.View.{listed-of}
+use Rattle.units.specs.View.{sizes, listed-of}
 use Rattle.log.specs.declared.Head.{Head}
 
 -- The bytes `after` are `before` with the words from word p on made xs, and the same elsewhere.
@@ -21,6 +22,13 @@ pub record Filled (before after : List ℕ) (p : ℕ) (xs : List ℕ) : Type 0 w
 -- the head, where n units have begun, the late ones of them at most n, and k are carried
 unfoldable pub head-row : Head → ℕ → ℕ → List ℕ
 head-row h n k = h .tick ∷ h .steps ∷ (n - (n - h .late)) ∷ (n - h .late) ∷ k ∷ h .stop ∷ []
+
+-- where the entries of the units begun and of those carried stand in the area `units`: behind their counts
+abbrev pub begun-first : ℕ
+begun-first = base sizes 6 + 1
+
+abbrev pub carried-first : ℕ
+carried-first = base sizes 4 + 1
 
 -- n entries of the area `units`, from word k on, as a record lists them
 unfoldable pub entries-in : ℕ → ℕ → List ℕ → List Listed

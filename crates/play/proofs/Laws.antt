@@ -1,16 +1,21 @@
 -- Laws of the sizes of records.
 use mathlib.Core.Path.{_≡_, refl, sym, ap, _∙_}
-use Prim.Native.Nat.{ℕ, suc, _+_, _-_, _*_, _<_, _≤_, min}
-use mathlib.Core.List.{List}
+use Prim.Native.Nat.{ℕ, zero, suc, _+_, _-_, _*_, _<_, _≤_, min}
+use mathlib.Core.Bool.{true}
+use mathlib.Core.List.{List, map}
 use lib.Dec.{eqb}
 use lib.ListN.{length, getD, drop}
-use lib.Seq.{getD-drop}
+use lib.Seq.{getD-drop, drop-cons}
 use native.Mathlib.Omega.{arith}
 use borrow.Author.Tests.{eq-eqb, ne-eqb}
-use Rattle.model.specs.Base.{if_then_else_}
+use Rattle.words.specs.Words.{words}
+use Rattle.model.specs.Base.{if_then_else_, sum}
 use Rattle.model.specs.Kinds.{kind-at}
-use Rattle.model.specs.Circuit.{word-at}
-use Rattle.model.specs.Record.{begun-count, carried-count, stop-in, shown-count, carried-at, shown-at, record-size}
+use Rattle.model.specs.Circuit.{part, word-at, circuit}
+use Rattle.model.specs.Record.{head-size, begun-count, carried-count, stop-in, shown-count, carried-at, shown-at, record-size}
+use Rattle.model.specs.Questions.{question-1}
+use Rattle.model.proofs.Sizes.{sizes}
+use Rattle.model.proofs.Laid.{joined-length}
 use Rattle.kinds.proofs.Laws.{few-outputs}
 use Rattle.play.specs.Outputs.{outputs-from, outputs-of}
 
@@ -51,18 +56,41 @@ outputs-are ws u v g c f r eu eg ev ec ef e =
     let q : f ≡ 4 + 2 * min (getD ws 1 0) 64 = ef ∙ ap (λ (x : ℕ). 4 + 2 * x) (ec ∙ ap (λ (x : ℕ). min x 64) ev) in
     e ∙ ap (λ (x : ℕ). outputs-from ws x g) q ∙ ap (λ (x : ℕ). outputs-from ws (4 + 2 * min (getD ws 1 0) 64) x) p
 
+-- the outputs of gates whose kinds are words
+kinds-counted : (ws : List ℕ) (k n : ℕ) → k + n ≤ length ws → outputs-from ws k n ≡ sum (map (λ v. length (kind-at v .outs)) (part ws k n))
+unfolding outputs-from part sum
+kinds-counted ws k zero h = refl
+kinds-counted ws k (suc n) h = rw (drop-cons ws k 0 (omega arith)) (ap (λ (x : ℕ). length (kind-at (getD ws k 0) .outs) + x) (kinds-counted ws (suc k) n (omega arith)))
+
+-- of a circuit whose sizes are in range they are its own
+outputs-counted : (bytes ws : List ℕ) → question-1 bytes ws ≡ true → outputs-of ws ≡ length (circuit ws .outputs)
+unfolding outputs-of circuit word-at
+outputs-counted bytes ws q =
+    let s = sizes bytes ws q in
+    let g : min (getD ws 0 0) 64 ≡ getD ws 0 0 = omega (arith, s .gates) in
+    let k : min (getD ws 1 0) 64 ≡ getD ws 1 0 = omega (arith, s .constants) in
+    rw (g, k)
+    (kinds-counted ws (4 + 2 * getD ws 1 0) (getD ws 0 0) (omega (arith, s .counted))
+    ∙ sym (joined-length (λ v. kind-at v .outs) (part ws (4 + 2 * getD ws 1 0) (getD ws 0 0))))
+
+-- what `outputs` tells
+pub outputs-told :
+    (bytes : List ℕ) {r : ℕ} → r ≡ outputs-of (words bytes) → r ≤ 576 →
+    (r ≡ outputs-of (words bytes)) × ((question-1 bytes (words bytes) ≡ true → r ≡ length (circuit (words bytes) .outputs)) × (r ≤ 576))
+outputs-told bytes e h = (e, ((λ q. e ∙ outputs-counted bytes (words bytes) q), h))
+
 -- ---- how many words a record has, by words of its head that are cut where no more are left
 
 module _ (ws : List ℕ) (at left outputs a b k s : ℕ) {l m c : ℕ} (ea : a ≡ getD ws (at + 2) 0) (el : l ≡ min a left) (eb : b ≡ getD ws (at + 3) 0) (em : m ≡ min b left) (ek : k ≡ getD ws (at + 4) 0) (ec : c ≡ min k left) (es : s ≡ getD ws (at + 5) 0) where
-  size-is : (n : ℕ) → (if eqb s 0 then outputs else 0) ≡ n → record-size outputs (drop at ws) ≡ 6 + 2 * (a + b) + 2 * k + 2 * n
+  size-is : (n : ℕ) → (if eqb s 0 then outputs else 0) ≡ n → record-size outputs (drop at ws) ≡ head-size + 2 * (a + b) + 2 * k + 2 * n
   unfolding record-size shown-at carried-at begun-count carried-count shown-count stop-in word-at
   size-is n e =
       rw (getD-drop at ws 2 0, getD-drop at ws 3 0, getD-drop at ws 4 0, getD-drop at ws 5 0, sym ea, sym eb, sym ek, sym es, e) refl
 
-  pub size-shown : (r : ℕ) → s ≡ 0 → r ≡ min (6 + 2 * (l + m) + 2 * c + 2 * outputs) left → r ≡ min (record-size outputs (drop at ws)) left
+  pub size-shown : (r : ℕ) → s ≡ 0 → r ≡ min (head-size + 2 * (l + m) + 2 * c + 2 * outputs) left → r ≡ min (record-size outputs (drop at ws)) left
   unfolding if_then_else_
   size-shown r h e = omega (arith, e, size-is outputs (rw (eq-eqb s 0 h) refl))
 
-  pub size-hidden : (r : ℕ) → (s ≡ 0 → ⊥) → r ≡ min (6 + 2 * (l + m) + 2 * c) left → r ≡ min (record-size outputs (drop at ws)) left
+  pub size-hidden : (r : ℕ) → (s ≡ 0 → ⊥) → r ≡ min (head-size + 2 * (l + m) + 2 * c) left → r ≡ min (record-size outputs (drop at ws)) left
   unfolding if_then_else_
   size-hidden r h e = omega (arith, e, size-is 0 (rw (ne-eqb s 0 h) refl))

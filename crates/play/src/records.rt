@@ -1,8 +1,12 @@
 // Where the records of a log begin and end.
 ghost use mathlib.Core.Path.{_≡_};
+ghost use mathlib.Core.Bool.{true};
 ghost use Prim.Native.Nat.{_^_, _≤_, _<_, min};
-ghost use lib.ListN.{drop};
-ghost use Rattle.words.specs.Slices.{was};
+ghost use lib.ListN.{length, drop};
+ghost use Rattle.words.specs.Slices.{before, was};
+// The definition `circuit` is named for what it is of, beside the slice of that name.
+ghost use Rattle.model.specs.Circuit.{circuit as circuit-of};
+ghost use Rattle.model.specs.Questions.{question-1};
 ghost use Rattle.model.specs.Record.{head-size, record-size};
 ghost use Rattle.links.specs.Links.{most-outputs};
 ghost use Rattle.play.specs.Outputs.{outputs-of};
@@ -22,6 +26,7 @@ fn least(n: u64, most: usize) -> usize
 // How many outputs the circuit has.
 pub fn outputs(circuit: &[u8]) -> usize
     ensures { λ r. ⌜ r ≡ outputs-of (was circuit) ⌝ }
+    ensures { λ r. ⌜ (question-1 (before circuit) (was circuit) ≡ true → r ≡ length (circuit-of (was circuit) .outputs)) ⌝ }
     ensures { λ r. ⌜ r ≤ most-outputs ⌝ }
 {
     let gates = least(read(circuit, 0), MOST_GATES);

@@ -1,4 +1,4 @@
-use Rattle.play.proofs.Laws.{outputs-first, outputs-next, outputs-last, outputs-are, few-more}
+use Rattle.play.proofs.Laws.{outputs-first, outputs-next, outputs-last, outputs-are, outputs-told, few-more}
 use mathlib.Core.Path.{refl}
 use native.Mathlib.Omega.{arith}
 use Rattle.play.specs.Outputs.{outputs-from}
@@ -58,7 +58,7 @@ loop-again : tie.Need-loop-again Inv-loop μ-loop
 loop-again c = (search needs, omega (arith, few-more _ _ (c .outputs .ensures), c .before .before .before .loop .inv .1), outputs-next _ _ _ _ _ _ _ _ (c .before .before .loop-test .taken) (c .before .read3 .ensures) (c .outputs .ensures) (c .before .before .before .loop .inv .2))
 
 returns : tie.Need-returns Inv-loop μ-loop
-returns c = (outputs-are _ _ _ _ _ _ _ (c .before .before .before .before .before .read .ensures) (c .before .before .before .before .least .ensures .0) (c .before .before .before .read2 .ensures) (c .before .before .least2 .ensures .0) refl (outputs-last _ _ _ _ _ _ (c .loop-test .left) (c .before .loop .inv .2)), omega (arith, c .before .loop .inv .0, c .before .loop .inv .1, c .before .before .before .before .least .ensures .1))
+returns c = outputs-told _ (outputs-are _ _ _ _ _ _ _ (c .before .before .before .before .before .read .ensures) (c .before .before .before .before .least .ensures .0) (c .before .before .before .read2 .ensures) (c .before .before .least2 .ensures .0) refl (outputs-last _ _ _ _ _ _ (c .loop-test .left) (c .before .loop .inv .2))) (omega (arith, c .before .loop .inv .0, c .before .loop .inv .1, c .before .before .before .before .least .ensures .1))
 
 pub outputs-spec : {M : Type 1} → statement M
 outputs-spec =
