@@ -31,7 +31,7 @@ use words::counting::less;
 use words::get;
 use words::put;
 
-// What a record says of its tick beside what the areas hold: the tick, its steps, how many of its units began in the late pass, and its stop, or 0.
+// What a record says of its tick beside its units and outputs: its number, its steps, how many of its units began in the late pass, and its stop, or 0.
 pub struct Head {
     pub tick: u64,
     pub steps: u64,
