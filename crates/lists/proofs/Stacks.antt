@@ -28,12 +28,12 @@ unfolding stacked
 stacked-length most w = downward-length (held most w) w
 
 -- the view where the count is known
-stacked-is : (most n : ℕ) (w : List ℕ) → n ≡ length (stacked most w) → stacked most w ≡ downward n w
+pub stacked-is : (most n : ℕ) (w : List ℕ) → n ≡ length (stacked most w) → stacked most w ≡ downward n w
 unfolding stacked
 stacked-is most n w e = let k : n ≡ held most w = e ∙ downward-length (held most w) w in rw k
 
 -- a store above the entries
-downward-other : (n j v : ℕ) (w : List ℕ) → n < j → downward n (set w j v) ≡ downward n w
+pub downward-other : (n j v : ℕ) (w : List ℕ) → n < j → downward n (set w j v) ≡ downward n w
 unfolding downward
 downward-other zero j v w h = refl
 downward-other (suc n) j v w h = rw (getD-set-other w j (suc n) v 0 (omega arith), downward-other n j v w (omega arith))
@@ -45,7 +45,7 @@ downward-count zero v w = refl
 downward-count (suc n) v w = rw (getD-set-other w 0 (suc n) v 0 (omega arith), downward-count n v w)
 
 -- the count is stored
-stacked-set : (most n : ℕ) (w : List ℕ) → 0 < length w → n ≤ most → stacked most (set w 0 n) ≡ downward n w
+pub stacked-set : (most n : ℕ) (w : List ℕ) → 0 < length w → n ≤ most → stacked most (set w 0 n) ≡ downward n w
 unfolding stacked
 stacked-set most n w l h =
     let k : min n most ≡ n = omega arith in

@@ -5,8 +5,7 @@ use mathlib.Core.Bool.{Bool, true, false}
 use mathlib.Core.List.{List, append-nil}
 use native.Mathlib.Omega.{arith}
 use borrow.Author.Tests.{ne-eqb}
-use lib.ListN.{length}
-use Rattle.schedule.specs.Schedule.{no-turn, next-late, next-main, activate-late, activate-main, late-pass, main-pass}
+use Rattle.schedule.specs.Schedule.{log-full, no-turn, next-late, next-main, activate-late, activate-main, late-pass, main-pass}
 use Rattle.lists.specs.declared.Filed.{Filed as Answer}
 use Rattle.lists.specs.declared.Filed.the-variants.{Full, Done}
 use Rattle.model.specs.Base.{if_then_else_}
@@ -110,42 +109,30 @@ pub head-is :
 unfolding head-of
 head-is limit late left stop tick made v e₁ e₂ = rw (e₁, e₂) refl
 
--- the record fits
-pub closes-fit :
-    (c : Circuit) (limit late : ℕ) (r : Ran) (v b : Values) (u : Units) (before after : List ℕ) (at n : ℕ) (h : Head) (x : Written) →
-    b ≡ with-wires v (outputs-read c (v .wires) (r .stop)) → h ≡ head-of limit late (r .left) (r .stop) b →
-    x ≡ written-as (fits before at (words-with h b u)) (words-with h b u) → Writes before after at (words-with h b u) → x ≡ Fits n →
-    Closes c limit late r v b u before after at (record { size = n; stop = r .stop })
-unfolding words-of written-as ticked-as
-closes-fit c limit late r v b u before after at n h x e₁ e₂ e₃ e₄ e₅ =
-    let rs = words-of limit late r b u in
-    let same : words-with h b u ≡ rs = ap (λ (y : Head). words-with y b u) e₂ in
-    record {
-      values = e₁;
-      answer = go rs (fits before at rs) (sym e₅ ∙ e₃ ∙ ap (λ (y : List ℕ). written-as (fits before at y) y) same);
-      log = subst (λ (y : List ℕ). Writes before after at y) same e₄;
-    }
-  where
-    go : (rs : List ℕ) (t : Bool) → Fits n ≡ written-as t rs → _≡_ {A = Ticked} (record { size = n; stop = r .stop }) (ticked-as t rs (r .stop))
-    go rs true q = let z : n ≡ length rs = cc in rw z refl
-    go rs false q = let z : _≡_ {A = ℕ} 0 1 = cc in absurd (omega arith)
+-- what a tick answers, by what writing its record came to
+abbrev pub ticked-by : Written → ℕ → Ticked
+ticked-by (Fits n) stop = record { size = n; stop = stop }
+ticked-by Too-long stop = record { size = 0; stop = log-full }
 
--- it does not
-pub closes-full :
-    (c : Circuit) (limit late : ℕ) (r : Ran) (v b : Values) (u : Units) (before after : List ℕ) (at : ℕ) (h : Head) (x : Written) →
+ticked-is : (t : Bool) (rs : List ℕ) (stop : ℕ) → ticked-by (written-as t rs) stop ≡ ticked-as t rs stop
+unfolding written-as ticked-as
+ticked-is true rs stop = refl
+ticked-is false rs stop = refl
+
+-- the record was written, or did not fit
+pub closes :
+    (c : Circuit) (limit late : ℕ) (r : Ran) (v b : Values) (u : Units) (before after : List ℕ) (at : ℕ) (h : Head) {x y : Written} →
     b ≡ with-wires v (outputs-read c (v .wires) (r .stop)) → h ≡ head-of limit late (r .left) (r .stop) b →
-    x ≡ written-as (fits before at (words-with h b u)) (words-with h b u) → Writes before after at (words-with h b u) → x ≡ Too-long →
-    Closes c limit late r v b u before after at (record { size = 0; stop = 13 })
-unfolding words-of written-as ticked-as
-closes-full c limit late r v b u before after at h x e₁ e₂ e₃ e₄ e₅ =
+    x ≡ written-as (fits before at (words-with h b u)) (words-with h b u) → Writes before after at (words-with h b u) → x ≡ y →
+    Closes c limit late r v b u before after at (ticked-by y (r .stop))
+unfolding words-of
+closes c limit late r v b u before after at h e₁ e₂ e₃ e₄ e₅ =
     let rs = words-of limit late r b u in
-    let same : words-with h b u ≡ rs = ap (λ (y : Head). words-with y b u) e₂ in
+    let same : words-with h b u ≡ rs = ap (λ (z : Head). words-with z b u) e₂ in
     record {
       values = e₁;
-      answer = go rs (fits before at rs) (sym e₅ ∙ e₃ ∙ ap (λ (y : List ℕ). written-as (fits before at y) y) same);
-      log = subst (λ (y : List ℕ). Writes before after at y) same e₄;
+      answer =
+          ap (λ (z : Written). ticked-by z (r .stop)) (sym e₅ ∙ e₃ ∙ ap (λ (z : List ℕ). written-as (fits before at z) z) same)
+          ∙ ticked-is (fits before at rs) rs (r .stop);
+      log = subst (λ (z : List ℕ). Writes before after at z) same e₄;
     }
-  where
-    go : (rs : List ℕ) (t : Bool) → Too-long ≡ written-as t rs → _≡_ {A = Ticked} (record { size = 0; stop = 13 }) (ticked-as t rs (r .stop))
-    go rs true q = let z : _≡_ {A = ℕ} 0 1 = cc in absurd (omega arith)
-    go rs false q = refl

@@ -7,7 +7,7 @@ use native.Mathlib.Omega.{arith}
 use borrow.Rule.Slice.PartMut.{putMid}
 use borrow.Author.Tests.{le-leb, lt-leb}
 use lib.Dec.{leb, ltb}
-use lib.ListN.{length, getD, take, drop, length-drop, length-reverse}
+use lib.ListN.{length, getD, take, drop, length-drop, length-map, length-reverse}
 use lib.Seq.{length-take-le}
 use Rattle.words.specs.Words.{words, tail}
 use Rattle.words.specs.Tables.{base}
@@ -27,7 +27,6 @@ use Rattle.units.specs.View.{Tables, Lists, Units, sizes, cut, gate-of, 
 use Rattle.units.specs.Raising.{late≔, delivered≔, pending≔, carried≔, with-lists, by-rank, activate, deliver, answer, lists-after}
 use Rattle.units.specs.Calls.{first-of, act-taken}
 use Rattle.units.proofs.Lending.{to, with-table, lent, lent-back, lent-tail}
-use Rattle.units.proofs.Ranks.{length-map}
 
 -- ---- the view of the area, by its tables
 
@@ -63,7 +62,7 @@ Grown most l m r k = (r ≡ cond (ltb (length l) most) Done Full) × (k ≡ cond
 -- of what the entries stand for
 pub grown-map : {A : Type 0} (f : ℕ → A) (most : ℕ) (l m k : List ℕ) (r : Answer) → r ≡ lists.filed most l → k ≡ if-room most l m → Grown most (map f l) (map f m) r (map f k)
 unfolding lists.filed if-room
-grown-map f most l m k r er ek = (er ∙ rw (length-map f l), ap (map f) ek ∙ rw (length-map f l) (go (ltb (length l) most)))
+grown-map f most l m k r er ek = (er ∙ rw (length-map l f), ap (map f) ek ∙ rw (length-map l f) (go (ltb (length l) most)))
   where
     go : (b : Bool) → map f (cond b m l) ≡ cond b (map f m) (map f l)
     go true = refl
@@ -104,7 +103,7 @@ pub grown-snoc : {A : Type 0} (f : ℕ → A) (most : ℕ) (l k : List ℕ) (x :
     → Grown most (map f (reverse l)) (snoc (map f (reverse l)) (f x)) r (map f (reverse k))
 unfolding lists.filed if-room
 grown-snoc f most l k x r er ek =
-    let n : length (map f (reverse l)) ≡ length l = length-map f (reverse l) ∙ length-reverse l in
+    let n : length (map f (reverse l)) ≡ length l = length-map (reverse l) f ∙ length-reverse l in
     (er ∙ rw n, ap (λ (t : List ℕ). map f (reverse t)) ek ∙ rw n (go (ltb (length l) most)))
   where
     go : (b : Bool) → map f (reverse (cond b (x ∷ l) l)) ≡ cond b (snoc (map f (reverse l)) (f x)) (map f (reverse l))
@@ -268,7 +267,7 @@ pub carried-count : (c : Circuit) (u : List ℕ) (n : ℕ) → n ≡ length (sta
 unfolding units
 carried-count c u n e =
     let q : words (take 2056 (drop 8232 u)) ≡ cut (words u) .carried = lent u 4 (omega arith) in
-    e ∙ ap (λ (w : List ℕ). length (stacked 256 w)) q ∙ sym (length-map (act-of c) (appended 256 (cut (words u) .carried)) ∙ length-reverse (stacked 256 (cut (words u) .carried)))
+    e ∙ ap (λ (w : List ℕ). length (stacked 256 w)) q ∙ sym (length-map (appended 256 (cut (words u) .carried)) (act-of c) ∙ length-reverse (stacked 256 (cut (words u) .carried)))
 
 -- `activate` in the main pass, by the rank
 pub after-carried : (c : Circuit) (s r x g : ℕ) (l : Lists) → g ≡ gate-of x → s ≡ rank-of-gate c g → s ≤ r

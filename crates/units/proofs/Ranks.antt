@@ -1,63 +1,27 @@
 -- What the proofs of `place` and `file` cite: a list by rank, where an entry's rank is that of its gate.
-use Prim.Native.Nat.{ℕ, zero, suc, _+_, _-_, _≤_, _<_, min}
-use mathlib.Core.Path.{_≡_, refl, sym, ap, _∙_}
+use Prim.Native.Nat.{ℕ, zero, suc, _+_, _-_, _≤_, _<_}
+use mathlib.Core.Path.{_≡_, sym, ap, _∙_}
 use mathlib.Core.Bool.{Bool, true, false, cond}
-use mathlib.Core.List.{List, [], _∷_, map}
+use mathlib.Core.List.{List, _∷_, map}
 use native.Mathlib.Omega.{arith}
 use native.Mathlib.Numerals.{add-one}
 use borrow.Author.Tests.{le-leb, lt-leb, lt-ltb, le-ltb}
 use lib.Dec.{leb, ltb}
-use lib.ListN.{length, getD, set, length-set}
+use lib.ListN.{length, getD, set, length-map, length-set}
 use lib.Seq.{getD-set-same, getD-set-other}
-use Rattle.lists.specs.Lists.{held, downward, stacked}
+use Rattle.lists.specs.Lists.{downward, stacked}
 use Rattle.lists.specs.declared.Filed.{Filed}
 use Rattle.lists.specs.declared.Filed.the-variants.{Full, Done}
+use Rattle.lists.proofs.Stacks.{stacked-is, downward-other, stacked-set}
 use Rattle.model.specs.Circuit.{Circuit, rank-of-gate}
 use Rattle.model.specs.State.{Act}
 use Rattle.units.specs.View.{gate-of, act-of}
 use Rattle.units.specs.Raising.{by-rank}
 
--- ---- words n down to 1
-
--- as many as asked for
-downward-length : (n : ℕ) (w : List ℕ) → length (downward n w) ≡ n
-unfolding downward
-downward-length zero w = refl
-downward-length (suc n) w = ap suc (downward-length n w)
-
--- a store above the entries
-downward-other : (n j v : ℕ) (w : List ℕ) → n < j → downward n (set w j v) ≡ downward n w
-unfolding downward
-downward-other zero j v w h = refl
-downward-other (suc n) j v w h = rw (getD-set-other w j (suc n) v 0 (omega arith), downward-other n j v w (omega arith))
-
--- a store at the count
-downward-count : (n v : ℕ) (w : List ℕ) → downward n (set w 0 v) ≡ downward n w
-unfolding downward
-downward-count zero v w = refl
-downward-count (suc n) v w = rw (getD-set-other w 0 (suc n) v 0 (omega arith), downward-count n v w)
-
--- the view where the count is known
-stacked-is : (most n : ℕ) (w : List ℕ) → n ≡ length (stacked most w) → stacked most w ≡ downward n w
-unfolding stacked
-stacked-is most n w e = let k : n ≡ held most w = e ∙ downward-length (held most w) w in rw k
-
--- the count is stored
-stacked-set : (most n : ℕ) (w : List ℕ) → 0 < length w → n ≤ most → stacked most (set w 0 n) ≡ downward n w
-unfolding stacked
-stacked-set most n w l h =
-    let k : min n most ≡ n = omega arith in
-    rw (getD-set-same w 0 n 0 l, k) (downward-count n n w)
-
 -- what holds on both sides of a choice
 cond-both : {A : Type 0} (P : A → Type 0) (b : Bool) (s t : A) → P s → P t → P (cond b s t)
 cond-both P true s t p q = p
 cond-both P false s t p q = q
-
--- as long as it was
-pub length-map : {A : Type 0} (f : ℕ → A) (l : List ℕ) → length (map f l) ≡ length l
-length-map f [] = refl
-length-map f (x ∷ l) = ap suc (length-map f l)
 
 module _ (c : Circuit) where
   -- the rank of an entry's gate
@@ -143,7 +107,7 @@ module _ (c : Circuit) where
   -- `file` of a list that is full
   pub file-full : (x n : ℕ) (w : List ℕ) → n ≡ length (stacked 256 w) → 256 ≤ n → File x (map (act-of c) (stacked 256 w)) Full (map (act-of c) (stacked 256 w))
   file-full x n w e h =
-      let k : ltb (length (map (act-of c) (stacked 256 w))) 256 ≡ false = le-ltb (length (map (act-of c) (stacked 256 w))) 256 (omega (arith, length-map (act-of c) (stacked 256 w))) in
+      let k : ltb (length (map (act-of c) (stacked 256 w))) 256 ≡ false = le-ltb (length (map (act-of c) (stacked 256 w))) 256 (omega (arith, length-map (stacked 256 w) (act-of c))) in
       (rw k, rw k)
 
   -- `file` with room
@@ -151,5 +115,5 @@ module _ (c : Circuit) where
       → map (act-of c) (downward (n + 1) w1) ≡ by-rank c (act-of c x) (map (act-of c) (downward n w)) → w2 ≡ set w1 0 (n + 1)
       → File x (map (act-of c) (stacked 256 w)) Done (map (act-of c) (stacked 256 w2))
   file-done x n w w1 w2 l e h e1 e2 =
-      let k : ltb (length (map (act-of c) (stacked 256 w))) 256 ≡ true = lt-ltb (length (map (act-of c) (stacked 256 w))) 256 (omega (arith, length-map (act-of c) (stacked 256 w))) in
+      let k : ltb (length (map (act-of c) (stacked 256 w))) 256 ≡ true = lt-ltb (length (map (act-of c) (stacked 256 w))) 256 (omega (arith, length-map (stacked 256 w) (act-of c))) in
       (rw k, rw (k, e2, stacked-set 256 (n + 1) w1 l (omega arith), stacked-is 256 n w e) e1)

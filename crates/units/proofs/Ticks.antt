@@ -7,7 +7,7 @@ use native.Mathlib.Omega.{arith}
 use native.Mathlib.Numerals.{add-one}
 use borrow.Author.Tests.{lt-ltb, ne-eqb}
 use lib.Dec.{leb, ltb}
-use lib.ListN.{length, getD, set, drop, length-reverse}
+use lib.ListN.{length, getD, set, drop, length-map, length-reverse}
 use lib.Seq.{getD-set-same, getD-set-other}
 use Rattle.words.specs.Words.{words, tail, Stored}
 use Rattle.words.specs.Tables.{base, marked}
@@ -24,7 +24,6 @@ use Rattle.units.specs.View.{Tables, Units, sizes, cut, act-of, event-of
 use Rattle.units.specs.Raising.{late≔, delivered≔, pending≔, carried≔, with-lists, by-rank, all-by-rank, activate, lists-after}
 use Rattle.units.specs.Calls.{with-calls, with-begun, stack≔, forks≔, reopened, empty}
 use Rattle.units.proofs.Lending.{poke, cut-poke, cut-peek, sized}
-use Rattle.units.proofs.Ranks.{length-map}
 use Rattle.units.proofs.Filing.{whole, Raised}
 
 -- ---- a count of 0
@@ -233,7 +232,7 @@ by-rank-length c a (b ∷ l) = go (leb (rank-of-gate c (b .gate)) (rank-of-gate 
 -- as many as the count says
 carried-length : (c : Circuit) (u : List ℕ) → length (units c u .lists .carried) ≡ length (stacked 256 (cut (words u) .carried))
 unfolding units
-carried-length c u = length-map (act-of c) (appended 256 (cut (words u) .carried)) ∙ length-reverse (stacked 256 (cut (words u) .carried))
+carried-length c u = length-map (appended 256 (cut (words u) .carried)) (act-of c) ∙ length-reverse (stacked 256 (cut (words u) .carried))
 
 -- at most 256
 carried-most : (c : Circuit) (u : List ℕ) → length (units c u .lists .carried) ≤ 256
