@@ -14,6 +14,11 @@ unsafe extern "C" {
     #[link_name = "hazhirun_narrow"]
     pub safe fn narrow(bits: u64) -> u32;
 
+    /// Whether narrowing changes an f64: its f32 is not equal to it. A NaN, which
+    /// is equal to nothing, is changed.
+    #[link_name = "hazhirun_narrow_changes"]
+    pub safe fn narrow_changes(bits: u64) -> bool;
+
     /// Whether an f64 is neither an infinity nor a NaN.
     #[link_name = "hazhirun_is_finite"]
     pub safe fn is_finite(bits: u64) -> bool;

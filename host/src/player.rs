@@ -72,7 +72,7 @@ pub enum Answer {
 /// let mut areas = [vec![0; 65536], vec![0; 65536], vec![0; 65536]];
 /// let [values, units, delays] = &mut areas;
 /// let answer = run(&circuit, &script, &mut log, values, units, delays);
-/// assert_eq!(answer, Answer::Played { stop: 0, ticks: 1, bytes: 80 });
+/// assert_eq!(answer, Answer::Played { stop: 0, ticks: 1, bytes: 88 });
 /// assert_eq!(answer.to_string(), "1 tick played");
 /// ```
 pub fn run(

@@ -6,7 +6,9 @@ use std::fmt::Debug;
 use std::hint::black_box;
 use std::iter::repeat_with;
 
-use hazhirun_host::{eq64, is_finite, le32, le64, lt64, narrow, of_int, plus32, plus64, to_int};
+use hazhirun_host::{
+    eq64, is_finite, le32, le64, lt64, narrow, narrow_changes, of_int, plus32, plus64, to_int,
+};
 
 /// What a comparison found.
 #[derive(Debug, PartialEq)]
@@ -53,6 +55,11 @@ fn bits32(x: f32) -> u32 {
 
 fn hardware_narrow(bits: u64) -> u32 {
     bits32(f64::from_bits(bits) as f32)
+}
+
+fn hardware_narrow_changes(bits: u64) -> bool {
+    let x = f64::from_bits(bits);
+    f64::from(x as f32) != x
 }
 
 fn hardware_to_int(bits: u64) -> i64 {
@@ -130,17 +137,33 @@ fn around(bits: u64) -> [u64; 6] {
 
 // ---- narrowing
 
+/// What is compared of a narrowing: the f32, and whether the number is changed.
+fn ours_narrowed(bits: u64) -> (u32, bool) {
+    (narrow(bits), narrow_changes(bits))
+}
+
+fn hardware_narrowed(bits: u64) -> (u32, bool) {
+    (hardware_narrow(bits), hardware_narrow_changes(bits))
+}
+
+/// The digits of an f64 that an f32 has none of.
+const BEYOND_F32: u64 = (1 << 29) - 1;
+
+/// Any, those in the range of f32s, and there those with no more digits than an
+/// f32, of which many stay.
 #[test]
 fn narrowing_of_random_patterns() {
     let all = words(1, RANDOM);
-    assert_eq!(compare(all, |b| narrow(b), hardware_narrow), agreed(RANDOM));
+    assert_eq!(compare(all, ours_narrowed, hardware_narrowed), agreed(RANDOM));
     let of_f32 = in_range(2, RANDOM, 870, 1152);
-    assert_eq!(compare(of_f32, |b| narrow(b), hardware_narrow), agreed(RANDOM));
+    assert_eq!(compare(of_f32, ours_narrowed, hardware_narrowed), agreed(RANDOM));
+    let short = in_range(19, RANDOM, 870, 1152).map(|b| b & !BEYOND_F32);
+    assert_eq!(compare(short, ours_narrowed, hardware_narrowed), agreed(RANDOM));
 }
 
 #[test]
 fn narrowing_at_borders() {
-    assert_eq!(compare(borders(), |b| narrow(b), hardware_narrow), agreed(BORDERS));
+    assert_eq!(compare(borders(), ours_narrowed, hardware_narrowed), agreed(BORDERS));
 }
 
 /// Whole numbers of halves of the smallest f32, from 0 on and around the least
@@ -156,7 +179,7 @@ fn narrowing_at_the_ends_of_f32() {
     let over = (0..EACH).map(|n| 2f64.powi(128) - n as f64 * quarter);
     let ends = zero.chain(normal).chain(over).flat_map(|x| around(x.to_bits()));
     let count = 3 * EACH as usize * 6;
-    assert_eq!(compare(ends, |b| narrow(b), hardware_narrow), agreed(count));
+    assert_eq!(compare(ends, ours_narrowed, hardware_narrowed), agreed(count));
 }
 
 /// f32s, numbers halfway between two of them, and what lies beside these. A
@@ -170,7 +193,7 @@ fn narrowing_between_neighbours() {
         let [low, high] = [b, b + 1].map(|b| f64::from(f32::from_bits(b)));
         [low, (low + high) / 2.0].into_iter().flat_map(|x| around(x.to_bits()))
     });
-    assert_eq!(compare(halfway, |b| narrow(b), hardware_narrow), agreed(EACH * 12));
+    assert_eq!(compare(halfway, ours_narrowed, hardware_narrowed), agreed(EACH * 12));
     let even = words(3, EACH).map(|w| w as u32 % finite);
     let rounded = |b: u32| {
         let [low, high] = [b, b + 1].map(|b| f64::from(f32::from_bits(b)));
@@ -180,10 +203,26 @@ fn narrowing_between_neighbours() {
 }
 
 #[test]
-fn a_nan_is_narrowed_to_one_pattern() {
+fn a_nan_is_narrowed_to_one_pattern_and_changed() {
     let infinity = 0x7ff0_0000_0000_0000;
     let nans = words(4, RANDOM).map(|w| w | infinity).filter(|b| b & DIGITS != 0);
-    assert_eq!(compare(nans, |b| narrow(b), |_| NAN32), agreed(RANDOM));
+    assert_eq!(compare(nans, ours_narrowed, |_| (NAN32, true)), agreed(RANDOM));
+}
+
+/// An f32, made an f64, comes back as it was; what lies beside it is changed.
+/// Zeros, the least, the largest and infinities are among them.
+#[test]
+fn an_f32_stays_and_what_lies_beside_it_is_changed() {
+    const EACH: usize = 1_000_000;
+    let ends = [0, 1, 0x7f_ffff, 0x80_0000, 0x7f7f_ffff, 0x7f80_0000];
+    let random = words(20, EACH).map(|w| w as u32 % 0x7f80_0000);
+    let f32s: Vec<u32> = random.chain(ends).flat_map(|b| [b, b | 1 << 31]).collect();
+    let wide = |b: u32| f64::from(f32::from_bits(b)).to_bits();
+    let count = f32s.len();
+    let stays = |b| ours_narrowed(wide(b));
+    assert_eq!(compare(f32s.iter().copied(), stays, |b| (b, false)), agreed(count));
+    let beside = f32s.iter().flat_map(|&b| [wide(b).wrapping_sub(1), wide(b) + 1]);
+    assert_eq!(compare(beside, |b| narrow_changes(b), |_| true), agreed(2 * count));
 }
 
 /// The control: digits cut off instead of rounded differ at about half of the
@@ -198,6 +237,26 @@ fn the_comparison_tells_a_wrong_narrowing() {
     let found = compare(in_range(5, COUNT, 897, 1150), cut, hardware_narrow);
     assert_eq!(found.inputs, COUNT);
     assert!((490_000..510_000).contains(&found.different), "{found:?}");
+}
+
+/// The control: a test of the digits that an f32 has none of is right for
+/// normal f32s, and wrong where a number has no others and becomes subnormal,
+/// zero or infinite: of 4 exponents all, and of 23 more all but about one in 23;
+/// and of those from 2^128 on all.
+#[test]
+fn the_comparison_tells_a_wrong_change() {
+    const COUNT: usize = 1_000_000;
+    let digits_lost = |b: u64| b & BEYOND_F32 != 0;
+    let told = |patterns: &mut dyn Iterator<Item = u64>| {
+        let found = compare(patterns, digits_lost, hardware_narrow_changes);
+        assert_eq!(found.inputs, COUNT);
+        found.different
+    };
+    assert_eq!(told(&mut in_range(21, COUNT, 897, 1150)), 0);
+    let short = |seed, low, high| in_range(seed, COUNT, low, high).map(|b| b & !BEYOND_F32);
+    assert_eq!(told(&mut short(22, 897, 1150)), 0);
+    assert!((961_000..965_000).contains(&told(&mut short(23, 870, 896))));
+    assert_eq!(told(&mut short(24, 1151, 2046)), COUNT);
 }
 
 // ---- Ints

@@ -1,4 +1,7 @@
-//! The limits of document 01 (stop 12), and the units begun in a tick.
+//! The limits of document 01 (stop 12), the units begun in a tick, and the
+//! narrowings that changed their number (document 02, K9).
+
+use std::cell::Cell;
 
 use super::witness::Witness;
 use super::{Activation, Machine};
@@ -27,6 +30,9 @@ pub(super) struct Tally {
     pub(super) late_units: usize,
     /// A list would have passed its limit.
     pub(super) passed: bool,
+    /// The tick's narrowings that changed their number; `countdown` of the
+    /// source counts here and only borrows the machine.
+    pub(super) changed: Cell<usize>,
     /// What the units saw when they began, if that is looked at.
     pub(super) witness: Option<Witness>,
 }
@@ -35,6 +41,15 @@ impl Tally {
     pub(super) fn next_tick(&mut self) {
         self.begun.clear();
         self.late_units = 0;
+        self.changed.set(0);
+    }
+
+    /// The source narrows `x` here. It counts if the hardware's f32 is not equal
+    /// to it, unless the tick is to stop: what follows a full list is not made.
+    pub(super) fn narrow(&self, x: f64) {
+        if !self.passed && f64::from(x as f32) != x {
+            self.changed.set(self.changed.get() + 1);
+        }
     }
 
     /// Whether a list of `held` entries takes one more.

@@ -13,6 +13,9 @@ use crate::vectors::is_whole;
 /// The group of the random cases.
 const RANDOM: &str = "families";
 
+/// How many of them are taken that are not refused.
+const TAKEN: usize = 32;
+
 /// The cases, packed.
 pub fn pack() -> Vec<u8> {
     let cases = cases();
@@ -40,9 +43,9 @@ pub fn printed() -> String {
     format!("{lines}{} asked, 0 wrong\n", cases.len())
 }
 
-/// Every stated case that is refused and as many that are not: all that are
-/// not random, then random ones at even distances. A case that the vectors do
-/// not give whole is left out.
+/// Every stated case that is refused, every one that is not and is not random,
+/// and random ones at even distances. A case that the vectors do not give whole
+/// is left out.
 pub fn cases() -> Vec<Case> {
     let (mut refused, mut others, mut random) = (Vec::new(), Vec::new(), Vec::new());
     for group in groups() {
@@ -54,10 +57,7 @@ pub fn cases() -> Vec<Case> {
             }
         }
     }
-    let wanted = refused.len().saturating_sub(others.len());
-    let spread = (0..wanted).map(|k| random[k * random.len() / wanted].clone());
-    others.extend(spread);
-    others.truncate(refused.len());
+    others.extend((0..TAKEN).map(|k| random[k * random.len() / TAKEN].clone()));
     refused.extend(others);
     refused
 }

@@ -3,7 +3,7 @@
 use crate::Answer;
 
 /// The words of a record before its units begun.
-const HEAD: usize = 6;
+const HEAD: usize = 7;
 /// The most outputs of a circuit: 64 gates with 9 each.
 const MOST_OUTPUTS: usize = 576;
 
@@ -42,11 +42,12 @@ fn line(record: &[i64]) -> String {
 fn records(mut log: &[i64], outputs: usize) -> Option<Vec<&[i64]>> {
     let mut records = Vec::new();
     while !log.is_empty() {
-        let &[tick, _, late, main, carried, stop, ..] = log else { return None };
+        let &[tick, _, late, main, carried, stop, changed, ..] = log else { return None };
         let units = usize::try_from(late.checked_add(main)?.checked_add(carried)?).ok()?;
         let shown = if stop == 0 { outputs } else { 0 };
         let length = units.checked_add(shown)?.checked_mul(2)?.checked_add(HEAD)?;
-        if tick != records.len() as i64 + 1 || length > log.len() || stop != 0 && length != log.len() {
+        let whole = tick == records.len() as i64 + 1 && changed >= 0;
+        if !whole || length > log.len() || stop != 0 && length != log.len() {
             return None;
         }
         let (record, rest) = log.split_at(length);

@@ -46,6 +46,7 @@ impl Machine {
             main as i64,
             self.carried.len() as i64,
             i64::from(stop),
+            self.tally.changed.get() as i64,
         ]);
     }
 

@@ -36,7 +36,7 @@ fn no() -> (i64, i64) {
 fn the_printed_example() {
     let case = case("toggle");
     let answer = run(&case.circuit, &case.script, &case.lent);
-    assert_eq!(print(&answer), "1 1 1 0 0 0 0 2 0 1 0 3 0 7 0 1\nend 0 1\n");
+    assert_eq!(print(&answer), "1 1 1 0 0 0 0 0 2 0 1 0 3 0 7 0 1\nend 0 1\n");
 }
 
 #[test]
@@ -123,7 +123,7 @@ fn fifty_million_steps() {
     assert_eq!((p.stop, p.ticks[0].steps), (0, 50_000_000));
     let p = played("steps-50000001");
     assert_eq!((p.stop, p.done), (11, 0));
-    assert_eq!(p.words, [1, 50_000_001, 1, 0, 0, 11, 0, 2]);
+    assert_eq!(p.words, [1, 50_000_001, 1, 0, 0, 11, 0, 0, 2]);
 }
 
 #[test]
@@ -429,7 +429,7 @@ fn raised_again() {
     let p = played("late-unit-raises-itself");
     assert_eq!((p.late(2), p.ticks[1].steps), (vec![0, 2, 2, 2, 2, 2], 10));
     let p = played("endless-in-the-late-pass");
-    assert_eq!(p.words[..6], [1, 2047, 1024, 0, 0, 12]);
+    assert_eq!(p.words[..7], [1, 2047, 1024, 0, 0, 12, 0]);
     let p = played("endless-by-carrying");
     assert_eq!((p.stop, p.done, p.main(1), p.main(2), p.carried(2)), (12, 2, vec![2], vec![0], vec![2]));
     assert_eq!((p.ticks[2].late.len(), p.carried(3)), (1024, vec![]));
@@ -454,15 +454,15 @@ fn carried() {
 fn stopped_records() {
     // Two first checks and seven outputs of nothing, then the stopped record.
     let p = played("stopped-while-carrying");
-    let first = [&[1, 0, 0, 2, 0, 0, 2, 3, 0, 0][..], &[0; 14]].concat();
-    assert_eq!(p.words, [&first[..], &[2, 257, 0, 2, 2, 12, 0, 4, 0, 0, 2, 3, 0, 0]].concat());
+    let first = [&[1, 0, 0, 2, 0, 0, 0, 2, 3, 0, 0][..], &[0; 14]].concat();
+    assert_eq!(p.words, [&first[..], &[2, 257, 0, 2, 2, 12, 0, 0, 4, 0, 0, 2, 3, 0, 0]].concat());
     let p = played("stopped-before-the-main-pass");
     assert_eq!((p.carried(2), p.done), (vec![2], 2));
-    assert_eq!(p.words[p.words.len() - 8..], [3, 257, 1, 0, 0, 12, 2, 0]);
+    assert_eq!(p.words[p.words.len() - 9..], [3, 257, 1, 0, 0, 12, 0, 2, 0]);
     // Eight times the watchers 9 to 40; the next tick moves them to late and stops there.
     let p = played("late-full-at-the-opening");
     assert_eq!((p.carried(2), p.done), (eight_times_32(), 2));
-    assert_eq!(p.words[p.words.len() - 6..], [3, 0, 0, 0, 0, 12]);
+    assert_eq!(p.words[p.words.len() - 7..], [3, 0, 0, 0, 0, 12, 0]);
 }
 
 /// The watchers 9 to 40 of a Toggle that is flipped eight times.
@@ -477,17 +477,17 @@ fn the_order_carried() {
     // In tick 1 the first checks alone, by rank. In tick 2 the Clock flips 1, then 2: the watchers of 1
     // are checked first, 5 and 6, then those of 2, 3 and 4. In tick 3 the late pass goes by rank.
     let p = played("carried-against-ranks");
-    let first = [&[1, 0, 0, 4, 0, 0, 4, 6, 3, 5, 0, 0, 0, 0][..], &[0; 18]].concat();
+    let first = [&[1, 0, 0, 4, 0, 0, 0, 4, 6, 3, 5, 0, 0, 0, 0][..], &[0; 18]].concat();
     let shown = [0, 0, 3, 0, 3, 0, 0, 0, 0, 0, 0, 1, 0, 1, 0, 0, 0, 0];
-    let second = [&[2, 2, 0, 1, 4, 0, 0, 0, 5, 6, 3, 4, 0, 0, 0, 0][..], &shown].concat();
-    let third = [&[3, 0, 4, 0, 0, 0, 4, 6, 5, 3, 0, 0, 0, 0][..], &shown].concat();
+    let second = [&[2, 2, 0, 1, 4, 0, 0, 0, 0, 5, 6, 3, 4, 0, 0, 0, 0][..], &shown].concat();
+    let third = [&[3, 0, 4, 0, 0, 0, 0, 4, 6, 5, 3, 0, 0, 0, 0][..], &shown].concat();
     assert_eq!(p.words, [first, second, third].concat());
     // Clock 1, of rank 5, counts up 4 and flips 3; then Clock 0, of rank 6, flips 2 and counts up 4.
     let p = played("carried-by-two-units");
-    let first = [&[1, 0, 0, 5, 0, 0, 5, 8, 9, 7, 6][..], &[0; 5], &[0; 28]].concat();
+    let first = [&[1, 0, 0, 5, 0, 0, 0, 5, 8, 9, 7, 6][..], &[0; 5], &[0; 28]].concat();
     let shown = [0, 0, 0, 3, 0, 3, 0, 0, 1, 0, 0, 0, 0, 0, 0, 0, 0, 1, 0, 1, 0, 0, 2, 0, 0, 0, 0, 0];
-    let second = [&[2, 4, 0, 2, 6, 0, 1, 0, 0, 0, 9, 7, 8, 5, 6, 9][..], &[0; 6], &shown].concat();
-    let third = [&[3, 0, 6, 0, 0, 0, 8, 5, 9, 9, 7, 6][..], &[0; 6], &shown].concat();
+    let second = [&[2, 4, 0, 2, 6, 0, 0, 1, 0, 0, 0, 9, 7, 8, 5, 6, 9][..], &[0; 6], &shown].concat();
+    let third = [&[3, 0, 6, 0, 0, 0, 0, 8, 5, 9, 9, 7, 6][..], &[0; 6], &shown].concat();
     assert_eq!(p.words, [first, second, third].concat());
 }
 
@@ -511,17 +511,17 @@ fn what_goes_out_is_listed() {
     // raised; where false, the falling side and, behind the Select, 4. In tick 1 the first check of 4.
     let p = played("carried-in-and-out");
     let records: [(&[i64], [i64; 20]); 4] = [
-        (&[1, 1, 0, 1, 0, 0, 4, 16], [0, 0, 0, 3, 0, 0, 0, 3, 0, 0, 0, 0, 0, 1, 0, 0, 0, 1, 0, 0]),
+        (&[1, 1, 0, 1, 0, 0, 0, 4, 16], [0, 0, 0, 3, 0, 0, 0, 3, 0, 0, 0, 0, 0, 1, 0, 0, 0, 1, 0, 0]),
         (
-            &[2, 1, 0, 1, 2, 0, 0, 0, 3, 5, 16, 32],
+            &[2, 1, 0, 1, 2, 0, 0, 0, 0, 3, 5, 16, 32],
             [0, 0, 3, 3, 0, 0, 0, 3, 0, 0, 0, 0, 1, 0, 0, 0, 0, 1, 0, 0],
         ),
         (
-            &[3, 2, 2, 1, 2, 0, 5, 3, 0, 32, 16, 0, 5, 4, 33, 16],
+            &[3, 2, 2, 1, 2, 0, 0, 5, 3, 0, 32, 16, 0, 5, 4, 33, 16],
             [0, 0, 3, 3, 0, 3, 0, 3, 0, 0, 0, 0, 0, 1, 0, 1, 0, 1, 0, 0],
         ),
         (
-            &[4, 2, 2, 1, 2, 0, 5, 4, 0, 33, 16, 0, 3, 5, 16, 32],
+            &[4, 2, 2, 1, 2, 0, 0, 5, 4, 0, 33, 16, 0, 3, 5, 16, 32],
             [0, 0, 3, 3, 0, 3, 0, 3, 0, 0, 0, 0, 1, 0, 0, 1, 0, 0, 0, 0],
         ),
     ];
@@ -533,18 +533,18 @@ fn what_goes_out_is_listed() {
 fn what_a_stopped_record_lists() {
     // In tick 3 gate 3 begins, of the three that came in, and its chain never ends.
     let p = played("carried-in-stopped-late");
-    let first = [&[1, 1, 0, 3, 0, 0, 3, 4, 2, 0, 0, 0][..], &[0; 18]].concat();
+    let first = [&[1, 1, 0, 3, 0, 0, 0, 3, 4, 2, 0, 0, 0][..], &[0; 18]].concat();
     let shown = [0, 0, 3, 0, 0, 0, 0, 0, 0, 0, 0, 1, 0, 0, 0, 0, 0, 0];
-    let second = [&[2, 1, 0, 1, 3, 0, 0, 0, 2, 3, 4, 0, 0, 0][..], &shown].concat();
-    assert_eq!(p.words, [first, second, vec![3, 257, 1, 0, 0, 12, 3, 0]].concat());
+    let second = [&[2, 1, 0, 1, 3, 0, 0, 0, 0, 2, 3, 4, 0, 0, 0][..], &shown].concat();
+    assert_eq!(p.words, [first, second, vec![3, 257, 1, 0, 0, 12, 0, 3, 0]].concat());
     // Rank 4 carries ranks 4 and 1, and 7 and 9 wait for this tick; then the Clock of rank 5 begins.
     let p = played("carried-and-pending-12");
-    let first = [&[1, 0, 0, 4, 0, 0, 4, 2, 3, 5, 0, 0, 0, 0][..], &[0; 18]].concat();
-    let second = vec![2, 257, 0, 2, 2, 12, 0, 6, 0, 0, 2, 4, 0, 0];
+    let first = [&[1, 0, 0, 4, 0, 0, 0, 4, 2, 3, 5, 0, 0, 0, 0][..], &[0; 18]].concat();
+    let second = vec![2, 257, 0, 2, 2, 12, 0, 0, 6, 0, 0, 2, 4, 0, 0];
     assert_eq!((p.words, p.done), ([first, second].concat(), 1));
     // The same in tick 1, where 4 and 2 begin by their first checks.
     let p = played("carried-and-pending-11");
-    let first = [1, 50_000_001, 0, 4, 2, 11, 4, 0, 2, 6, 0, 0, 0, 0, 2, 4, 0, 0];
+    let first = [1, 50_000_001, 0, 4, 2, 11, 0, 4, 0, 2, 6, 0, 0, 0, 0, 2, 4, 0, 0];
     assert_eq!((&p.words[..], p.done), (&first[..], 0));
 }
 
@@ -552,8 +552,8 @@ fn what_a_stopped_record_lists() {
 fn the_printed_lines_list_it() {
     let case = case("carried-and-pending-12");
     let answer = run(&case.circuit, &case.script, &case.lent);
-    let first = format!("1 0 0 4 0 0 4 2 3 5 0 0 0 0{}\n", " 0".repeat(18));
-    assert_eq!(print(&answer), first + "2 257 0 2 2 12 0 6 0 0 2 4 0 0\nend 12 1\n");
+    let first = format!("1 0 0 4 0 0 0 4 2 3 5 0 0 0 0{}\n", " 0".repeat(18));
+    assert_eq!(print(&answer), first + "2 257 0 2 2 12 0 0 6 0 0 2 4 0 0\nend 12 1\n");
 }
 
 // ---- chains ----
@@ -769,7 +769,7 @@ fn units_of_first_checks_are_like_others() {
     assert_eq!((p.main(1), &p.ticks[1].late[..], p.shown(2, 3, 1)), (vec![1], &[(3, 1)][..], int(7)));
     let p = played("start-pending-256");
     assert_eq!((p.main(1).len(), p.begun(), p.stop), (256, 256, 0));
-    assert_eq!(played("start-pending-257").words, [1, 0, 0, 0, 0, 12]);
+    assert_eq!(played("start-pending-257").words, [1, 0, 0, 0, 0, 12, 0]);
     let p = played("card-in-the-slot");
     assert_eq!([p.late(1), p.main(1), p.late(3), p.main(3)], [vec![], vec![4], vec![0, 4], vec![]]);
     assert_eq!([1, 2, 3, 4].map(|t| p.shown(t, 2, 0)), [int(7), int(7), int(9), int(9)]);
@@ -841,31 +841,31 @@ fn the_edge_is_reached() {
 #[test]
 fn logs() {
     let rows = [
-        ("log-exact", 0, 2, 32),
-        ("log-byte-short", 13, 1, 16),
-        ("log-word-short", 13, 1, 16),
-        ("log-byte-over", 0, 2, 32),
+        ("log-exact", 0, 2, 34),
+        ("log-byte-short", 13, 1, 17),
+        ("log-word-short", 13, 1, 17),
+        ("log-byte-over", 0, 2, 34),
         ("log-one-record-short", 13, 0, 0),
         ("log-empty", 13, 0, 0),
         ("log-empty-no-ticks", 0, 0, 0),
-        ("log-12-exact", 12, 0, 8),
+        ("log-12-exact", 12, 0, 9),
         ("log-12-byte-short", 13, 0, 0),
         ("log-12-empty", 13, 0, 0),
-        ("log-11-exact", 11, 0, 8),
+        ("log-11-exact", 11, 0, 9),
         ("log-11-byte-short", 13, 0, 0),
-        ("log-carried-exact", 0, 2, 66),
-        ("log-carried-byte-short", 13, 1, 32),
-        ("log-carried-word-short", 13, 1, 32),
-        ("log-carried-12-exact", 12, 1, 46),
-        ("log-carried-12-byte-short", 13, 1, 32),
-        ("log-carried-12-word-short", 13, 1, 32),
+        ("log-carried-exact", 0, 2, 68),
+        ("log-carried-byte-short", 13, 1, 33),
+        ("log-carried-word-short", 13, 1, 33),
+        ("log-carried-12-exact", 12, 1, 48),
+        ("log-carried-12-byte-short", 13, 1, 33),
+        ("log-carried-12-word-short", 13, 1, 33),
     ];
     for (name, stop, done, words) in rows {
         let p = played(name);
         assert_eq!((p.stop, p.done, p.words.len()), (stop, done, words), "{name}");
     }
-    assert_eq!(played("log-11-exact").words, [1, 50_000_001, 1, 0, 0, 11, 0, 2]);
-    assert_eq!(played("log-12-exact").words, [1, 256, 1, 0, 0, 12, 0, 2]);
+    assert_eq!(played("log-11-exact").words, [1, 50_000_001, 1, 0, 0, 11, 0, 0, 2]);
+    assert_eq!(played("log-12-exact").words, [1, 256, 1, 0, 0, 12, 0, 0, 2]);
 }
 
 // ---- questions ----

@@ -5,13 +5,14 @@ mod common;
 use common::{Pin, Plan, bytes};
 use oracle::{Answer, Lent, check, print, run};
 
+/// With the seventh word of document 02's K9: 0.25 is an f32, so 0.
 #[test]
 fn the_first_example_is_printed_as_document_01_prints_it() {
     let circuit = bytes(&[2, 1, 1, 1, 1, 7, 28, 22, 0, 1, -1, 0, 0, 0]);
     let script = bytes(&[1, 1, 4598175219545276416, 1, 0, 1]);
     assert_eq!(check(&circuit, &script), 0);
     let answer = run(&circuit, &script, &Lent::default());
-    assert_eq!(print(&answer), "1 1 1 0 0 0 0 2 0 1 0 3 0 7 0 1\nend 0 1\n");
+    assert_eq!(print(&answer), "1 1 1 0 0 0 0 0 2 0 1 0 3 0 7 0 1\nend 0 1\n");
 }
 
 #[test]

@@ -61,7 +61,7 @@ fn every_case_can_be_read_back() {
     }
     assert!(rest.is_empty());
     assert!(refused.iter().all(|&n| n > 20), "{refused:?}");
-    assert_eq!(refused[0], cases.len() / 2, "as many that are not refused");
+    assert!(refused[0] > cases.len() / 2, "more that are not refused");
     assert!(checked[0] > refused[0], "some are refused by their areas alone");
 }
 
@@ -93,7 +93,7 @@ fn the_packed_runs_are_up_to_date() {
 #[test]
 fn the_runs_that_are_left_out() {
     let runs = runs::runs();
-    assert_eq!(runs.packed.len(), 987);
+    assert_eq!(runs.packed.len(), 1067);
     let left = [
         "ticks-100000",
         "stimuli-65535",

@@ -35,8 +35,8 @@ fn example() -> (Vec<u8>, Vec<u8>) {
 fn the_first_example() {
     let (circuit, script) = example();
     let dir = folder("first", Some(&circuit), Some(&script));
-    assert_eq!(printed(&dir, &[]), "1 1 1 0 0 0 0 2 0 1 0 3 0 7 0 1\nend 0 1\n");
-    assert_eq!(printed(&dir, &["--log", "127"]), "end 13 0\n");
+    assert_eq!(printed(&dir, &[]), "1 1 1 0 0 0 0 0 2 0 1 0 3 0 7 0 1\nend 0 1\n");
+    assert_eq!(printed(&dir, &["--log", "135"]), "end 13 0\n");
     assert_eq!(printed(&dir, &["--values", "65535"]), "refused 7\n");
 }
 

@@ -12,12 +12,12 @@ const TICK: (f64, &[(usize, Pin)]) = (0.25, &[]);
 const FIRST: (f64, &[(usize, Pin)]) = (0.0, &[]);
 
 /// The words of a record before its units begun.
-fn head(r: &Record) -> [i64; 6] {
-    [r.tick, r.steps, r.late, r.main, r.carried.len() as i64, r.stop]
+fn head(r: &Record) -> [i64; 7] {
+    [r.tick, r.steps, r.late, r.main, r.carried.len() as i64, r.stop, r.changed]
 }
 
 /// The head of the last record of a plan played on these ticks.
-fn last(plan: &mut Plan, ticks: &[(f64, &[(usize, Pin)])]) -> [i64; 6] {
+fn last(plan: &mut Plan, ticks: &[(f64, &[(usize, Pin)])]) -> [i64; 7] {
     head(plan.play(ticks).records.last().unwrap())
 }
 
@@ -34,7 +34,7 @@ fn the_chain_stack_and_the_forks_hold_256_calls() {
         let world = plan.gate(28, 0, &[]);
         let toggle = plan.gate(22, 0, &[]);
         (0..256).for_each(|_| call(&mut plan, world, 0, toggle, 0));
-        assert_eq!(last(&mut plan, &[(0.25, &[(world, Pin::Nothing)])]), [1, 256, 1, 0, 0, 0]);
+        assert_eq!(last(&mut plan, &[(0.25, &[(world, Pin::Nothing)])]), [1, 256, 1, 0, 0, 0, 0]);
     }
 }
 
@@ -47,12 +47,12 @@ fn the_257th_call_on_the_chain_stack_or_the_forks_stops() {
         let ring = plan.gate(2, 0, &[]);
         call(&mut plan, world, 0, ring, 0);
         (0..2).for_each(|_| call(&mut plan, ring, 0, ring, 0));
-        assert_eq!(last(&mut plan, &[(0.25, &[(world, Pin::Nothing)])]), [1, 256, 1, 0, 0, 12]);
+        assert_eq!(last(&mut plan, &[(0.25, &[(world, Pin::Nothing)])]), [1, 256, 1, 0, 0, 12, 0]);
     }
 }
 
 /// World calls a buffer, `fires` times in one tick.
-fn fires(kind: i64, fires: usize) -> [i64; 6] {
+fn fires(kind: i64, fires: usize) -> [i64; 7] {
     let mut plan = Plan::default();
     let world = plan.gate(28, 0, &[]);
     let buffer = plan.gate(kind, 0, &[]);
@@ -63,13 +63,13 @@ fn fires(kind: i64, fires: usize) -> [i64; 6] {
 #[test]
 fn a_buffer_holds_32_fires() {
     for kind in [11, 13] {
-        assert_eq!(fires(kind, 32), [1, 32, 32, 0, 0, 0]);
-        assert_eq!(fires(kind, 33), [1, 33, 33, 0, 0, 12]);
+        assert_eq!(fires(kind, 32), [1, 32, 32, 0, 0, 0, 0]);
+        assert_eq!(fires(kind, 33), [1, 33, 33, 0, 0, 12, 0]);
     }
 }
 
 /// Sends to as many receivers each, all delivered in tick 2.
-fn delivered(sends: usize, receivers: usize) -> [i64; 6] {
+fn delivered(sends: usize, receivers: usize) -> [i64; 7] {
     let mut plan = Plan::default();
     let world = plan.gate(28, 0, &[]);
     for _ in 0..sends {
@@ -82,12 +82,12 @@ fn delivered(sends: usize, receivers: usize) -> [i64; 6] {
 
 #[test]
 fn sixty_four_events_are_delivered() {
-    assert_eq!(delivered(8, 8), [2, 0, 64, 0, 0, 0]);
-    assert_eq!(delivered(5, 13), [2, 0, 0, 0, 0, 12]);
+    assert_eq!(delivered(8, 8), [2, 0, 64, 0, 0, 0, 0]);
+    assert_eq!(delivered(5, 13), [2, 0, 0, 0, 0, 12, 0]);
 }
 
 /// In tick 2, 64 Worlds of rank 1 each set off 15 ChangeDetectors of rank 0.
-fn sixteen_units_each(with_clock: bool) -> [i64; 6] {
+fn sixteen_units_each(with_clock: bool) -> [i64; 7] {
     let mut plan = Plan::default();
     let world = plan.gate(28, 1, &[]);
     let toggle = plan.gate(22, 0, &[]);
@@ -101,8 +101,8 @@ fn sixteen_units_each(with_clock: bool) -> [i64; 6] {
 
 #[test]
 fn a_tick_begins_1024_units() {
-    assert_eq!(sixteen_units_each(false), [2, 64, 1024, 0, 0, 0]);
-    assert_eq!(sixteen_units_each(true), [2, 64, 1024, 0, 0, 12]);
+    assert_eq!(sixteen_units_each(false), [2, 64, 1024, 0, 0, 0, 0]);
+    assert_eq!(sixteen_units_each(true), [2, 64, 1024, 0, 0, 12, 0]);
 }
 
 /// A ChangeDetector that toggles what it watches raises itself for ever.
@@ -114,12 +114,12 @@ fn an_endless_value_loop_stops_at_the_1025th_unit() {
     let detector = plan.gate(6, 0, &[Pin::From(toggle, 1)]);
     plan.call(world, 0, toggle, 0);
     plan.call(detector, 0, toggle, 0);
-    assert_eq!(last(&mut plan, &[(0.25, &[(world, Pin::Nothing)])]), [1, 1024, 1024, 0, 0, 12]);
+    assert_eq!(last(&mut plan, &[(0.25, &[(world, Pin::Nothing)])]), [1, 1024, 1024, 0, 0, 12, 0]);
 }
 
 /// In tick 2, 64 Worlds each leave 4 ChangeDetectors waiting behind them;
 /// with a buffer's fire of tick 1 that is one more.
-fn late(with_fire: bool) -> [i64; 6] {
+fn late(with_fire: bool) -> [i64; 7] {
     let mut plan = Plan::default();
     let world = plan.gate(28, 0, &[]);
     let toggle = plan.gate(22, 0, &[]);
@@ -134,8 +134,8 @@ fn late(with_fire: bool) -> [i64; 6] {
 
 #[test]
 fn late_holds_256_units_over_all_ranks() {
-    assert_eq!(late(false), [2, 64, 320, 0, 0, 0]);
-    assert_eq!(late(true), [2, 64, 64, 0, 0, 12]);
+    assert_eq!(late(false), [2, 64, 320, 0, 0, 0, 0]);
+    assert_eq!(late(true), [2, 64, 64, 0, 0, 12, 0]);
 }
 
 /// 64 delivered events wait beside 256 late units.
@@ -154,7 +154,7 @@ fn delivered_events_are_not_on_the_late_list() {
     plan.alike(8, 26, 0, &[Pin::Int(0)]);
     let ticks: [(f64, &[(usize, Pin)]); 2] =
         [(0.25, &[(other, Pin::Nothing)]), (0.25, &[(world, Pin::Nothing); 64])];
-    assert_eq!(last(&mut plan, &ticks), [2, 64, 384, 0, 0, 0]);
+    assert_eq!(last(&mut plan, &ticks), [2, 64, 384, 0, 0, 0, 0]);
 }
 
 /// 16 Clocks of rank 0, of a tick's interval, each set off 16 ChangeDetectors
@@ -173,21 +173,21 @@ fn clocks(rank: i64) -> (Plan, usize) {
 #[test]
 fn pending_holds_256_units_over_all_ranks() {
     let (mut plan, _) = clocks(1);
-    assert_eq!(last(&mut plan, &[FIRST]), [1, 0, 0, 16, 0, 0]);
-    assert_eq!(last(&mut plan, &[FIRST, TICK]), [2, 16, 0, 272, 0, 0]);
+    assert_eq!(last(&mut plan, &[FIRST]), [1, 0, 0, 16, 0, 0, 0]);
+    assert_eq!(last(&mut plan, &[FIRST, TICK]), [2, 16, 0, 272, 0, 0, 0]);
     let time = plan.gate(3, 0, &[]);
     plan.gate(6, 2, &[Pin::From(time, 0)]);
-    assert_eq!(last(&mut plan, &[FIRST, TICK]), [2, 16, 0, 16, 0, 12]);
+    assert_eq!(last(&mut plan, &[FIRST, TICK]), [2, 16, 0, 16, 0, 12, 0]);
 }
 
 #[test]
 fn carried_holds_256_units() {
     let (mut plan, last_clock) = clocks(0);
-    assert_eq!(last(&mut plan, &[FIRST, TICK]), [2, 16, 0, 16, 256, 0]);
+    assert_eq!(last(&mut plan, &[FIRST, TICK]), [2, 16, 0, 16, 256, 0, 0]);
     let toggle = plan.gate(22, 0, &[]);
     plan.call(last_clock, 0, toggle, 0);
     plan.gate(6, 0, &[Pin::From(toggle, 1)]);
-    assert_eq!(last(&mut plan, &[FIRST, TICK]), [2, 17, 0, 16, 256, 12]);
+    assert_eq!(last(&mut plan, &[FIRST, TICK]), [2, 17, 0, 16, 256, 12, 0]);
 }
 
 /// What was carried fills the late list before the tick's stimuli.
@@ -195,7 +195,7 @@ fn carried_holds_256_units() {
 fn carried_units_and_a_stimulus_pass_the_late_list() {
     let (mut plan, _) = clocks(0);
     let world = plan.gate(28, 0, &[]);
-    assert_eq!(last(&mut plan, &[FIRST, TICK, (0.25, &[(world, Pin::Nothing)])]), [3, 0, 0, 0, 0, 12]);
+    assert_eq!(last(&mut plan, &[FIRST, TICK, (0.25, &[(world, Pin::Nothing)])]), [3, 0, 0, 0, 0, 12, 0]);
 }
 
 /// The answer with this many bytes lent for the log.
@@ -208,18 +208,18 @@ fn with_log(plan: &mut Plan, log: usize) -> (usize, u8, u64) {
     }
 }
 
-/// A World with its two outputs: a record of 10 words, then one of 12.
+/// A World with its two outputs: a record of 11 words, then one of 13.
 #[test]
 fn a_record_that_does_not_fit_the_log_is_not_written() {
     let mut plan = Plan::default();
     plan.gate(28, 0, &[]);
-    assert_eq!(with_log(&mut plan, 8 * 22), (22, 0, 2));
-    assert_eq!(with_log(&mut plan, 8 * 22 - 1), (10, 13, 1));
-    assert_eq!(with_log(&mut plan, 8 * 10), (10, 13, 1));
-    assert_eq!(with_log(&mut plan, 8 * 10 - 1), (0, 13, 0));
+    assert_eq!(with_log(&mut plan, 8 * 24), (24, 0, 2));
+    assert_eq!(with_log(&mut plan, 8 * 24 - 1), (11, 13, 1));
+    assert_eq!(with_log(&mut plan, 8 * 11), (11, 13, 1));
+    assert_eq!(with_log(&mut plan, 8 * 11 - 1), (0, 13, 0));
 }
 
-/// Tick 1 writes 12 words, tick 2 stops with a record of 8.
+/// Tick 1 writes 13 words, tick 2 stops with a record of 9.
 #[test]
 fn a_stopped_ticks_record_is_written_if_it_fits() {
     let mut plan = Plan::default();
@@ -227,6 +227,6 @@ fn a_stopped_ticks_record_is_written_if_it_fits() {
     let ring = plan.gate(2, 0, &[]);
     plan.call(world, 0, ring, 0);
     (0..2).for_each(|_| plan.call(ring, 0, ring, 0));
-    assert_eq!(with_log(&mut plan, 8 * 20), (20, 12, 1));
-    assert_eq!(with_log(&mut plan, 8 * 20 - 1), (12, 13, 1));
+    assert_eq!(with_log(&mut plan, 8 * 22), (22, 12, 1));
+    assert_eq!(with_log(&mut plan, 8 * 22 - 1), (13, 13, 1));
 }

@@ -30,7 +30,7 @@ pub record Contents : Type 0 where
 abbrev pub together : Values → Units → Delays → Contents
 together v u d =
     record {
-      state = record { wires = v .wires; delays = d .delays; outbox = u .outbox };
+      state = record { wires = v .wires; delays = d .delays; outbox = u .outbox; changed = d .changed };
       lists = u .lists;
       calls = u .calls;
       kept = record { begun = u .begun; events = u .events; parts = d .parts; behind-values = v .rest; behind-units = u .rest; behind-delays = d .rest };

@@ -12,35 +12,43 @@ use mir.Facts.{toZ-ofZ}
 use borrow.Author.Tests.{ltb-true, ltb-false}
 use Rattle.model.specs.declared.Value.{Value}
 use Rattle.model.specs.Base.{if_then_else_}
-use Rattle.model.specs.Value.{as-int, as-float, narrow, le64, plus32, le32, minus-one-point-zero}
+use Rattle.model.specs.Value.{as-int, as-float, narrow, narrow-changes, le64, plus32, le32, minus-one-point-zero}
 use Rattle.model.specs.Circuit.{Circuit, kind-of-gate, setting}
 use Rattle.model.specs.State.{Countdown, ticks-left, seconds}
 use Rattle.model.specs.Exec.{countdown}
-use Rattle.model.specs.Delays.{nat, in-ticks, in-seconds, tick-down, due, countdown-ticks, countdown-seconds}
+use Rattle.model.specs.Delays.{nat, Started, in-ticks, in-seconds, tick-down, due, countdown-ticks, countdown-seconds}
 use Rattle.delays.specs.declared.countdown.Countdown.{Countdown as Counting}
 use Rattle.delays.specs.declared.countdown.Countdown.the-variants.{Ticks, Seconds}
-use Rattle.delays.specs.States.{counted, counts-seconds, word-of, of-word, countdown-by}
+use Rattle.delays.specs.declared.countdown.Started.{Started as Starting}
+use Rattle.delays.specs.States.{counted, started, counts-seconds, word-of, of-word, countdown-by}
 
 -- ---- at the start
 
-one-tick : (t : ℤ) → ltZ t (pos 1) ≡ true → ticks-left 1 ≡ in-ticks t
-unfolding in-ticks nat
-one-tick (pos n) h = let e : 1 ≡ max 1 n = omega (arith, ltb-true n 1 h) in ap ticks-left e
+one-tick : (t : ℤ) → ltZ t (pos 1) ≡ true → 1 ≡ max 1 (nat t)
+unfolding nat
+one-tick (pos n) h = omega (arith, ltb-true n 1 h)
 one-tick (negsuc n) h = refl
 
-more-ticks : (t : ℤ) → ltZ t (pos 1) ≡ false → (T (nonNeg t)) × (ticks-left (natAbs t) ≡ in-ticks t)
-unfolding in-ticks nat
-more-ticks (pos n) h = let e : n ≡ max 1 n = omega (arith, ltb-false n 1 h) in (tt, ap ticks-left e)
+more-ticks : (t : ℤ) → ltZ t (pos 1) ≡ false → (T (nonNeg t)) × (natAbs t ≡ max 1 (nat t))
+unfolding nat
+more-ticks (pos n) h = (tt, omega (arith, ltb-false n 1 h))
 more-ticks (negsuc n) h = absurd (subst T h tt)
 
 fits-abs : (t : ℤ) → SFits w64 t → T (nonNeg t) → Fits w64 (natAbs t)
 fits-abs (pos n) f h = let s : n < 2 ^ 63 = f .sfits in record { fits = omega arith }
 fits-abs (negsuc n) f h = absurd h
 
+-- a countdown of n ticks starts
+abbrev ticking : ℕ → Starting
+ticking n = record { left = Ticks n; changed = false }
+
+ticks-start : (t : ℤ) (n : ℕ) → n ≡ max 1 (nat t) → started (ticking n) ≡ in-ticks t
+unfolding started counted in-ticks
+ticks-start t n e = ap (λ (m : ℕ). record { left = ticks-left m; changed = false }) e
+
 -- a wait of t ticks, where t is below 1
-pub ticks-few : (t : ℤ) → SFits w64 t → ltZ (toZ w64 (ofZ w64 t)) (pos 1) ≡ true → counted (Ticks 1) ≡ in-ticks t
-unfolding counted
-ticks-few t f h = one-tick t (rw (toZ-ofZ f) at h)
+pub ticks-few : (t : ℤ) → SFits w64 t → ltZ (toZ w64 (ofZ w64 t)) (pos 1) ≡ true → started (ticking 1) ≡ in-ticks t
+ticks-few t f h = ticks-start t 1 (one-tick t (rw (toZ-ofZ f) at h))
 
 -- and where it is not: a cast loses nothing
 pub ticks-cast : (t : ℤ) → SFits w64 t → ltZ (toZ w64 (ofZ w64 t)) (pos 1) ≡ false
@@ -49,18 +57,17 @@ ticks-cast t f h =
     let n = more-ticks t (rw (toZ-ofZ f) at h) .0 in
     rw (toZ-ofZ f) (n, fits-abs t f n)
 
-pub ticks-more : (t : ℤ) → SFits w64 t → ltZ (toZ w64 (ofZ w64 t)) (pos 1) ≡ false → counted (Ticks (natAbs (toZ w64 (ofZ w64 t)))) ≡ in-ticks t
-unfolding counted
-ticks-more t f h = rw (toZ-ofZ f) (more-ticks t (rw (toZ-ofZ f) at h) .1)
+pub ticks-more : (t : ℤ) → SFits w64 t → ltZ (toZ w64 (ofZ w64 t)) (pos 1) ≡ false → started (ticking (natAbs (toZ w64 (ofZ w64 t)))) ≡ in-ticks t
+ticks-more t f h = ticks-start t _ (rw (toZ-ofZ f) (more-ticks t (rw (toZ-ofZ f) at h) .1))
 
-pub seconds-in : (wait w : ℕ) → w ≡ narrow wait → counted (Seconds w 0) ≡ in-seconds wait
-unfolding counted in-seconds
-seconds-in wait w e = ap (λ (x : ℕ). seconds x 0) e
+pub seconds-in : (wait w : ℕ) (x : Bool) → (w ≡ narrow wait) × (x ≡ narrow-changes wait) → started (record { left = Seconds w 0; changed = x }) ≡ in-seconds wait
+unfolding started counted in-seconds
+seconds-in wait w x e = λ j. record { left = seconds (e .0 j) 0; changed = e .1 j }
 
 -- ---- by a buffer's settings
 
 -- the choice between the zero wait z, if it is to be used, and the wait w
-module _ {A : Type 0} (start : A → Countdown) (rising used : Bool) (z w : A) where
+module _ {A : Type 0} (start : A → Started) (rising used : Bool) (z w : A) where
   choice-rising : rising ≡ true → start w ≡ start (if not rising && used then z else w)
   unfolding if_then_else_
   choice-rising e = rw e
@@ -73,7 +80,7 @@ module _ {A : Type 0} (start : A → Countdown) (rising used : Bool) (z w : A) w
   unfolding if_then_else_
   choice-unused e h = rw (e, h)
 
-module _ (rising : Bool) (wait zero-wait : Value) (k : Countdown) where
+module _ (rising : Bool) (wait zero-wait : Value) (k : Started) where
   pub ticks-rising : (x : ℤ) → SFits w64 x → rising ≡ true → x ≡ as-int (pos 0) wait → k ≡ in-ticks (toZ w64 (ofZ w64 x))
       → k ≡ countdown-ticks rising wait zero-wait
   unfolding countdown-ticks
@@ -123,12 +130,6 @@ module _ (rising : Bool) (wait zero-wait : Value) (k : Countdown) where
 pub of-gate : (c : Circuit) (g : ℕ) (rising : Bool) → countdown c g rising ≡ countdown-by (leb 12 (kind-of-gate c g)) rising (setting c g 1) (setting c g 2)
 unfolding countdown countdown-by
 of-gate c g rising = refl
-
--- the zero wait says nothing about a rising value
-pub rising-only : (s : Bool) (wait y z : Value) → countdown-by s true wait y ≡ countdown-by s true wait z
-unfolding countdown-by countdown-ticks countdown-seconds if_then_else_
-rising-only true wait y z = refl
-rising-only false wait y z = refl
 
 -- ---- a tick
 
@@ -196,7 +197,7 @@ of-ticks s w e = rw e
 
 -- ---- which of the two it is
 
-pub kind-by : (s rising : Bool) (wait zero-wait : Value) → counts-seconds (countdown-by s rising wait zero-wait) ≡ s
+pub kind-by : (s rising : Bool) (wait zero-wait : Value) → counts-seconds (countdown-by s rising wait zero-wait .left) ≡ s
 unfolding counts-seconds countdown-by countdown-ticks countdown-seconds in-ticks in-seconds if_then_else_
 kind-by true rising wait zero-wait = refl
 kind-by false rising wait zero-wait = refl

@@ -7,15 +7,13 @@ use native.Mathlib.Omega.{arith}
 use lib.Dec.{leb}
 use lib.ListN.{length, getD, set}
 use borrow.Author.Tests.{leb-true, leb-false, le-leb, lt-leb, lt-ltb, le-ltb}
-use Rattle.model.specs.declared.Value.{Value}
-use Rattle.model.specs.declared.Value.the-variants.{Nothing}
 use Rattle.model.specs.Base.{if_then_else_, snoc}
 use Rattle.model.specs.State.{Countdown, Delay, idle, fires≔}
 use Rattle.model.specs.Delays.{Moved, moved, tick-down, due, drop-due, advance-fires}
 use Rattle.delays.specs.declared.countdown.Countdown.{Countdown as Counting}
 use Rattle.delays.specs.declared.fires.Fires.{Fires}
-use Rattle.delays.specs.States.{counted, counts-seconds, word-of, of-word, countdown-by, ring, under-way, fires-of, fires, fires-moved, add-fire}
-use Rattle.delays.proofs.Countdowns.{word-kept, kind-word, kind-tick, kind-by}
+use Rattle.delays.specs.States.{counted, counts-seconds, word-of, of-word, ring, under-way, fires-of, fires, fires-moved, add-fire}
+use Rattle.delays.proofs.Countdowns.{word-kept, kind-word, kind-tick}
 use Rattle.delays.proofs.Rings.{under-way-length, under-way-same, under-way-set, under-way-add, under-way-front, under-way-get, ticked-from, ticked-next, ticked-none}
 
 -- ---- counting down
@@ -70,26 +68,23 @@ added s n h w ws k l m e =
     let c : (h % 32 + n) % 32 ≡ (h + n) % 32 = omega arith in
     rw (a, b, c) (under-way-add s n h w ws l m ∙ ap (snoc (under-way s n h ws)) e)
 
-module _ (f : Fires) (wait : Value) where
+module _ (f : Fires) (k : Countdown) where
   pub add-full : 32 ≤ f .count
       → fires-moved (record { seconds = f .seconds; first = f .first; count = f .count; words = f .words; fired = 0 })
-      ≡ moved (add-fire (fires f) (countdown-by (f .seconds) true wait Nothing)) [] 0
+      ≡ moved (add-fire (fires f) k) [] 0
   unfolding fires-moved add-fire fires fires-of fires≔ idle if_then_else_
   add-full l =
       let m : 32 ≤ length (fires-of f) = omega (arith, length-fires f) in
       rw (le-ltb (length (fires-of f)) 32 m)
 
-  pub add-one-more : (k : Counting) (w : ℕ) → length (f .words) ≡ 32 → f .count < 32 → counted k ≡ countdown-by (f .seconds) true wait Nothing
-      → (w ≡ word-of (counted k)) × (of-word (counts-seconds (counted k)) w ≡ counted k)
+  pub add-one-more : (w : ℕ) → length (f .words) ≡ 32 → f .count < 32 → counts-seconds k ≡ f .seconds → (w ≡ word-of k) × (of-word (counts-seconds k) w ≡ k)
       → fires-moved (record { seconds = f .seconds; first = f .first; count = f .count + 1; words = set (f .words) ((f .first % 32 + f .count) % 32) w; fired = 0 })
-      ≡ moved (add-fire (fires f) (countdown-by (f .seconds) true wait Nothing)) [] 0
+      ≡ moved (add-fire (fires f) k) [] 0
   unfolding fires-moved add-fire fires fires-of fires≔ idle if_then_else_
-  add-one-more k w l m e b =
+  add-one-more w l m e b =
       let short : length (fires-of f) < 32 = omega (arith, length-fires f) in
-      let kind : counts-seconds (counted k) ≡ f .seconds = ap counts-seconds e ∙ kind-by (f .seconds) true wait Nothing in
-      let back : of-word (f .seconds) w ≡ countdown-by (f .seconds) true wait Nothing = word-kept (f .seconds) w (counted k) kind (b .1) ∙ e in
       rw (lt-ltb (length (fires-of f)) 32 short)
-      (ap (λ (r : List Countdown). moved (fires≔ idle r) [] 0) (added (f .seconds) (f .count) (f .first) w (f .words) _ l m back))
+      (ap (λ (r : List Countdown). moved (fires≔ idle r) [] 0) (added (f .seconds) (f .count) (f .first) w (f .words) k l m (word-kept (f .seconds) w k e (b .1))))
 
 -- ---- those due leave
 

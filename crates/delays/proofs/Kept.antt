@@ -12,7 +12,7 @@ use Rattle.model.specs.declared.Value.the-variants.{Float}
 use Rattle.model.specs.Base.{if_then_else_}
 use Rattle.model.specs.Value.{bit, plus64, le64, lt64}
 use Rattle.model.specs.State.{Countdown, Flight, Queued, Delay, idle, flight≔, fires≔, elapsed≔}
-use Rattle.model.specs.Delays.{Moved, moved, tick-down, due, buffer-input, relaunch, flown, advance-flight, advance-fires, clock-at, advance-elapsed, stopwatch-at, advance-time, pressed}
+use Rattle.model.specs.Delays.{Started, Moved, moved, tick-down, due, buffer-input, landed, flown, advance-flight, advance-fires, clock-at, advance-elapsed, stopwatch-at, advance-time, pressed}
 use Rattle.delays.specs.declared.buffer.Buffer.{Buffer}
 use Rattle.delays.specs.declared.fires.Fires.{Fires}
 use Rattle.delays.specs.declared.clock.Clock.{Clock}
@@ -41,7 +41,7 @@ with-flight d e = flight≔ d (e .flight) (e .later)
 
 -- the same of what moved on
 unfoldable pub moved-flight : Delay → Moved → Moved
-moved-flight d m = moved (with-flight d (m .state)) (m .row) (m .fires)
+moved-flight d m = record { state = with-flight d (m .state); row = m .row; fires = m .fires; changed = m .changed }
 
 pub input-kept : (d : Delay) (v : Value) (k : Countdown) → buffer-input d v k ≡ with-flight d (buffer-input (only-flight d) v k)
 unfolding only-flight with-flight buffer-input flight≔ idle
@@ -52,24 +52,24 @@ input-kept d v k = by-parts (λ e. buffer-input e v k ≡ with-flight e (buffer-
     go none l ks t r qs = refl
     go (some x) l ks t r qs = refl
 
-relaunch-kept : (start : Value → Countdown) (d : Delay) → relaunch start d ≡ with-flight d (relaunch start (only-flight d))
-unfolding only-flight with-flight relaunch flight≔ idle
-relaunch-kept start = by-parts (λ e. relaunch start e ≡ with-flight e (relaunch start (only-flight e))) go
+landed-kept : (start : Value → Started) (v : Value) (d : Delay) → landed start d v ≡ moved-flight d (landed start (only-flight d) v)
+unfolding only-flight with-flight moved-flight landed moved flight≔ idle
+landed-kept start v = by-parts (λ e. landed start e v ≡ moved-flight e (landed start (only-flight e) v)) go
   where
     go : (f : Option Flight) (l : Option Value) (ks : List Countdown) (t : ℕ) (r : Bool) (qs : List Queued)
-        → relaunch start (made f l ks t r qs) ≡ with-flight (made f l ks t r qs) (relaunch start (only-flight (made f l ks t r qs)))
+        → landed start (made f l ks t r qs) v ≡ moved-flight (made f l ks t r qs) (landed start (only-flight (made f l ks t r qs)) v)
     go f none ks t r qs = refl
-    go f (some v) ks t r qs = refl
+    go f (some u) ks t r qs = refl
 
-flown-kept : (start : Value → Countdown) (d : Delay) (v : Value) (k : Countdown) → flown start d v k ≡ moved-flight d (flown start (only-flight d) v k)
+flown-kept : (start : Value → Started) (d : Delay) (v : Value) (k : Countdown) → flown start d v k ≡ moved-flight d (flown start (only-flight d) v k)
 unfolding only-flight with-flight moved-flight flown moved flight≔ idle if_then_else_
 flown-kept start d v k = go (due k) refl
   where
     go : (b : Bool) → due k ≡ b → flown start d v k ≡ moved-flight d (flown start (only-flight d) v k)
-    go true e = rw e (ap (λ (x : Delay). moved x (v ∷ []) 0) (relaunch-kept start d))
+    go true e = rw e (landed-kept start v d)
     go false e = rw e
 
-pub flight-kept : (start : Value → Countdown) (dt : ℕ) (d : Delay) → advance-flight start dt d ≡ moved-flight d (advance-flight start dt (only-flight d))
+pub flight-kept : (start : Value → Started) (dt : ℕ) (d : Delay) → advance-flight start dt d ≡ moved-flight d (advance-flight start dt (only-flight d))
 unfolding advance-flight only-flight moved-flight with-flight flight≔ idle moved
 flight-kept start dt = by-parts (λ e. advance-flight start dt e ≡ moved-flight e (advance-flight start dt (only-flight e))) go
   where
@@ -84,8 +84,8 @@ module _ (d : Delay) (b r : Buffer) (e : flight-of (b .flight) ≡ d .flight) (f
   unfolding buffer only-flight
   buffer-only = λ j. flight≔ idle (e j) (f j)
 
-  pub buffer-stored : (start : Value → Countdown) (dt : ℕ) → buffer-moved r ≡ advance-flight start dt (buffer b)
-      → moved (flight≔ d (flight-of (r .flight)) (later-of (r .later))) (row-of (r .landed)) 0 ≡ advance-flight start dt d
+  pub buffer-stored : (start : Value → Started) (dt : ℕ) → buffer-moved r ≡ advance-flight start dt (buffer b)
+      → record { state = flight≔ d (flight-of (r .flight)) (later-of (r .later)); row = row-of (r .landed); fires = 0; changed = r .changed } ≡ advance-flight start dt d
   unfolding moved-flight with-flight buffer-moved buffer flight≔ moved
   buffer-stored start dt h = ap (moved-flight d) (h ∙ ap (advance-flight start dt) buffer-only) ∙ sym (flight-kept start dt d)
 

@@ -10,7 +10,7 @@ use Rattle.model.specs.declared.Value.the-variants.{Float}
 use Rattle.model.specs.Base.{if_then_else_, snoc}
 use Rattle.model.specs.Value.{truthy, bit}
 use Rattle.model.specs.State.{Countdown, ticks-left, seconds, Flight as Flying, Delay, idle, flight≔, fires≔, elapsed≔}
-use Rattle.model.specs.Delays.{countdown-ticks, countdown-seconds, launch, Moved, moved}
+use Rattle.model.specs.Delays.{Started, countdown-ticks, countdown-seconds, launch, Moved, moved}
 use Rattle.model.specs.Exec.{most-fires}
 use Rattle.delays.specs.declared.buffer.Buffer.{Buffer}
 use Rattle.delays.specs.declared.buffer.Flight.{Flight}
@@ -22,6 +22,7 @@ use Rattle.delays.specs.declared.clock.Clock.{Clock}
 use Rattle.delays.specs.declared.stopwatch.Stopwatch.{Stopwatch}
 use Rattle.delays.specs.declared.countdown.Countdown.{Countdown as Counting}
 use Rattle.delays.specs.declared.countdown.Countdown.the-variants.{Ticks, Seconds}
+use Rattle.delays.specs.declared.countdown.Started.{Started as Starting}
 
 -- ---- a countdown
 
@@ -29,6 +30,10 @@ use Rattle.delays.specs.declared.countdown.Countdown.the-variants.{Ticks
 unfoldable pub counted : Counting → Countdown
 counted (Ticks n) = ticks-left n
 counted (Seconds wait elapsed) = seconds wait elapsed
+
+-- the definition's countdown that starts
+unfoldable pub started : Starting → Started
+started s = record { left = counted (s .left); changed = s .changed }
 
 -- whether it counts seconds, and not ticks
 unfoldable pub counts-seconds : Countdown → Bool
@@ -46,13 +51,13 @@ of-word true w = seconds (w % 2 ^ 32) (w / 2 ^ 32)
 of-word false w = ticks-left w
 
 -- the countdown that a buffer starts, in seconds or in ticks, by its settings wait and zero wait
-unfoldable pub countdown-by : Bool → Bool → Value → Value → Countdown
+unfoldable pub countdown-by : Bool → Bool → Value → Value → Started
 countdown-by by-seconds rising wait zero-wait = if by-seconds then countdown-seconds rising wait zero-wait else countdown-ticks rising wait zero-wait
 
 -- ---- a value buffer
 
 -- the countdown that an input starts
-unfoldable pub starts : Bool → Value → Value → Value → Countdown
+unfoldable pub starts : Bool → Value → Value → Value → Started
 starts by-seconds wait zero-wait v = countdown-by by-seconds (truthy v) wait zero-wait
 
 -- what is in flight
@@ -74,9 +79,9 @@ row-of (Some v) = v ∷ []
 unfoldable pub buffer : Buffer → Delay
 buffer b = flight≔ idle (flight-of (b .flight)) (later-of (b .later))
 
--- what a value buffer moved on to, with what landed
+-- what a value buffer moved on to, with what landed and whether narrowing changed a wait
 unfoldable pub buffer-moved : Buffer → Moved
-buffer-moved b = moved (buffer b) (row-of (b .landed)) 0
+buffer-moved b = record { state = buffer b; row = row-of (b .landed); fires = 0; changed = b .changed }
 
 -- ---- a buffer in exec mode
 
@@ -127,5 +132,5 @@ stopwatch-moved s = moved (stopwatch s) (if s .shows then Float (s .time) ∷ []
 
 -- What a proof by computation opens.
 unfoldable pub states-opened : ℕ
-unfolding counted counts-seconds word-of of-word countdown-by starts flight-of later-of row-of buffer buffer-moved ring under-way fires-of fires fires-moved add-fire clock clock-moved stopwatch stopwatch-moved
+unfolding counted started counts-seconds word-of of-word countdown-by starts flight-of later-of row-of buffer buffer-moved ring under-way fires-of fires fires-moved add-fire clock clock-moved stopwatch stopwatch-moved
 states-opened = 0

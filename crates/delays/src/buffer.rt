@@ -1,7 +1,7 @@
 // A value buffer: each input lands later, and while one is in flight only the last later input is remembered.
 ghost use mathlib.Core.Path.{_≡_};
-ghost use mathlib.Core.List.{[], _∷_};
-ghost use Rattle.model.specs.Delays.{moved, buffer-input, relaunch, advance-flight};
+ghost use mathlib.Core.List.{[]};
+ghost use Rattle.model.specs.Delays.{moved, buffer-input, landed, advance-flight};
 ghost use Rattle.delays.specs.States.{counted, buffer, buffer-moved, starts};
 use crate::countdown::Countdown;
 use crate::countdown::buffer_countdown;
@@ -20,11 +20,12 @@ pub enum Optional {
     Some(Value),
 }
 
-// The value in flight, the last later input, and what landed as the buffer last moved on.
+// The value in flight, the last later input, and, as the buffer last moved on, what landed and whether narrowing changed the wait of the input that started then.
 pub struct Buffer {
     pub flight: Flight,
     pub later: Optional,
     pub landed: Optional,
+    pub changed: bool,
 }
 
 impl Buffer {
@@ -40,6 +41,7 @@ impl Buffer {
                     flight: Flight::Of(v, k),
                     later: later,
                     landed: Optional::None,
+                    changed: false,
                 };
                 self
             }
@@ -48,15 +50,16 @@ impl Buffer {
                     flight: flight,
                     later: Optional::Some(v),
                     landed: Optional::None,
+                    changed: false,
                 };
                 self
             }
         }
     }
 
-    // v has landed. The remembered input starts a countdown of its own, worked out only now.
-    fn relaunch(mut self, v: Value, seconds: bool, wait: Value, zero_wait: Value) -> Self
-        ensures { λ r. ⌜ buffer-moved r ≡ moved (relaunch (starts seconds wait «zero_wait») (buffer self)) (v ∷ []) 0 ⌝ }
+    // v lands. The remembered input starts a countdown of its own, worked out only now.
+    fn land(mut self, v: Value, seconds: bool, wait: Value, zero_wait: Value) -> Self
+        ensures { λ r. ⌜ buffer-moved r ≡ landed (starts seconds wait «zero_wait») (buffer self) v ⌝ }
     {
         let later = self.later;
         match later {
@@ -65,15 +68,18 @@ impl Buffer {
                     flight: Flight::Empty,
                     later: Optional::None,
                     landed: Optional::Some(v),
+                    changed: false,
                 };
                 self
             }
             Optional::Some(u) => {
                 let k = buffer_countdown(seconds, truthy(u), wait, zero_wait);
+                let left = k.left;
                 self = Buffer {
-                    flight: Flight::Of(u, k),
+                    flight: Flight::Of(u, left),
                     later: Optional::None,
                     landed: Optional::Some(v),
+                    changed: k.changed,
                 };
                 self
             }
@@ -92,18 +98,20 @@ impl Buffer {
                     flight: flight,
                     later: later,
                     landed: Optional::None,
+                    changed: false,
                 };
                 self
             }
             Flight::Of(v, k) => {
                 let left = k.tick_down(dt);
                 if left.due() {
-                    return self.relaunch(v, seconds, wait, zero_wait);
+                    return self.land(v, seconds, wait, zero_wait);
                 }
                 self = Buffer {
                     flight: Flight::Of(v, left),
                     later: later,
                     landed: Optional::None,
+                    changed: false,
                 };
                 self
             }

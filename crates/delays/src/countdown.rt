@@ -1,7 +1,7 @@
 // Countdowns: how long until a value lands, a fire fires or a record is handed out.
 ghost use mathlib.Core.Path.{_≡_};
 ghost use Rattle.model.specs.Delays.{in-ticks, in-seconds, tick-down, due, countdown-ticks, countdown-seconds};
-ghost use Rattle.delays.specs.States.{counted, word-of, of-word, counts-seconds, countdown-by};
+ghost use Rattle.delays.specs.States.{counted, started, word-of, of-word, counts-seconds, countdown-by};
 use floats::le32;
 use floats::le64;
 use floats::narrowing::narrow;
@@ -19,27 +19,43 @@ pub enum Countdown {
     Seconds(u32, u32),
 }
 
+// A countdown that starts, and whether narrowing changed its wait.
+pub struct Started {
+    pub left: Countdown,
+    pub changed: bool,
+}
+
 // A wait of t ticks, at least 1.
-pub fn in_ticks(t: i64) -> Countdown
-    ensures { λ r. ⌜ counted r ≡ in-ticks t ⌝ }
+pub fn in_ticks(t: i64) -> Started
+    ensures { λ r. ⌜ started r ≡ in-ticks t ⌝ }
 {
     if t < 1 {
-        Countdown::Ticks(1)
+        Started {
+            left: Countdown::Ticks(1),
+            changed: false,
+        }
     } else {
-        Countdown::Ticks(t as u64)
+        Started {
+            left: Countdown::Ticks(t as u64),
+            changed: false,
+        }
     }
 }
 
 // A wait of seconds, given as f64 bits and narrowed to f32.
-pub fn in_seconds(wait: u64) -> Countdown
-    ensures { λ r. ⌜ counted r ≡ in-seconds wait ⌝ }
+pub fn in_seconds(wait: u64) -> Started
+    ensures { λ r. ⌜ started r ≡ in-seconds wait ⌝ }
 {
-    Countdown::Seconds(narrow(wait), 0)
+    let w = narrow(wait);
+    Started {
+        left: Countdown::Seconds(w.bits, 0),
+        changed: w.changed,
+    }
 }
 
 // A buffer's countdown in ticks: the zero wait for a value that is not true (not rising), unless it is negative.
-fn countdown_ticks(rising: bool, wait: Value, zero_wait: Value) -> Countdown
-    ensures { λ r. ⌜ counted r ≡ countdown-ticks rising wait «zero_wait» ⌝ }
+fn countdown_ticks(rising: bool, wait: Value, zero_wait: Value) -> Started
+    ensures { λ r. ⌜ started r ≡ countdown-ticks rising wait «zero_wait» ⌝ }
 {
     if rising {
         return in_ticks(as_int(wait, 0));
@@ -53,8 +69,8 @@ fn countdown_ticks(rising: bool, wait: Value, zero_wait: Value) -> Countdown
 }
 
 // The same in seconds.
-fn countdown_seconds(rising: bool, wait: Value, zero_wait: Value) -> Countdown
-    ensures { λ r. ⌜ counted r ≡ countdown-seconds rising wait «zero_wait» ⌝ }
+fn countdown_seconds(rising: bool, wait: Value, zero_wait: Value) -> Started
+    ensures { λ r. ⌜ started r ≡ countdown-seconds rising wait «zero_wait» ⌝ }
 {
     if rising {
         return in_seconds(as_float(wait, 0));
@@ -68,8 +84,8 @@ fn countdown_seconds(rising: bool, wait: Value, zero_wait: Value) -> Countdown
 }
 
 // The countdown that a buffer starts, by its settings wait and zero wait.
-pub fn buffer_countdown(seconds: bool, rising: bool, wait: Value, zero_wait: Value) -> Countdown
-    ensures { λ r. ⌜ counted r ≡ countdown-by seconds rising wait «zero_wait» ⌝ }
+pub fn buffer_countdown(seconds: bool, rising: bool, wait: Value, zero_wait: Value) -> Started
+    ensures { λ r. ⌜ started r ≡ countdown-by seconds rising wait «zero_wait» ⌝ }
 {
     if seconds {
         countdown_seconds(rising, wait, zero_wait)

@@ -1,6 +1,5 @@
 // A buffer in exec mode: the fires under way, at most 32, each with a countdown.
 ghost use mathlib.Core.Path.{_≡_};
-ghost use mathlib.Core.Bool.{true};
 ghost use mathlib.Core.List.{[], map};
 ghost use Prim.Native.Nat.{_≤_, _<_, min};
 ghost use lib.Dec.{leb};
@@ -8,11 +7,9 @@ ghost use lib.ListN.{length};
 ghost use Rattle.model.specs.Delays.{moved, tick-down, drop-due, advance-fires};
 ghost use Rattle.model.specs.Exec.{most-fires};
 ghost use Rattle.model.specs.State.{idle};
-ghost use Rattle.model.specs.declared.Value.the-variants.{Nothing};
-ghost use Rattle.delays.specs.States.{countdown-by, under-way, fires-of, fires, fires-moved, add-fire};
-use crate::countdown::buffer_countdown;
+ghost use Rattle.delays.specs.States.{counted, counts-seconds, under-way, fires-of, fires, fires-moved, add-fire};
+use crate::countdown::Countdown;
 use crate::countdown::of_word;
-use model::Value;
 
 // The most fires that can be under way.
 pub const MOST_FIRES: usize = 32;
@@ -62,15 +59,16 @@ impl Fires {
         MOST_FIRES <= self.count
     }
 
-    // One fire more, with the countdown for a rising value: the zero wait is never used. When it is full none is added.
-    pub fn add(mut self, wait: Value) -> Self
-        ensures { λ r. ⌜ (r .seconds ≡ self .seconds) × (fires-moved r ≡ moved (add-fire (fires self) (countdown-by (self .seconds) true wait Nothing)) [] 0) ⌝ }
+    // One fire more, with this countdown. When it is full none is added.
+    pub fn add(mut self, k: Countdown) -> Self
+        requires { ⌜ counts-seconds (counted k) ≡ self .seconds ⌝ }
+        ensures { λ r. ⌜ (r .seconds ≡ self .seconds) × (fires-moved r ≡ moved (add-fire (fires self) (counted k)) [] 0) ⌝ }
     {
         self.fired = 0;
         let count = self.count;
         if count < MOST_FIRES {
             let at = (self.first % MOST_FIRES + count) % MOST_FIRES;
-            self.words[at] = buffer_countdown(self.seconds, true, wait, Value::Nothing).word();
+            self.words[at] = k.word();
             self.count = count + 1;
         }
         self

@@ -9,7 +9,7 @@ use lib.Dec.{T, leb→le, nleb→lt, lit≤, lit<}
 use lib.Pow.{pow-pos, pow-mono}
 use lib.Ieee.{Float, binary32, binary64, ofBits, ofFields, toBits, units}
 use lib.Ieee.Nearest.{closest}
-use Rattle.floats.specs.Narrowing.{Narrowed}
+use Rattle.floats.specs.Narrowing.{Narrows-to}
 use Rattle.floats.proofs.Bits.{unit-is, negative, exponent, digits, nan-above, fields-zero, fields-number, digits-lt}
 use Rattle.floats.proofs.Rounding.{nearest-below, nearest-tie, nearest-above, closest-most, closest-least, closest-none, units-over, units-normal, narrow-low, narrow-high}
 use Rattle.model.specs.Value.{nearest32, narrow}
@@ -43,7 +43,7 @@ digits-ge t = omega arith
 pub result-le : (t r h : ℕ) → t < 4503599627370496 → 29 ≤ h → r ≡ closest (4503599627370496 + t) (2 ^ h) → r ≤ 16777216
 result-le t r h d g e = subst (λ (z : ℕ). z ≤ 16777216) (sym e) (closest-most (4503599627370496 + t) h (digits-lt t d) g)
 
-pub subnormal : (x t r : ℕ) → t < 4503599627370496 → 0 < x → x < 897 → r ≡ closest (4503599627370496 + t) (2 ^ (926 - x)) → Narrowed x t r
+pub subnormal : (x t r : ℕ) → t < 4503599627370496 → 0 < x → x < 897 → r ≡ closest (4503599627370496 + t) (2 ^ (926 - x)) → Narrows-to x t r
 subnormal zero t r d p l e s = absurd (omega arith)
 subnormal (suc x) t r d p l e s =
     ap (λ (z : ℕ). cond s 2147483648 0 + z) e
@@ -51,7 +51,7 @@ subnormal (suc x) t r d p l e s =
     ∙ sym (ap (λ (v : Float). toBits binary32 (nearest32 v)) (fields-number s x t (omega arith)))
 
 -- Below 2^-150, which is half of the smallest f32, all is rounded to 0.
-pub too-small : (x t : ℕ) → t < 4503599627370496 → x < 873 → Narrowed x t 0
+pub too-small : (x t : ℕ) → t < 4503599627370496 → x < 873 → Narrows-to x t 0
 too-small zero t d l s =
     ap (λ (z : ℕ). cond s 2147483648 0 + z) (sym (closest-none t 925 (lt-of-lt-of-le (twice t d) (lit≤ tt))))
     ∙ narrow-low s t 0 925 (wide t d) (lit< tt) refl
@@ -79,7 +79,7 @@ normal-units s zero t d a b = absurd (omega arith)
 normal-units s (suc x) t d a b =
     ap nearest32 (fields-number s x t b) ∙ narrow-high s (4503599627370496 + t) x (suc x - 897) (digits-ge t) (digits-lt t d) (omega arith)
 
-pub normal : (x t r : ℕ) → t < 4503599627370496 → 897 ≤ x → x < 1151 → r ≡ closest (4503599627370496 + t) (2 ^ 29) → Narrowed x t ((x - 897) * 8388608 + r)
+pub normal : (x t r : ℕ) → t < 4503599627370496 → 897 ≤ x → x < 1151 → r ≡ closest (4503599627370496 + t) (2 ^ 29) → Narrows-to x t ((x - 897) * 8388608 + r)
 normal x t r d a b e s =
     let q = 4503599627370496 + t in
     ap (λ (z : ℕ). cond s 2147483648 0 + ((x - 897) * 8388608 + z)) e
@@ -90,7 +90,7 @@ unfolding ofFields nearest32 toBits
 infinity s = refl
 
 -- From 2^128 on, infinities among them.
-pub too-large : (x t : ℕ) → t < 4503599627370496 → 1151 ≤ x → x ≤ 2047 → (x ≡ 2047 → t ≡ 0) → Narrowed x t 2139095040
+pub too-large : (x t : ℕ) → t < 4503599627370496 → 1151 ≤ x → x ≤ 2047 → (x ≡ 2047 → t ≡ 0) → Narrows-to x t 2139095040
 too-large x t d a b n s = go (eq-or-lt-of-le b)
   where
     go : (x ≡ 2047) ⊎ (x < 2047) → cond s 2147483648 0 + 2139095040 ≡ toBits binary32 (nearest32 (ofFields binary64 s x t))
@@ -122,6 +122,6 @@ narrow-nan b h = sym (ap (λ (v : Float). toBits binary32 (nearest32 v)) (nan-ab
 
 -- all that is not a NaN
 pub narrow-rest : (b s r : ℕ) → s ≡ cond (negative b) 2147483648 0
-    → Narrowed (exponent b) (digits b) r → s + r ≡ narrow b
+    → Narrows-to (exponent b) (digits b) r → s + r ≡ narrow b
 unfolding narrow ofBits
 narrow-rest b s r e m = ap (λ (z : ℕ). z + r) e ∙ m (negative b)

@@ -1,6 +1,6 @@
 // The leaves as C functions, for the comparison with the hardware.
 ghost use mathlib.Core.Path.{_≡_};
-ghost use Rattle.model.specs.Value.{plus64, le64, lt64, eq64, plus32, le32, narrow, of-int, to-int};
+ghost use Rattle.model.specs.Value.{plus64, le64, lt64, eq64, plus32, le32, narrow, narrow-changes, of-int, to-int};
 ghost use Rattle.model.specs.Questions.{finite};
 use floats::eq64;
 use floats::is_finite;
@@ -18,7 +18,15 @@ use floats::to_int;
 pub extern "C" fn hazhirun_narrow(bits: u64) -> u32
     ensures { λ r. ⌜ r ≡ narrow bits ⌝ }
 {
-    narrow(bits)
+    narrow(bits).bits
+}
+
+// Whether it is another number.
+#[no_mangle]
+pub extern "C" fn hazhirun_narrow_changes(bits: u64) -> bool
+    ensures { λ r. ⌜ r ≡ narrow-changes bits ⌝ }
+{
+    narrow(bits).changed
 }
 
 // Whether an f64 is neither an infinity nor a NaN.

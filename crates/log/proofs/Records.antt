@@ -58,7 +58,7 @@ unfolding head record-of head-row
 head-is h begun carried outs n k e f =
     let a : length (take (h .late) begun) ≡ n - (n - h .late) = omega (arith, length-take (h .late) begun, e) in
     let b : length (drop (h .late) begun) ≡ n - h .late = omega (arith, length-drop (h .late) begun, e) in
-    λ j. h .tick ∷ h .steps ∷ a j ∷ b j ∷ sym f j ∷ h .stop ∷ []
+    λ j. h .tick ∷ h .steps ∷ a j ∷ b j ∷ sym f j ∷ h .stop ∷ h .changed ∷ []
 
 -- the outputs, of which a stopped tick shows none
 outs-shown :

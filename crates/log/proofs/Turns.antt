@@ -19,19 +19,20 @@ use Rattle.log.proofs.Held.{outs-in-length, outs-at, entries-length, en
 -- ---- the head
 
 pub head-filled :
-    (h : Head) (n k m : ℕ) {s₀ s₁ s₂ s₃ s₄ s₅ s₆ : List ℕ} {p : ℕ} → m ≡ n - h .late →
+    (h : Head) (n k m : ℕ) {s₀ s₁ s₂ s₃ s₄ s₅ s₆ s₇ : List ℕ} {p : ℕ} → m ≡ n - h .late →
     Stored s₀ s₁ p (h .tick) → Stored s₁ s₂ (p + 1) (h .steps) → Stored s₂ s₃ (p + 2) (n - m) → Stored s₃ s₄ (p + 3) m →
-    Stored s₄ s₅ (p + 4) k → Stored s₅ s₆ (p + 5) (h .stop) → Filled s₀ s₆ p (head-row h n k)
+    Stored s₄ s₅ (p + 4) k → Stored s₅ s₆ (p + 5) (h .stop) → Stored s₆ s₇ (p + 6) (h .changed) → Filled s₀ s₇ p (head-row h n k)
 unfolding head-row
-head-filled h n k m {s₀ = s₀} {s₆ = s₆} {p = p} q a b c d e f =
+head-filled h n k m {s₀ = s₀} {s₇ = s₇} {p = p} q a b c d e f g =
     let k₁ : p + 1 ≡ suc p = omega arith in
     let k₂ : p + 2 ≡ suc (suc p) = omega arith in
     let k₃ : p + 3 ≡ suc (suc (suc p)) = omega arith in
     let k₄ : p + 4 ≡ suc (suc (suc (suc p))) = omega arith in
     let k₅ : p + 5 ≡ suc (suc (suc (suc (suc p)))) = omega arith in
+    let k₆ : p + 6 ≡ suc (suc (suc (suc (suc (suc p))))) = omega arith in
     record {
-      words = rw (f .words, e .words, d .words, c .words, b .words, a .words, k₁, k₂, k₃, k₄, k₅, q);
-      tail = f .tail ∙ e .tail ∙ d .tail ∙ c .tail ∙ b .tail ∙ a .tail;
+      words = rw (g .words, f .words, e .words, d .words, c .words, b .words, a .words, k₁, k₂, k₃, k₄, k₅, k₆, q);
+      tail = g .tail ∙ f .tail ∙ e .tail ∙ d .tail ∙ c .tail ∙ b .tail ∙ a .tail;
     }
 
 -- ---- a loop over n entries in the area us, from word k on

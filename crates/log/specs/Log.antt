@@ -23,6 +23,7 @@ record-of h begun carried outs =
       main = drop (h .late) begun;
       carried = carried;
       stop = h .stop;
+      changed = h .changed;
       outs = if eqb (h .stop) 0 then outs else [];
     }
 

@@ -21,7 +21,7 @@ pub record Filled (before after : List ℕ) (p : ℕ) (xs : List ℕ) : Type 0 w
 
 -- the head, where n units have begun, the late ones of them at most n, and k are carried
 unfoldable pub head-row : Head → ℕ → ℕ → List ℕ
-head-row h n k = h .tick ∷ h .steps ∷ (n - (n - h .late)) ∷ (n - h .late) ∷ k ∷ h .stop ∷ []
+head-row h n k = h .tick ∷ h .steps ∷ (n - (n - h .late)) ∷ (n - h .late) ∷ k ∷ h .stop ∷ h .changed ∷ []
 
 -- where the entries of the units begun and of those carried stand in the area `units`: behind their counts
 abbrev pub begun-first : ℕ

@@ -31,12 +31,14 @@ use words::counting::less;
 use words::get;
 use words::put;
 
-// What a record says of its tick beside its units and outputs: its number, its steps, how many of its units began in the late pass, and its stop, or 0.
+// What a record says of its tick beside its units and outputs: its number, its steps, how many of its units began in the late pass, its stop, or 0, and how many of
+// its narrowings changed their number.
 pub struct Head {
     pub tick: u64,
     pub steps: u64,
     pub late: usize,
     pub stop: u64,
+    pub changed: u64,
 }
 
 // How many words a record has that was written, or that it does not fit: then no part of it is written.
@@ -46,7 +48,7 @@ pub enum Written {
 }
 
 // How many words a head has.
-pub const HEAD: usize = 6;
+pub const HEAD: usize = 7;
 
 // Where the entries of the units begun and of those carried begin in the area `units`, in words: behind their counts.
 const BEGUN: usize = BEGUN_COUNT + 1;
@@ -65,6 +67,7 @@ fn write_head(log: &mut [u8], p: usize, head: Head, n: usize, k: usize)
     put(log, p + 3, main as u64);
     put(log, p + 4, k as u64);
     put(log, p + 5, head.stop);
+    put(log, p + 6, head.changed);
 }
 
 // The gates of the n units whose entries stand from word `first` on become the words of the log from word p on.

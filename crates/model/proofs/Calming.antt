@@ -29,7 +29,7 @@ use Rattle.model.proofs.Reals.{Real, truth-real}
 use Rattle.model.proofs.Wired.{Wired}
 use Rattle.model.proofs.Right.{Except, taking, all-fresh, Other, All-right, alike-but, alike, to-mark, mark-readers-right}
 use Rattle.model.proofs.Fine.{Fine, Alike, alike-itself, alike-again, marked-alike, set-out-fine, refresh-all-fine, refreshed-clean, clean-fine, read-fine, read-real}
-use Rattle.model.proofs.Sound.{buffer-fine, Sound, Brings, brings-none, other-output, wires-sound, delay-sound, delay-of}
+use Rattle.model.proofs.Sound.{buffer-fine, Sound, Brings, brings-none, other-output, wires-sound, delay-sound, count-sound, delay-of}
 use Rattle.model.proofs.Stepping.{Going}
 
 pub set-pulses :
@@ -141,7 +141,7 @@ module _ (c : Circuit) (W : Wired c) where
         λ _. if-by Settled-sound (eqb k 8)
         (λ e. pulsed-sound _ (other-output c (W .laid) g 8 0 (eqb-true k 8 e) refl (omega arith)) z)
         λ _. if-both Settled-sound _ (edge-sound was now _ z (raise-sound g _ z) (raise-sound g _ z))
-        (if-both Settled-sound _ (calm-sound (delay-sound c g _ (buffer-fine _ now _ r (delay-of c s z g)) z))
+        (if-both Settled-sound _ (calm-sound (count-sound c _ (delay-sound c g _ (buffer-fine _ now _ r (delay-of c s z g)) z)))
         (if-both Settled-sound _ (raise-sound g _ z) (calm-sound z))))
 
     -- of an input that was taken

@@ -10,7 +10,7 @@ use Rattle.model.specs.declared.Value.{Value}
 use Rattle.model.specs.Kinds.{kind-at, pure, kinds-opened}
 use Rattle.model.specs.Circuit.{Circuit, kind-of-gate, output}
 use Rattle.model.specs.State.{State, Delay, wires≔}
-use Rattle.model.specs.Exec.{delay≔}
+use Rattle.model.specs.Exec.{count-changed, delay≔}
 use Rattle.model.specs.Settle.{Settled, calm, raise, pulse, edge, detect}
 use Rattle.model.proofs.Lists.{if-both, if-by, both-true}
 
@@ -44,7 +44,7 @@ outs-8 = refl
 
 module _ (c : Circuit) (P : Settled → Type 0) (s : State) (g : ℕ) (calmed : P (calm s)) (raised : (form : ℕ) → P (raise s g form))
     (pulsed : (o k : ℕ) → kind-of-gate c g ≡ k → pulses-up k ≡ true → o < length (kind-at k .outs) → P (calm (wires≔ s (pulse c (s .wires) (output c g o)))))
-    (delayed : (d : Delay) → P (calm (delay≔ c s g d))) where
+    (delayed : (d : Delay) (changed : Bool) → P (calm (count-changed (delay≔ c s g d) changed))) where
   edge-keeps : (was now : Value) (hit : State → ℕ → Settled) → P (hit s 0) → P (hit s 1) → P (edge c s was now hit)
   unfolding edge
   edge-keeps was now hit a b = if-both P _ a (if-both P _ b calmed)
@@ -58,4 +58,4 @@ module _ (c : Circuit) (P : Settled → Type 0) (s : State) (g : ℕ) (calmed : 
       edge-keeps was now _ (pulsed 0 7 k refl (omega (arith, outs-7))) (pulsed 1 7 k refl (omega (arith, outs-7))))
       λ _. if-by P (eqb (kind-of-gate c g) 8)
       (λ e. pulsed 0 8 (eqb-true (kind-of-gate c g) 8 e) refl (omega (arith, outs-8)))
-      λ _. if-both P _ (edge-keeps was now _ (raised _) (raised _)) (if-both P _ (delayed _) (if-both P _ (raised _) calmed)))
+      λ _. if-both P _ (edge-keeps was now _ (raised _) (raised _)) (if-both P _ (delayed _ _) (if-both P _ (raised _) calmed)))

@@ -18,9 +18,10 @@ use Rattle.model.specs.Base.{snoc, among, from}
 use Rattle.model.specs.Kinds.{pure, time-source}
 use Rattle.model.specs.Circuit.{Circuit, most-gates, kind-of-gate, gate-at-input, watching, gates, gates-of}
 use Rattle.model.specs.Script.{Given}
-use Rattle.model.specs.State.{Wires, State, Countdown, Delay, Act, Send, times≔, last≔, pulses≔, written≔, unions-passed≔, wires≔, delays≔, outbox≔}
+use Rattle.model.specs.State.{Wires, State, Delay, Act, Send, times≔, last≔, pulses≔, written≔, unions-passed≔, wires≔, delays≔, outbox≔, changed≔}
 use Rattle.model.specs.Wires.{is-dirty, watch, ready, mark-readers, invalidate}
-use Rattle.model.specs.Exec.{Stepped, fires-next, ends, delay≔, set-output, readied, var, record-write, exec-Buffer, exec-Stopwatch, exec-Queue, exec-VarGet, exec-VarSet, exec-Branch, exec-Union, exec-Toggle, exec-Cycle, exec-SendEvent, exec-kind, exec-gate}
+use Rattle.model.specs.Delays.{Started}
+use Rattle.model.specs.Exec.{Stepped, fires-next, ends, count-changed, delay≔, set-output, readied, var, record-write, exec-Buffer, exec-Stopwatch, exec-Queue, exec-VarGet, exec-VarSet, exec-Branch, exec-Union, exec-Toggle, exec-Cycle, exec-SendEvent, exec-kind, exec-gate}
 use Rattle.model.specs.Chain.{Calls, run-chain}
 use Rattle.model.specs.Settle.{Settled, calm, raise, publish-writes, pulse, compared, check, check-on, settle}
 use Rattle.model.specs.Opening.{wires-stale, wires-fresh, wires-at-start, start, Opened, next-tick, begin-tick, lower, before-settling, open-tick}
@@ -48,6 +49,14 @@ module _ (c : Circuit) where
   delay-sized : {s : State} (g : ℕ) (d : Delay) → Sized c s → Sized c (delay≔ c s g d)
   unfolding delay≔ delays≔
   delay-sized {s} g d z = record { wires = z .wires; delays = length-set (s .delays) g d ∙ z .delays; outbox = z .outbox }
+
+  changed-sized : {s : State} (n : ℕ) → Sized c s → Sized c (changed≔ s n)
+  unfolding changed≔
+  changed-sized n z = record { wires = z .wires; delays = z .delays; outbox = z .outbox }
+
+  count-sized : {s : State} (b : Bool) → Sized c s → Sized c (count-changed s b)
+  unfolding count-changed
+  count-sized b z = changed-sized _ z
 
   -- what is remembered is changed
   memory-sized :
@@ -104,15 +113,15 @@ module _ (c : Circuit) where
 
   Buffer-sized : (s : State) (g : ℕ) → Sized c s → Stepped-sized (exec-Buffer c s g)
   unfolding exec-Buffer ends
-  Buffer-sized s g z = if-both Stepped-sized _ (delay-sized _ _ z) z
+  Buffer-sized s g z = let y = count-sized _ z in if-both Stepped-sized _ (delay-sized _ _ y) y
 
   Stopwatch-sized : (s : State) (g p : ℕ) → Sized c s → Stepped-sized (exec-Stopwatch c s g p)
   unfolding exec-Stopwatch ends
   Stopwatch-sized s g p z = if-both (Sized c) _ (set-output-sized _ _ (delay-sized _ _ z)) (delay-sized _ _ z)
 
-  Queue-sized : (s : State) (g : ℕ) (k : Value → Countdown) → Sized c s → Stepped-sized (exec-Queue c s g k)
+  Queue-sized : (s : State) (g : ℕ) (k : Value → Started) → Sized c s → Stepped-sized (exec-Queue c s g k)
   unfolding exec-Queue ends
-  Queue-sized s g k z = delay-sized _ _ (readied-sized _ _ _ z)
+  Queue-sized s g k z = count-sized _ (delay-sized _ _ (readied-sized _ _ _ z))
 
   pub record-write-sized : {w : Wires} (g : ℕ) → eqb (kind-of-gate c g) 0 ≡ false → Sized-wires c w → Sized-wires c (record-write c w (var c g))
   unfolding record-write
@@ -206,7 +215,7 @@ module _ (c : Circuit) where
       let y = wires-sized (wires-sized z (ready-sized c (s .wires) i (z .wires))) (last-sized i _ (ready-sized c (s .wires) i (z .wires))) in
       if-both Settled-sized _ (calm-sized y)
       (detect-keeps c Settled-sized _ (gate-at-input c i) (calm-sized y) (λ form. raise-sized _ form y)
-      (λ o k e u l. calm-sized (wires-sized y (pulse-sized _ (y .wires)))) (λ d. calm-sized (delay-sized _ d y)) _ _ _)
+      (λ o k e u l. calm-sized (wires-sized y (pulse-sized _ (y .wires)))) (λ d b. calm-sized (count-sized b (delay-sized _ d y))) _ _ _)
 
   check-on-sized : (n : ℕ) (z : Settled) → Settled-sized z → Settled-sized (check-on c n z)
   check-on-sized =
@@ -270,7 +279,7 @@ module _ (c : Circuit) where
   begin-tick-sized : (s : State) (dt : ℕ) → Sized c s → Sized c (begin-tick s dt)
   unfolding begin-tick next-tick times≔
   begin-tick-sized s dt z =
-      outbox-sized [] empty (wires-sized z (passed-sized _ (length-map (s .wires .unions-passed) _) (times-sized (s .wires) _ _ _ (z .wires))))
+      changed-sized _ (outbox-sized [] empty (wires-sized z (passed-sized _ (length-map (s .wires .unions-passed) _) (times-sized (s .wires) _ _ _ (z .wires)))))
 
   lower-sized : (w : Wires) (o : ℕ) → Sized-wires c w → Sized-wires c (lower c w o)
   unfolding lower
@@ -295,6 +304,7 @@ module _ (c : Circuit) where
         of = λ z. z .wires;
         put = λ z y. wires-sized z y;
         delay = λ g d z. delay-sized g d z;
+        count = λ b z. count-sized b z;
         ready = ready-sized c;
         set-outs = set-outs-sized c;
         lower = lower-sized;

@@ -42,6 +42,8 @@ pub mod InOrder
 pub mod Ends
 -- the records of a run fit its log: `play-fits`, `log-keeps-length`
 pub mod Fits
+-- the count of a record never comes to its cap: `counts-all`
+pub mod Counted
 -- What a unit sees when it begins. What holds of the wiring of a circuit that is not refused
 pub mod Wired
 -- no NaN comes of what is none

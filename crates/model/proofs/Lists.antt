@@ -4,7 +4,7 @@ use mathlib.Core.Logic.{_≢_, _⊎_, inl, inr}
 use mathlib.Core.Bool.{Bool, true, false, not, _&&_, _||_, true≢false, or-true}
 use mathlib.Core.List.{List, [], _∷_, _++_, map}
 use Prim.Native.Nat.{ℕ, zero, suc, _+_, _-_, _≤_, _<_}
-use native.Mathlib.Nat.{add-zero, add-suc, suc-add}
+use native.Mathlib.Nat.{zero-add, add-zero, add-suc, suc-add}
 use native.Mathlib.Omega.{arith}
 use lib.Dec.{eqb}
 use lib.ListN.{length, getD, set, replicate, length-append}
@@ -69,6 +69,14 @@ unfolding each
 each-keeps P f k b [] p = p
 each-keeps P f k b (x ∷ xs) p = each-keeps P f k (f b x) xs (k b x p)
 
+-- by how many are still to come, and m more
+pub each-spends :
+    {A B : Type 0} (P : ℕ → B → Type 0) (f : B → A → B) → ((n : ℕ) (b : B) (a : A) → P (suc n) b → P n (f b a)) →
+    (m : ℕ) (xs : List A) (b : B) → P (length xs + m) b → P m (each f b xs)
+unfolding each
+each-spends P f k m [] b p = subst (λ n. P n b) (zero-add m) p
+each-spends P f k m (x ∷ xs) b p = each-spends P f k m xs (f b x) (k (length xs + m) b x (subst (λ n. P n b) (suc-add (length xs) m) p))
+
 -- where each member passes a test
 pub each-keeps-all :
     {A B : Type 0} (P : B → Type 0) (q : A → Bool) (f : B → A → B) → ((b : B) (a : A) → q a ≡ true → P b → P (f b a)) →
@@ -121,6 +129,15 @@ all-keep p (x ∷ xs) = go (p x) refl (all-keep p xs)
     go : (b : Bool) → p x ≡ b → all p (keep p xs) ≡ true → all p (if b then x ∷ keep p xs else keep p xs) ≡ true
     go true e h = rw (e, h)
     go false e h = h
+
+pub keep-most : {A : Type 0} (p : A → Bool) (xs : List A) → length (keep p xs) ≤ length xs
+unfolding keep if_then_else_
+keep-most p [] = omega arith
+keep-most p (x ∷ xs) = go (p x) (keep-most p xs)
+  where
+    go : (b : Bool) → length (keep p xs) ≤ length xs → length (if b then x ∷ keep p xs else keep p xs) ≤ suc (length xs)
+    go true h = omega (arith, h)
+    go false h = omega (arith, h)
 
 -- every member passes the test that lets all pass
 pub all-pass : {A : Type 0} (xs : List A) → all (λ _. true) xs ≡ true

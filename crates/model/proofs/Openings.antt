@@ -3,7 +3,7 @@
 use mathlib.Core.Path.{_≡_, refl, sym, ap, subst}
 use mathlib.Core.Bool.{true, _||_}
 use mathlib.Core.List.{List, [], _∷_, _++_, map}
-use Prim.Native.Nat.{ℕ, suc, _+_, _-_, _*_, _<_}
+use Prim.Native.Nat.{ℕ, _+_, _-_, _<_}
 use native.Mathlib.Omega.{arith}
 use lib.Dec.{eqb}
 use lib.ListN.{length, getD, set}
@@ -17,11 +17,11 @@ use Rattle.model.specs.Value.{truthy, as-float, narrow, one-point-zero}
 use Rattle.model.specs.Kinds.{kinds-opened}
 use Rattle.model.specs.Circuit.{Circuit, kind-of-gate, input, output, setting}
 use Rattle.model.specs.Script.{Given}
-use Rattle.model.specs.State.{Delay, idle, State, Act, Send, wires≔, delays≔, outbox≔}
+use Rattle.model.specs.State.{Delay, idle, State, Act, Send, wires≔, delays≔, outbox≔, changed≔}
 use Rattle.model.specs.Wires.{refresh-all}
 use Rattle.model.specs.Delays.{Moved, advance-flight, advance-fires, advance-records, advance-elapsed, advance-time}
-use Rattle.model.specs.Exec.{delay, delay≔, readied, read, countdown}
-use Rattle.model.specs.Settle.{Settled, calm, check-on, settle}
+use Rattle.model.specs.Exec.{tally, count-changed, delay, delay≔, readied, read, countdown}
+use Rattle.model.specs.Settle.{Settled, calm, check-on, most-checks, settle}
 use Rattle.model.specs.Opening.{Opened, raised-to, pending, fire, begin-tick, enabled, delivered, lower, advanced, advance-buffer, advance-clock, advance-timer, before-settling, open-tick}
 use Rattle.model.specs.Questions.{finite}
 use Rattle.model.proofs.Lists.{if-alike, each-alike, all-pass, among-from}
@@ -44,11 +44,12 @@ pub alike-itself : {W A P : Type 0} {R : W → W → Type 0} → ((w : W) → R 
 alike-itself k [] = alike-none
 alike-itself k (x ∷ xs) = alike-next (k (x .at)) refl refl (alike-itself k xs)
 
--- in one tick
-abbrev pub Same-tick : State → State → Type 0
-Same-tick s v = v .wires .tick ≡ s .wires .tick
+-- what a record's head says of a state: the tick, and how many narrowings changed their number
+pub record Same-head (s v : State) : Type 0 where
+  pub tick : v .wires .tick ≡ s .wires .tick
+  pub changed : v .changed ≡ s .changed
 
-raised-alike : (p : Place) (s v : State) → Same-tick s v → (acts : List Act) → Raises-alike Same-tick (raised-to p s acts) (raised-to p v acts)
+raised-alike : (p : Place) (s v : State) → Same-head s v → (acts : List Act) → Raises-alike Same-head (raised-to p s acts) (raised-to p v acts)
 unfolding raised-to
 raised-alike p s v e [] = alike-none
 raised-alike p s v e (a ∷ acts) = alike-next e refl refl (raised-alike p s v e acts)
@@ -61,6 +62,7 @@ module _ (c : Circuit) (W : Wired c) where
     pub wires : Near c W (s .wires) (v .wires)
     pub delays : v .delays ≡ s .delays
     pub outbox : v .outbox ≡ s .outbox
+    pub changed : v .changed ≡ s .changed
 
   pub itself-near : (s : State) → State-near s s
   itself-near s =
@@ -68,11 +70,12 @@ module _ (c : Circuit) (W : Wired c) where
         wires = record { aside = record { apart = not-apart (s .wires); to-check = refl; queued = refl }; shown = λ o k. refl };
         delays = refl;
         outbox = refl;
+        changed = refl;
       }
 
   record Opened-near (z y : Opened) : Type 0 where
     state : State-near (z .state) (y .state)
-    raises : Raises-alike Same-tick (z .raises) (y .raises)
+    raises : Raises-alike Same-head (z .raises) (y .raises)
 
   record Opened-twins (z y : Opened) : Type 0 where
     first : Opened-sound c W [] T z
@@ -89,16 +92,16 @@ module _ (c : Circuit) (W : Wired c) where
   -- ---- what moves on
 
   advanced-near :
-      (z y : Opened) (s v : State) (place : Place) (g p n : ℕ) (m m′ : Moved) → m′ ≡ m → Raises-alike Same-tick (z .raises) (y .raises) → Sound c T [] s → Sound c T [] v →
+      (z y : Opened) (s v : State) (place : Place) (g p n : ℕ) (m m′ : Moved) → m′ ≡ m → Raises-alike Same-head (z .raises) (y .raises) → Sound c T [] s → Sound c T [] v →
       State-near s v → Moved-fine n m → ((i : ℕ) → i < n → Other c (output c g p + i)) → Opened-near (advanced c z s place g p m) (advanced c y v place g p m′)
-  unfolding advanced wires≔ delay≔ delays≔
+  unfolding advanced wires≔ delay≔ delays≔ count-changed changed≔
   advanced-near z y s v place g p n m m′ e r a b h f k =
       let t = set-outs-twin c W (m .row) (output c g p) (λ i l. k i (omega (arith, f .few))) (f .real) (twin a b h) in
-      let u = advanced c y v place g p m in
+      let x : tally (v .changed) (m .changed) ≡ tally (s .changed) (m .changed) = ap (λ (n : ℕ). tally n (m .changed)) (h .changed) in
       subst (λ x. Opened-near (advanced c z s place g p m) (advanced c y v place g p x)) (sym e)
       (record {
-        state = record { wires = t .near; delays = ap (λ (ds : List Delay). set ds g (m .state)) (h .delays); outbox = h .outbox };
-        raises = alike-append r (raised-alike place _ _ (t .near .aside .apart .tick) (fire (m .fires) g));
+        state = record { wires = t .near; delays = ap (λ (ds : List Delay). set ds g (m .state)) (h .delays); outbox = h .outbox; changed = x };
+        raises = alike-append r (raised-alike place _ _ (record { tick = t .near .aside .apart .tick; changed = x }) (fire (m .fires) g));
       })
 
   advance-buffer-near : (dt : ℕ) (z y : Opened) (g : ℕ) → Opened-twins z y → Opened-near (advance-buffer c dt z g) (advance-buffer c dt y g)
@@ -130,7 +133,7 @@ module _ (c : Circuit) (W : Wired c) where
   readings {s} {v} g p n t h =
       let r = readied-twins c W (from (input c g p) n) t in
       record {
-        near = record { wires = r .twin .near; delays = h .delays; outbox = h .outbox };
+        near = record { wires = r .twin .near; delays = h .delays; outbox = h .outbox; changed = h .changed };
         dt = r .twin .near .aside .apart .dt;
         reads = λ k l. r .looks (input c g (p + k)) (place k l);
       }
@@ -169,20 +172,20 @@ module _ (c : Circuit) (W : Wired c) where
 
   -- ---- settling begins with all gates fresh
 
-  settle-same : (s v : State) → refresh-all c (v .wires) ≡ refresh-all c (s .wires) → v .delays ≡ s .delays → v .outbox ≡ s .outbox → settle c v ≡ settle c s
+  settle-same : (s v : State) → refresh-all c (v .wires) ≡ refresh-all c (s .wires) → v .delays ≡ s .delays → v .outbox ≡ s .outbox → v .changed ≡ s .changed → settle c v ≡ settle c s
   unfolding settle wires≔
-  settle-same s v e d o = λ j. check-on c (suc (length (c .pins)) * suc (length (c .outputs))) (calm (record { wires = e j; delays = d j; outbox = o j }))
+  settle-same s v e d o n = λ j. check-on c (most-checks c) (calm (record { wires = e j; delays = d j; outbox = o j; changed = n j }))
 
   -- ---- all of it
 
   begin-near :
       (s v : State) (dt : ℕ) → finite dt ≡ true → Sound c no-exception [] s → Sound c no-exception [] v → State-near s v → State-near (begin-tick s dt) (begin-tick v dt)
-  unfolding begin-tick wires≔ outbox≔
-  begin-near s v dt q a b h = record { wires = next-tick-twin c W dt q (a .wires) (b .wires) (h .wires) .near; delays = h .delays; outbox = refl }
+  unfolding begin-tick wires≔ outbox≔ changed≔
+  begin-near s v dt q a b h = record { wires = next-tick-twin c W dt q (a .wires) (b .wires) (h .wires) .near; delays = h .delays; outbox = refl; changed = refl }
 
   pub record Opened-alike (z y : Opened) : Type 0 where
     pub state : z .state ≡ y .state
-    pub raises : Raises-alike Same-tick (z .raises) (y .raises)
+    pub raises : Raises-alike Same-head (z .raises) (y .raises)
 
   module _ (given : Given) where
     -- what came: events and stimuli
@@ -207,11 +210,11 @@ module _ (c : Circuit) (W : Wired c) where
     came-brings s q z =
         all-append (raised-brings c W [] to-delivered _ _ (all-delivered c W [] (s .outbox) (z .outbox))) (raised-brings c W [] to-late _ (given .stimuli) (q .stimuli))
 
-    came-alike : (s v : State) → State-near s v → Same-tick (begin-tick s (given .dt)) (begin-tick v (given .dt)) → Raises-alike Same-tick (came s) (came v)
+    came-alike : (s v : State) → State-near s v → Same-head (begin-tick s (given .dt)) (begin-tick v (given .dt)) → Raises-alike Same-head (came s) (came v)
     unfolding came
     came-alike s v h e =
         alike-append
-        (subst (λ (ms : List Send). Raises-alike Same-tick (raised-to to-delivered (begin-tick s (given .dt)) (joined (map (delivered c) (s .outbox)))) (raised-to to-delivered (begin-tick v (given .dt)) (joined (map (delivered c) ms))))
+        (subst (λ (ms : List Send). Raises-alike Same-head (raised-to to-delivered (begin-tick s (given .dt)) (joined (map (delivered c) (s .outbox)))) (raised-to to-delivered (begin-tick v (given .dt)) (joined (map (delivered c) ms))))
         (sym (h .outbox)) (raised-alike to-delivered _ _ e (joined (map (delivered c) (s .outbox)))))
         (raised-alike to-late _ _ e (given .stimuli))
 
@@ -230,8 +233,8 @@ module _ (c : Circuit) (W : Wired c) where
           second = record { state = wires-sound c b₁ (l .second); raises = came-brings v q b };
           near =
               record {
-                state = record { wires = l .near; delays = h₁ .delays; outbox = h₁ .outbox };
-                raises = came-alike s v h (h₁ .wires .aside .apart .tick);
+                state = record { wires = l .near; delays = h₁ .delays; outbox = h₁ .outbox; changed = h₁ .changed };
+                raises = came-alike s v h (record { tick = h₁ .wires .aside .apart .tick; changed = h₁ .changed });
               };
         }
 
@@ -261,10 +264,10 @@ module _ (c : Circuit) (W : Wired c) where
         let t = after-moving-twins s v q a b h in
         let n = t .near .state in
         let e : settle c (before-settling c v given .state) ≡ settle c (before-settling c s given .state) =
-        settle-same (before-settling c s given .state) (before-settling c v given .state) (invalidated-same c W (twin (t .first .state) (t .second .state) n)) (n .delays) (n .outbox) in
+        settle-same (before-settling c s given .state) (before-settling c v given .state) (invalidated-same c W (twin (t .first .state) (t .second .state) n)) (n .delays) (n .outbox) (n .changed) in
         record {
           state = ap (λ (x : Settled). x .state) (sym e);
           raises =
               alike-append (t .near .raises)
-              (subst (λ (x : Settled). Raises-alike Same-tick (pending (settle c (before-settling c s given .state) .raises)) (pending (x .raises))) (sym e) (alike-itself (λ _. refl) (pending (settle c (before-settling c s given .state) .raises))));
+              (subst (λ (x : Settled). Raises-alike Same-head (pending (settle c (before-settling c s given .state) .raises)) (pending (x .raises))) (sym e) (alike-itself (λ _. record { tick = refl; changed = refl }) (pending (settle c (before-settling c s given .state) .raises))));
         }

@@ -152,7 +152,7 @@ module _ (r : Log-record) (s : List ℕ) where
     parts-back =
         let el : take (length (r .late)) (units-at ws head-size (begun-count ws)) ≡ r .late = ap (take (length (r .late))) begun-back ∙ take-append-seam (r .late) (r .main) in
         let em : drop (length (r .late)) (units-at ws head-size (begun-count ws)) ≡ r .main = ap (drop (length (r .late))) begun-back ∙ drop-append-seam (r .late) (r .main) in
-        λ j. record { tick = r .tick; steps = r .steps; late = el j; main = em j; carried = carried-back n j; stop = r .stop; outs = outs-back j }
+        λ j. record { tick = r .tick; steps = r .steps; late = el j; main = em j; carried = carried-back n j; stop = r .stop; changed = r .changed; outs = outs-back j }
 
     -- and what follows it is behind its words
     pub rest-back : drop (record-size n ws) ws ≡ s

@@ -1,36 +1,57 @@
 -- The tests of room in `watch`, `record-write` and `exec-SendEvent` are never met in a run: a circuit that is not refused has few enough gates and inputs, and
 -- what waits, what was written and what was sent is listed once.
-use mathlib.Core.Path.{_≡_, refl}
+use mathlib.Core.Path.{_≡_, refl, sym, _∙_}
 use mathlib.Core.Bool.{Bool, true, false, _||_}
-use mathlib.Core.List.{List, map}
-use Prim.Native.Nat.{ℕ, _≤_}
+use mathlib.Core.List.{List, [], _∷_, map}
+use Prim.Native.Nat.{ℕ, zero, suc, _*_, _≤_}
 use native.Mathlib.Omega.{arith}
 use lib.Dec.{leb, eqb}
-use lib.ListN.{length, getD, set, length-map, length-set}
-use borrow.Author.Tests.{lt-leb}
-use Rattle.model.specs.Base.{if_then_else_, snoc, among}
+use lib.ListN.{length, getD, set, length-map, length-set, List·getD-map}
+use borrow.Author.Tests.{leb-true, lt-leb}
+use Rattle.model.specs.Base.{if_then_else_, all, snoc, among, sum}
+use Rattle.model.specs.Kinds.{Kind, table, kind-at, kinds-opened}
 use Rattle.model.specs.Circuit.{Circuit, most-gates, most-inputs, circuit, word-at, kind-of-gate, gates}
 use Rattle.model.specs.State.{Wires, Send, State, to-check≔, written≔}
 use Rattle.model.specs.Wires.{watch}
 use Rattle.model.specs.Exec.{var, record-write}
 use Rattle.model.specs.Questions.{question-1, question-3}
-use Rattle.model.proofs.Lists.{count-most, from-length}
+use Rattle.model.proofs.Lists.{all-places, count-most, from-length}
 use Rattle.model.proofs.Sizes.{sizes}
-use Rattle.model.proofs.Laid.{inputs-found, gates-found}
+use Rattle.model.proofs.Laid.{joined-length, inputs-found, gates-found}
 use Rattle.model.proofs.Once.{once-room, among-map}
 use Rattle.model.proofs.Sized.{marks, mark-more, Sized-wires, Sized}
 use Rattle.model.proofs.Kept.{gate-in}
 
--- as many gates and inputs as question 1 lets through
+-- as many gates and inputs as question 1 lets through, and so few outputs
 pub record Few (c : Circuit) : Type 0 where
   pub gates : length (c .kinds) ≤ most-gates
   pub inputs : length (c .pins) ≤ most-inputs
+  pub outputs : length (c .outputs) ≤ 576
+
+-- no kind has more than nine
+nine-outputs : (k : ℕ) → length (kind-at k .outs) ≤ 9
+unfolding kinds-opened all
+nine-outputs zero = omega arith
+nine-outputs (suc k) =
+    let p : Kind → Bool = λ x. leb (length (x .outs)) 9 in
+    leb-true _ 9 (sym (List·getD-map p table k (record { ins = []; outs = [] })) ∙ all-places (map p table) refl k)
+
+nine-each : (f : ℕ → ℕ) → ((k : ℕ) → f k ≤ 9) → (ks : List ℕ) → sum (map f ks) ≤ 9 * length ks
+unfolding sum
+nine-each f h [] = omega arith
+nine-each f h (k ∷ ks) = omega (arith, h k, nine-each f h ks)
 
 pub few : (bytes ws : List ℕ) → question-1 bytes ws ≡ true → question-3 ws (circuit ws) ≡ true → Few (circuit ws)
-unfolding word-at
+unfolding word-at circuit
 few bytes ws q r =
     let z = sizes bytes ws q in
-    record { gates = omega (arith, gates-found bytes ws q, z .gates); inputs = omega (arith, inputs-found ws r, z .inputs) }
+    let ks = circuit ws .kinds in
+    let g : length ks ≤ most-gates = omega (arith, gates-found bytes ws q, z .gates) in
+    record {
+      gates = g;
+      inputs = omega (arith, inputs-found ws r, z .inputs);
+      outputs = omega (arith, g, joined-length (λ k. kind-at k .outs) ks, nine-each (λ k. length (kind-at k .outs)) nine-outputs ks);
+    }
 
 -- the three functions without their tests of room
 pub record Roomy (c : Circuit) : Type 0 where

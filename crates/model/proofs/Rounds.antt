@@ -5,7 +5,7 @@ use mathlib.Core.Path.{_≡_}
 use mathlib.Core.Bool.{true}
 use mathlib.Core.List.{List, [], _∷_}
 use mathlib.Core.Option.{Option}
-use Prim.Native.Nat.{ℕ, suc, _+_, _*_}
+use Prim.Native.Nat.{ℕ, suc, _+_}
 use lib.ListN.{length}
 use Rattle.words.specs.Words.{words}
 use Rattle.schedule.specs.Schedule.{plain}
@@ -18,7 +18,7 @@ use Rattle.model.specs.State.{Wires, State, Act, wires≔}
 use Rattle.model.specs.Wires.{refresh-to, refresh, refresh-all, mark-on, mark-readers, set-out}
 use Rattle.model.specs.Exec.{exec-gate}
 use Rattle.model.specs.Chain.{Calls, no-calls, Chained, run-chain}
-use Rattle.model.specs.Settle.{calm, check-on, publish-writes, settle}
+use Rattle.model.specs.Settle.{calm, check-on, most-checks, publish-writes, settle}
 use Rattle.model.specs.Opening.{start, open-tick}
 use Rattle.model.specs.Unit.{World, run-unit, finish-chain}
 use Rattle.model.specs.Closing.{read-outputs}
@@ -72,7 +72,7 @@ pub record Bounds-suffice (c : Circuit) : Type 0 where
   -- settling, in rounds by the numbers of inputs and outputs; and at its end no input waits
   pub settling :
       (s : State) → Sized c s → (more : ℕ) →
-      check-on c (suc (length (c .pins)) * suc (length (c .outputs)) + more) (calm (wires≔ s (refresh-all c (s .wires)))) ≡ settle c s
+      check-on c (most-checks c + more) (calm (wires≔ s (refresh-all c (s .wires)))) ≡ settle c s
   pub nothing-waits : (s : State) → Sized c s → settle c s .state .wires .to-check ≡ []
 
 pub circuit-suffices : (c : Circuit) → Laid c → question-6 c ≡ true → Bounds-suffice c

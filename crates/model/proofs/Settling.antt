@@ -12,10 +12,10 @@ use Rattle.model.specs.declared.Value.the-variants.{Nothing, Bool as Tru
 use Rattle.model.specs.Value.{bit, same}
 use Rattle.model.specs.Kinds.{kind-at, pure}
 use Rattle.model.specs.Circuit.{Circuit, kind-of-gate, output, gate-at-input, gate-at-output}
-use Rattle.model.specs.State.{Wires, State, outs≔, dirty≔, to-check≔, last≔, pulses≔, wires≔, delays≔}
+use Rattle.model.specs.State.{Wires, State, outs≔, dirty≔, to-check≔, last≔, pulses≔, wires≔, delays≔, changed≔}
 use Rattle.model.specs.Wires.{shown, show, soil, clean, watch, compute, recompute, ready, refresh-all, mark-readers, set-out}
-use Rattle.model.specs.Exec.{delay≔}
-use Rattle.model.specs.Settle.{Settled, calm, raise, pulse, detect, compared, check, check-on, settle}
+use Rattle.model.specs.Exec.{count-changed, delay≔}
+use Rattle.model.specs.Settle.{Settled, calm, raise, pulse, detect, compared, check, check-on, most-checks, settle}
 use Rattle.model.proofs.Lists.{if-both, if-by, count, count-most, count-set, steady}
 use Rattle.model.proofs.Laid.{Laid}
 use Rattle.model.proofs.Walks.{taken, checked}
@@ -129,8 +129,8 @@ module _ (c : Circuit) where
     Fine z = Within n (z .state .wires)
 
     detect-within : (s : State) (g p : ℕ) (was now : Value) → Within n (s .wires) → Fine (detect c (kind-of-gate c g) s g p was now)
-    unfolding calm raise delay≔ delays≔ wires≔
-    detect-within s g p was now z = detect-keeps c Fine s g z (λ _. z) (λ o k e u l. pulse-within (s .wires) g o k e u l z) (λ _. z) p was now
+    unfolding calm raise delay≔ delays≔ wires≔ count-changed changed≔
+    detect-within s g p was now z = detect-keeps c Fine s g z (λ _. z) (λ o k e u l. pulse-within (s .wires) g o k e u l z) (λ _ _. z) p was now
 
     check-within : (s : State) (i : ℕ) → Within n (s .wires) → Fine (check c s i)
     unfolding check compared wires≔ calm
@@ -195,7 +195,7 @@ module _ (c : Circuit) where
     -- ---- from the start of settling
 
     begun :
-        (s : State) → Sized-wires c (s .wires) → (n : ℕ) → suc (length (c .pins)) * suc (length (c .outputs)) ≤ n →
+        (s : State) → Sized-wires c (s .wires) → (n : ℕ) → most-checks c ≤ n →
         Within n (calm (wires≔ s (refresh-all c (s .wires))) .state .wires)
     unfolding calm wires≔ rounds down
     begun s z n l =
@@ -209,13 +209,13 @@ module _ (c : Circuit) where
     -- with as many rounds as are taken, and any number more
     pub settling-never-runs-out :
         (s : State) → Sized-wires c (s .wires) → (k : ℕ) →
-        check-on c (suc (length (c .pins)) * suc (length (c .outputs)) + k) (calm (wires≔ s (refresh-all c (s .wires)))) ≡ settle c s
+        check-on c (most-checks c + k) (calm (wires≔ s (refresh-all c (s .wires)))) ≡ settle c s
     unfolding settle
     settling-never-runs-out s z k =
-        steady (λ n. check-on c n (calm (wires≔ s (refresh-all c (s .wires))))) (suc (length (c .pins)) * suc (length (c .outputs)))
+        steady (λ n. check-on c n (calm (wires≔ s (refresh-all c (s .wires))))) (most-checks c)
         (λ n l. settle-ends n _ (begun s z n l) .0) k
 
     -- no input waits when it ends
     pub settled : (s : State) → Sized-wires c (s .wires) → settle c s .state .wires .to-check ≡ []
     unfolding settle
-    settled s z = let n = suc (length (c .pins)) * suc (length (c .outputs)) in settle-ends n _ (begun s z n (omega arith)) .1
+    settled s z = let n = most-checks c in settle-ends n _ (begun s z n (omega arith)) .1

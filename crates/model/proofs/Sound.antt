@@ -14,10 +14,10 @@ use Rattle.model.specs.Base.{snoc, from}
 use Rattle.model.specs.Value.{plus64}
 use Rattle.model.specs.Kinds.{kind-at, pure}
 use Rattle.model.specs.Circuit.{Circuit, kind-of-gate, input, output}
-use Rattle.model.specs.State.{Wires, Countdown, Flight, Queued, Delay, Act, Send, State, idle, flight≔, fires≔, elapsed≔, records≔, wires≔, delays≔, outbox≔}
+use Rattle.model.specs.State.{Wires, Countdown, Flight, Queued, Delay, Act, Send, State, idle, flight≔, fires≔, elapsed≔, records≔, wires≔, delays≔, outbox≔, changed≔}
 use Rattle.model.specs.Wires.{look, ready}
-use Rattle.model.specs.Delays.{Moved, moved, tick-down, due, launch, buffer-input, relaunch, flown, advance-flight, drop-due, advance-fires, queue-record, hand-out, advance-records, clock-at, advance-elapsed, stopwatch-at, advance-time, pressed}
-use Rattle.model.specs.Exec.{delay, delay≔, set-output, readied, read, read-row}
+use Rattle.model.specs.Delays.{Started, Moved, moved, tick-down, due, launch, buffer-input, landed, flown, advance-flight, drop-due, advance-fires, queue-record, hand-out, advance-records, clock-at, advance-elapsed, stopwatch-at, advance-time, pressed}
+use Rattle.model.specs.Exec.{count-changed, delay, delay≔, set-output, readied, read, read-row}
 use Rattle.model.proofs.Lists.{places-set, if-both, each-keeps, from-length, map-all, all-of}
 use Rattle.model.proofs.Laid.{Laid}
 use Rattle.model.proofs.Reals.{Real, zero-real}
@@ -92,19 +92,28 @@ pub record Moved-fine (n : ℕ) (m : Moved) : Type 0 where
   pub few : length (m .row) ≤ n
   pub real : All Real (m .row)
 
-pub advance-flight-fine : (start : Value → Countdown) (dt : ℕ) (d : Delay) → Delay-fine d → Moved-fine 1 (advance-flight start dt d)
-unfolding advance-flight flown moved relaunch
+landed-fine : (start : Value → Started) (d : Delay) (v : Value) → Real v → Delay-fine d → Moved-fine 1 (landed start d v)
+unfolding landed moved
+landed-fine start d v r f = go (d .later) (f .later)
+  where
+    go :
+        (x : Option Value) → Each (λ (u : Value). Real u) x →
+        Moved-fine 1 (elim x as (λ _. Moved) [
+          | none ↦ moved (flight≔ d none none) (v ∷ []) 0
+          | some u ↦ record { state = flight≔ d (launch u (start u .left)) none; row = v ∷ []; fires = 0; changed = start u .changed }
+        ])
+    go none e = record { state = flight-fine _ _ no no f; few = omega arith; real = _∷·_ r [·] }
+    go (some u) (yes q) = record { state = flight-fine _ _ (launched u (start u .left) q) no f; few = omega arith; real = _∷·_ r [·] }
+
+pub advance-flight-fine : (start : Value → Started) (dt : ℕ) (d : Delay) → Delay-fine d → Moved-fine 1 (advance-flight start dt d)
+unfolding advance-flight flown moved
 advance-flight-fine start dt d f = go (d .flight) (f .flight)
   where
-    again : (x : Option Value) → Each (λ (v : Value). Real v) x → Delay-fine (elim x as (λ _. Delay) [ none ↦ flight≔ d none none | some v ↦ flight≔ d (launch v (start v)) none ])
-    again none e = flight-fine _ _ no no f
-    again (some v) (yes r) = flight-fine _ _ (launched v (start v) r) no f
-
     go : (x : Option Flight) → Each (λ (y : Flight). Real (y .what)) x → Moved-fine 1 (elim x as (λ _. Moved) [ none ↦ moved d [] 0 | some y ↦ flown start d (y .what) (tick-down dt (y .left)) ])
     go none e = record { state = f; few = omega arith; real = [·] }
     go (some y) (yes r) =
         if-both (Moved-fine 1) _
-        (record { state = again (d .later) (f .later); few = omega arith; real = _∷·_ r [·] })
+        (landed-fine start d (y .what) r f)
         (record { state = flight-fine _ _ (launched (y .what) (tick-down dt (y .left)) r) (f .later) f; few = omega arith; real = [·] })
 
 drop-due-fine : (d : Delay) (ks : List Countdown) (n : ℕ) → Delay-fine d → Moved-fine 0 (drop-due d ks n)
@@ -192,6 +201,14 @@ module _ (c : Circuit) where
   pub outbox-sound : {t : Except} {late : List ℕ} {s : State} (x : List Send) → All (λ (m : Send). Row (m .row)) x → Sound t late s → Sound t late (outbox≔ s x)
   unfolding outbox≔
   outbox-sound x a z = record { wires = z .wires; delays = z .delays; outbox = a }
+
+  pub changed-sound : {t : Except} {late : List ℕ} {s : State} (n : ℕ) → Sound t late s → Sound t late (changed≔ s n)
+  unfolding changed≔
+  changed-sound n z = record { wires = z .wires; delays = z .delays; outbox = z .outbox }
+
+  pub count-sound : {t : Except} {late : List ℕ} {s : State} (changed : Bool) → Sound t late s → Sound t late (count-changed s changed)
+  unfolding count-changed
+  count-sound changed z = changed-sound _ z
 
   pub delay-of : {t : Except} {late : List ℕ} (s : State) → Sound t late s → (g : ℕ) → Delay-fine (delay c s g)
   unfolding delay

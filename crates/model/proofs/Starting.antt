@@ -36,7 +36,7 @@ use Rattle.model.proofs.Reals.{Real, nothing-real, truth-real, zero-rea
 use Rattle.model.proofs.Wired.{Wired}
 use Rattle.model.proofs.Right.{Except, no-exception, until-timed, Other, alike, invalidate-right}
 use Rattle.model.proofs.Fine.{set-real, Fine, Alike, alike-itself, alike-again, fine-as, soil-alike, marked-alike, watch-fine, set-out-fine, set-outs-fine, refresh-all-fine, refreshed-clean, clean-fine}
-use Rattle.model.proofs.Sound.{Row, Delay-fine, idle-fine, Moved-fine, advance-flight-fine, advance-fires-fine, advance-records-fine, advance-elapsed-fine, advance-time-fine, Sound, Brings, brings-none, other-outputs, wires-sound, delay-sound, outbox-sound, delay-of, readied-sound, read-is-real}
+use Rattle.model.proofs.Sound.{Row, Delay-fine, idle-fine, Moved-fine, advance-flight-fine, advance-fires-fine, advance-records-fine, advance-elapsed-fine, advance-time-fine, Sound, Brings, brings-none, other-outputs, wires-sound, delay-sound, outbox-sound, changed-sound, count-sound, delay-of, readied-sound, read-is-real}
 use Rattle.model.proofs.Calming.{set-pulses, settle-sound}
 
 zero-finite : finite 0 ≡ true
@@ -162,7 +162,7 @@ module _ (c : Circuit) (W : Wired c) where
 
     pub begin-tick-sound : (s : State) (dt : ℕ) → finite dt ≡ true → Sound c no-exception late s → Sound c T late (begin-tick s dt)
     unfolding begin-tick
-    begin-tick-sound s dt q z = outbox-sound c [] [·] (wires-sound c z (next-tick-fine (s .wires) dt q (z .wires)))
+    begin-tick-sound s dt q z = changed-sound c _ (outbox-sound c [] [·] (wires-sound c z (next-tick-fine (s .wires) dt q (z .wires))))
 
     -- ---- what came
 
@@ -245,8 +245,8 @@ module _ (c : Circuit) (W : Wired c) where
     advanced-sound z s place g p n m y x f k =
         record {
           state =
-              wires-sound c (delay-sound c g (m .state) (f .state) x)
-              (set-outs-fine c W T late (m .row) (s .wires) (output c g p) (λ i l. k i (omega (arith, f .few))) (f .real) (x .wires));
+              count-sound c (m .changed) (wires-sound c (delay-sound c g (m .state) (f .state) x)
+              (set-outs-fine c W T late (m .row) (s .wires) (output c g p) (λ i l. k i (omega (arith, f .few))) (f .real) (x .wires)));
           raises = all-append (y .raises) (raised-brings place _ (fire (m .fires) g) (fires-bring (m .fires) g));
         }
 

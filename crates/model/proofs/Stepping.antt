@@ -13,8 +13,9 @@ use Rattle.model.specs.declared.Value.{Value}
 use Rattle.model.specs.Base.{if_then_else_, snoc, among}
 use Rattle.model.specs.Kinds.{kinds-opened}
 use Rattle.model.specs.Circuit.{Circuit, kind-of-gate}
-use Rattle.model.specs.State.{Wires, Countdown, State, outs≔, written≔, unions-passed≔}
+use Rattle.model.specs.State.{Wires, State, outs≔, written≔, unions-passed≔}
 use Rattle.model.specs.Wires.{shown, show}
+use Rattle.model.specs.Delays.{Started}
 use Rattle.model.specs.Exec.{Stepped, fires-next, ends, var, record-write, exec-Buffer, exec-Stopwatch, exec-Queue, exec-VarGet, exec-VarSet, exec-Branch, exec-Union, exec-Toggle, exec-Cycle, exec-SendEvent, exec-kind, exec-gate}
 use Rattle.model.specs.Chain.{Calls, run-chain}
 use Rattle.model.proofs.Lists.{if-both, if-by, among-first}
@@ -26,7 +27,7 @@ use Rattle.model.proofs.Reals.{Real, truth-real, int-real, zero-real}
 use Rattle.model.proofs.Wired.{Wired}
 use Rattle.model.proofs.Right.{Except, Other, alike, excused, show-late}
 use Rattle.model.proofs.Fine.{Fine, set-real}
-use Rattle.model.proofs.Sound.{fires-fine, pressed-fine, queue-fine, Sound, other-output, wires-sound, delay-sound, outbox-sound, delay-of, set-output-sound, readied-sound, read-is-real, read-row-fine}
+use Rattle.model.proofs.Sound.{fires-fine, pressed-fine, queue-fine, Sound, other-output, wires-sound, delay-sound, outbox-sound, count-sound, delay-of, set-output-sound, readied-sound, read-is-real, read-row-fine}
 
 among-snoc : (x : ℕ) (xs : List ℕ) (y : ℕ) → among x xs ≡ true → among x (snoc xs y) ≡ true
 unfolding among snoc
@@ -117,7 +118,9 @@ module _ (c : Circuit) (W : Wired c) where
 
     Buffer-going : (s : State) (g : ℕ) → Going t s → Stepped-going (exec-Buffer c s g)
     unfolding exec-Buffer ends
-    Buffer-going s g z = if-both Stepped-going _ (going (delay-sound c g _ (fires-fine _ (delay-of c s (z .sound) g)) (z .sound))) z
+    Buffer-going s g z =
+        let y = count-sound c _ (z .sound) in
+        if-both Stepped-going _ (going (delay-sound c g _ (fires-fine _ (delay-of c _ y g)) y)) (going y)
 
     Stopwatch-going : (s : State) (g p : ℕ) → kind-of-gate c g ≡ 15 → Going t s → Stepped-going (exec-Stopwatch c s g p)
     unfolding exec-Stopwatch ends kinds-opened
@@ -125,11 +128,11 @@ module _ (c : Circuit) (W : Wired c) where
         let y = delay-sound c g _ (pressed-fine p (delay-of c s (z .sound) g)) (z .sound) in
         if-both (Going t) _ (going (set-output-sound c W _ _ (other-output c (W .laid) g 15 0 k refl (omega arith)) zero-real y)) (going y)
 
-    Queue-going : (s : State) (g : ℕ) (k : Value → Countdown) → Going t s → Stepped-going (exec-Queue c s g k)
+    Queue-going : (s : State) (g : ℕ) (k : Value → Started) → Going t s → Stepped-going (exec-Queue c s g k)
     unfolding exec-Queue ends
     Queue-going s g k z =
         let y = readied-sound c W g 1 9 (z .sound) in
-        going (delay-sound c g _ (queue-fine _ _ (read-row-fine c W _ g 1 8 (omega arith) y) (delay-of c _ y g)) y)
+        going (count-sound c _ (delay-sound c g _ (queue-fine _ _ (read-row-fine c W _ g 1 8 (omega arith) y) (delay-of c _ y g)) y))
 
     VarGet-going : (s : State) (g : ℕ) → kind-of-gate c g ≡ 18 → Going t s → Stepped-going (exec-VarGet c s g)
     unfolding exec-VarGet fires-next kinds-opened

@@ -36,7 +36,7 @@ use Rattle.model.proofs.Right.{no-exception}
 use Rattle.model.proofs.Sound.{Sound, Brings}
 use Rattle.model.proofs.Starting.{Allowed-fine, start-sound}
 use Rattle.model.proofs.Twins.{read-near}
-use Rattle.model.proofs.Openings.{Same-tick, State-near, itself-near, open-tick-alike}
+use Rattle.model.proofs.Openings.{Same-head, State-near, itself-near, open-tick-alike}
 use Rattle.model.proofs.Beginning.{Ready, opening-brings, body-brings, closing-ready, unit-fresh}
 use Rattle.model.proofs.Wiring.{wired, gets-fine}
 
@@ -51,6 +51,7 @@ module _ (c : Circuit) (W : Wired c) where
     tick : x .state .wires .tick ≡ y .state .wires .tick
     left : x .left ≡ y .left
     room : x .room ≡ y .room
+    changed : x .state .changed ≡ y .state .changed
 
   -- before a tick
   record Worlds-near (w v : World) : Type 0 where
@@ -61,11 +62,11 @@ module _ (c : Circuit) (W : Wired c) where
     logged : w .logged ≡ v .logged
 
   in-worlds :
-      {P : Type 0} (left : ℕ) (w v : World) → w .room ≡ v .room → {rs us : List (Raise State Act P)} → Raises-alike Same-tick rs us →
+      {P : Type 0} (left : ℕ) (w v : World) → w .room ≡ v .room → {rs us : List (Raise State Act P)} → Raises-alike Same-head rs us →
       Raises-alike Same-record (raises-in w left rs) (raises-in v left us)
   unfolding raises-in state≔
   in-worlds left w v e alike-none = alike-none
-  in-worlds left w v e (alike-next t a p r) = alike-next (record { tick = sym t; left = refl; room = e }) a p (in-worlds left w v e r)
+  in-worlds left w v e (alike-next t a p r) = alike-next (record { tick = sym (t .tick); left = refl; room = e; changed = sym (t .changed) }) a p (in-worlds left w v e r)
 
   opening-alike : (w v : World) (i : Allowed) → Allowed-fine c i → Worlds-near w v → Did-alike Same-record (opening c w i) (opening c v i)
   unfolding opening state≔
@@ -102,7 +103,7 @@ module _ (c : Circuit) (W : Wired c) where
 
   cut-record : (limit : ℕ) (x y : World) → Same-record x y → record-words (log-record limit x (outcome S [] [] [] list-full)) ≡ record-words (log-record limit y (outcome S [] [] [] list-full))
   unfolding record-opened closing-opened if_then_else_
-  cut-record limit x y e = λ j. e .tick j ∷ (limit - e .left j + 0) ∷ 0 ∷ 0 ∷ 0 ∷ list-full ∷ []
+  cut-record limit x y e = λ j. e .tick j ∷ (limit - e .left j + 0) ∷ 0 ∷ 0 ∷ 0 ∷ list-full ∷ e .changed j ∷ []
 
   cut-closing :
       (i : Allowed) (x y : World) → Same-record x y →
@@ -133,7 +134,7 @@ module _ (c : Circuit) (W : Wired c) where
 
   read-state-near : (s : State) → Sound c no-exception [] s → State-near c W (wires≔ s (refresh-all c (s .wires))) s
   unfolding wires≔
-  read-state-near s z = record { wires = read-near c W (s .wires) (z .wires); delays = refl; outbox = refl }
+  read-state-near s z = record { wires = read-near c W (s .wires) (z .wires); delays = refl; outbox = refl; changed = refl }
 
   -- the world after a tick that began in v, and the same unread
   after-near :

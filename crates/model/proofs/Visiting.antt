@@ -16,9 +16,9 @@ use Rattle.model.specs.declared.Value.{Value}
 use Rattle.model.specs.Base.{snoc}
 use Rattle.model.specs.Circuit.{Circuit, gate-at-input}
 use Rattle.model.specs.Script.{Given}
-use Rattle.model.specs.State.{Wires, State, Delay, Act, outs≔, dirty≔, to-check≔, times≔, last≔, pulses≔, unions-passed≔, wires≔, delays≔, outbox≔}
+use Rattle.model.specs.State.{Wires, State, Delay, Act, outs≔, dirty≔, to-check≔, times≔, last≔, pulses≔, unions-passed≔, wires≔, delays≔, outbox≔, changed≔}
 use Rattle.model.specs.Wires.{show, soil, clean, watch, look, recompute, refresh-all, ready, invalidate, set-out}
-use Rattle.model.specs.Exec.{delay≔}
+use Rattle.model.specs.Exec.{count-changed, delay≔}
 use Rattle.model.specs.Settle.{Settled, calm, raise, pulse, compared, check, check-on, settle}
 use Rattle.model.specs.Opening.{next-tick, begin-tick, lower, before-settling}
 use Rattle.model.proofs.Lists.{if-both, all-pass}
@@ -93,8 +93,12 @@ module _ (c : Circuit) (i : ℕ) (pre : List ℕ) where
   unfolding delay≔ delays≔
   delay-waiting s g d u = u
 
+  count-waiting : (s : State) (changed : Bool) → Waiting s → Waiting (count-changed s changed)
+  unfolding count-changed changed≔
+  count-waiting s changed u = u
+
   begin-waiting : (s : State) (dt : ℕ) → Waiting s → Waiting (begin-tick s dt)
-  unfolding begin-tick next-tick outbox≔ wires≔ times≔ unions-passed≔
+  unfolding begin-tick next-tick outbox≔ wires≔ times≔ unions-passed≔ changed≔
   begin-waiting s dt u = record { more = u .more; waits = u .waits; known = u .known; unread = u .unread }
 
   -- ---- settling: another input is checked
@@ -118,7 +122,7 @@ module _ (c : Circuit) (i : ℕ) (pre : List ℕ) where
         unread = getD-set-other (ready c (s .wires) j .last) j i _ none n ∙ v .unread;
       } in
       if-both Still-waiting _ y
-      (detect-keeps c Still-waiting _ (gate-at-input c j) y (λ form. y) (λ o k e p l. pulse-unread _ _ y) (λ d. delay-waiting _ _ d y) _ _ _)
+      (detect-keeps c Still-waiting _ (gate-at-input c j) y (λ form. y) (λ o k e p l. pulse-unread _ _ y) (λ d b. count-waiting _ b (delay-waiting _ _ d y)) _ _ _)
 
   -- ---- the opening up to its settling
 
@@ -128,6 +132,7 @@ module _ (c : Circuit) (i : ℕ) (pre : List ℕ) where
         of = λ u. u;
         put = λ _ u. put-waiting _ _ u;
         delay = λ g d u. delay-waiting _ g d u;
+        count = λ b u. count-waiting _ b u;
         ready = ready-unread;
         set-outs = set-outs-keeps c Unread (λ w g _ u. soil-unread w g u) (λ w j _ u. watch-unread w j u) show-unread;
         lower = lower-unread;
@@ -148,13 +153,13 @@ module _ (c : Circuit) (i : ℕ) where
       set-out-keeps c (λ v. v .last ≡ w .last) (λ v g _ e. e) (λ v j _ e. if-both (λ (u : Wires). u .last ≡ w .last) _ e e) (λ v o x e. e) w o _ refl
 
   check-last : (s : State) (j : ℕ) → check c s j .state .wires .last ≡ set (s .wires .last) j (some (look c (ready c (s .wires) j) j))
-  unfolding check compared wires≔ last≔ calm raise delay≔ delays≔
+  unfolding check compared wires≔ last≔ calm raise delay≔ delays≔ count-changed changed≔
   check-last s j =
       let v = some (look c (ready c (s .wires) j) j) in
       let now = set (s .wires .last) j v in
       let e : set (ready c (s .wires) j .last) j v ≡ now = ap (λ ls. set ls j v) (ready-last (s .wires) j) in
       if-both (λ (z : Settled). z .state .wires .last ≡ now) _ e
-      (detect-keeps c (λ (z : Settled). z .state .wires .last ≡ now) _ (gate-at-input c j) e (λ form. e) (λ o k x p l. pulse-last _ _ ∙ e) (λ d. e) _ _ _)
+      (detect-keeps c (λ (z : Settled). z .state .wires .last ≡ now) _ (gate-at-input c j) e (λ form. e) (λ o k x p l. pulse-last _ _ ∙ e) (λ d b. e) _ _ _)
 
   -- input i has been read
   abbrev pub Read : List (Option Value) → Type 0

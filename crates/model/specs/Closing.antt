@@ -40,6 +40,7 @@ log-record limit w o =
       main = map as-listed (o .main);
       carried = map as-listed (o .carried);
       stop = o .stop;
+      changed = w .state .changed;
       outs = outputs-shown (w .state) (o .stop);
     }
 

@@ -10,7 +10,7 @@ use lib.ListN.{length}
 use Rattle.model.specs.declared.Value.{Value}
 use Rattle.model.specs.declared.Value.the-variants.{Float}
 use Rattle.model.specs.Base.{if_then_else_, snoc}
-use Rattle.model.specs.Value.{as-int, as-float, plus64, le64, lt64, plus32, le32, narrow, minus-one-point-zero}
+use Rattle.model.specs.Value.{as-int, as-float, plus64, le64, lt64, plus32, le32, narrow, narrow-changes, minus-one-point-zero}
 use Rattle.model.specs.State.{Countdown, ticks-left, seconds, Flight, Queued, Delay, flight≔, fires≔, elapsed≔, records≔}
 
 -- ---- countdowns
@@ -20,13 +20,18 @@ unfoldable pub nat : ℤ → ℕ
 nat (pos n) = n
 nat (negsuc n) = 0
 
--- a tick countdown starts at max(1, t)
-unfoldable pub in-ticks : ℤ → Countdown
-in-ticks t = ticks-left (max 1 (nat t))
+-- a countdown that starts, and whether narrowing changed its wait
+pub record Started : Type 0 where
+  pub left : Countdown
+  pub changed : Bool
 
--- seconds count in f32, from 0.0
-unfoldable pub in-seconds : ℕ → Countdown
-in-seconds wait = seconds (narrow wait) 0
+-- a tick countdown starts at max(1, t)
+unfoldable pub in-ticks : ℤ → Started
+in-ticks t = record { left = ticks-left (max 1 (nat t)); changed = false }
+
+-- seconds count in f32, from 0.0; only here is a wait narrowed
+unfoldable pub in-seconds : ℕ → Started
+in-seconds wait = record { left = seconds (narrow wait) 0; changed = narrow-changes wait }
 
 -- one tick, of the length dt in f32; what is due stays due
 unfoldable pub tick-down : ℕ → Countdown → Countdown
@@ -40,24 +45,25 @@ due (seconds wait elapsed) = le32 wait elapsed
 
 -- A buffer's countdown, by its settings wait and zero wait: the zero wait for a value that is not true (not rising), unless it is negative; nothing is a
 -- wait of 0 and a zero wait of -1.
-unfoldable pub countdown-ticks : Bool → Value → Value → Countdown
+unfoldable pub countdown-ticks : Bool → Value → Value → Started
 countdown-ticks rising wait zero-wait =
     in-ticks (if not rising && leZ (pos 0) (as-int (negsuc 0) zero-wait) then as-int (negsuc 0) zero-wait else as-int (pos 0) wait)
 
 -- the same in seconds
-unfoldable pub countdown-seconds : Bool → Value → Value → Countdown
+unfoldable pub countdown-seconds : Bool → Value → Value → Started
 countdown-seconds rising wait zero-wait =
     in-seconds (if not rising && le64 0 (as-float minus-one-point-zero zero-wait) then as-float minus-one-point-zero zero-wait else as-float 0 wait)
 
--- What moving on by a tick comes to: the state, the row of values that it hands out, and how often it fires.
+-- What moving on by a tick comes to: the state, the row of values that it hands out, how often it fires, and whether narrowing changed a wait.
 pub record Moved : Type 0 where
   pub state : Delay
   pub row : List Value
   pub fires : ℕ
+  pub changed : Bool
 
--- the same, by its parts
+-- the same, where no wait was changed
 unfoldable pub moved : Delay → List Value → ℕ → Moved
-moved d row n = record { state = d; row = row; fires = n }
+moved d row n = record { state = d; row = row; fires = n; changed = false }
 
 -- ---- a value buffer
 
@@ -69,16 +75,20 @@ launch v k = some (record { what = v; left = k })
 unfoldable pub buffer-input : Delay → Value → Countdown → Delay
 buffer-input d v k = elim (d .flight) [ none ↦ flight≔ d (launch v k) (d .later) | some f ↦ flight≔ d (some f) (some v) ]
 
--- the remembered input starts a countdown of its own, which `start` gives
-unfoldable pub relaunch : (Value → Countdown) → Delay → Delay
-relaunch start d = elim (d .later) [ none ↦ flight≔ d none none | some v ↦ flight≔ d (launch v (start v)) none ]
+-- the value v lands, and the remembered input starts a countdown of its own, which `start` gives
+unfoldable pub landed : (Value → Started) → Delay → Value → Moved
+landed start d v =
+    elim (d .later) [
+      | none ↦ moved (flight≔ d none none) (v ∷ []) 0
+      | some u ↦ record { state = flight≔ d (launch u (start u .left)) none; row = v ∷ []; fires = 0; changed = start u .changed }
+    ]
 
 -- it lands when its countdown is due
-unfoldable pub flown : (Value → Countdown) → Delay → Value → Countdown → Moved
-flown start d v k = if due k then moved (relaunch start d) (v ∷ []) 0 else moved (flight≔ d (launch v k) (d .later)) [] 0
+unfoldable pub flown : (Value → Started) → Delay → Value → Countdown → Moved
+flown start d v k = if due k then landed start d v else moved (flight≔ d (launch v k) (d .later)) [] 0
 
 -- a value buffer moves on by a tick of the length dt in f32
-unfoldable pub advance-flight : (Value → Countdown) → ℕ → Delay → Moved
+unfoldable pub advance-flight : (Value → Started) → ℕ → Delay → Moved
 advance-flight start dt d = elim (d .flight) [ none ↦ moved d [] 0 | some f ↦ flown start d (f .what) (tick-down dt (f .left)) ]
 
 -- ---- a buffer in exec mode: the fires that are due, from the front
@@ -137,5 +147,5 @@ unfoldable pub pressed : ℕ → Delay → Delay
 pressed p d = if eqb p 0 then elapsed≔ d 0 true else elapsed≔ d (d .elapsed) (eqb p 2)
 
 unfoldable pub delays-opened : ℕ
-unfolding nat in-ticks in-seconds tick-down due countdown-ticks countdown-seconds moved launch buffer-input relaunch flown advance-flight drop-due advance-fires queue-record hand-out advance-records clock-at advance-elapsed stopwatch-at advance-time pressed
+unfolding nat in-ticks in-seconds tick-down due countdown-ticks countdown-seconds moved launch buffer-input landed flown advance-flight drop-due advance-fires queue-record hand-out advance-records clock-at advance-elapsed stopwatch-at advance-time pressed
 delays-opened = 0

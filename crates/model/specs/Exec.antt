@@ -1,6 +1,6 @@
 -- One step of a chain: an exec gate, entered through one of its inputs, by kind.
-use Prim.Native.Nat.{ℕ, zero, suc, _-_, _%_}
-use mathlib.Core.Bool.{Bool, true, false, not, _||_}
+use Prim.Native.Nat.{ℕ, zero, suc, _-_, _%_, _^_}
+use mathlib.Core.Bool.{Bool, true, false, not, _&&_, _||_}
 use mathlib.Core.List.{List, map}
 use mathlib.Core.Option.{Option, none, some}
 use lib.Dec.{leb, ltb, eqb}
@@ -11,9 +11,9 @@ use Rattle.model.specs.declared.Value.the-variants.{Int, Float, Bool as 
 use Rattle.model.specs.Base.{if_then_else_, each, snoc, among, from}
 use Rattle.model.specs.Value.{truthy, as-int, as-float}
 use Rattle.model.specs.Circuit.{Circuit, most-gates, kind-of-gate, input, output, gate-at-input, setting}
-use Rattle.model.specs.State.{Wires, Countdown, Delay, idle, fires≔, State, written≔, unions-passed≔, wires≔, delays≔, outbox≔}
+use Rattle.model.specs.State.{Wires, Countdown, Delay, idle, fires≔, State, written≔, unions-passed≔, wires≔, delays≔, outbox≔, changed≔}
 use Rattle.model.specs.Wires.{shown, show, look, ready, set-out}
-use Rattle.model.specs.Delays.{nat, in-ticks, in-seconds, countdown-ticks, countdown-seconds, queue-record, pressed}
+use Rattle.model.specs.Delays.{nat, Started, in-ticks, in-seconds, countdown-ticks, countdown-seconds, queue-record, pressed}
 
 -- What a step comes to: the output to fire next, and whether a list was full.
 pub record Stepped : Type 0 where
@@ -32,6 +32,17 @@ ends s = record { state = s; next = none; full = false }
 -- the fires under way of one buffer
 abbrev pub most-fires : ℕ
 most-fires = 32
+
+-- A record's count is a word of the log, an Int; no tick comes near the largest one (`counts-all`).
+abbrev pub most-changed : ℕ
+most-changed = 2 ^ 63 - 1
+
+-- one narrowing more is counted, if it changed its number
+unfoldable pub tally : ℕ → Bool → ℕ
+tally n changed = if changed && ltb n most-changed then suc n else n
+
+unfoldable pub count-changed : State → Bool → State
+count-changed s changed = changed≔ s (tally (s .changed) changed)
 
 -- the remainder that is never negative, of a number by n above 0
 unfoldable pub remainder : ℤ → ℕ → ℕ
@@ -71,8 +82,12 @@ module _ (c : Circuit) where
   unfoldable pub read-row : State → ℕ → ℕ → ℕ → List Value
   read-row s g p n = map (look c (s .wires)) (from (input c g p) n)
 
+  -- gate g takes a countdown that starts, by f; that its wait was changed counts also where f does not keep it
+  abbrev pub with-countdown : State → ℕ → (Delay → Countdown → Delay) → Started → State
+  with-countdown s g f k = count-changed (delay≔ s g (f (delay s g) (k .left))) (k .changed)
+
   -- the countdown that a buffer starts
-  unfoldable pub countdown : ℕ → Bool → Countdown
+  unfoldable pub countdown : ℕ → Bool → Started
   countdown g rising =
       if leb 12 (kind-of-gate c g) then countdown-seconds rising (setting c g 1) (setting c g 2) else countdown-ticks rising (setting c g 1) (setting c g 2)
 
@@ -82,10 +97,12 @@ module _ (c : Circuit) where
 
   -- ---- by kind; p is the pin entered through
 
-  -- 11 and 13: one fire more is under way, never with the zero wait
+  -- 11 and 13: one fire more is under way, never with the zero wait; that its wait was changed counts also where there is no room
   unfoldable pub exec-Buffer : State → ℕ → Stepped
-  exec-Buffer s g =
-      if ltb (length (delay s g .fires)) most-fires then ends (delay≔ s g (fires≔ (delay s g) (snoc (delay s g .fires) (countdown g true))))
+  exec-Buffer s₀ g =
+      let k = countdown g true in
+      let s = count-changed s₀ (k .changed) in
+      if ltb (length (delay s g .fires)) most-fires then ends (delay≔ s g (fires≔ (delay s g) (snoc (delay s g .fires) (k .left))))
       else record { state = s; next = none; full = true }
 
   -- Restart shows 0.0 at once
@@ -94,11 +111,11 @@ module _ (c : Circuit) where
       let t = delay≔ s g (pressed p (delay s g)) in
       ends (if eqb p 0 then set-output t (output c g 0) (Float 0) else t)
 
-  -- all nine inputs are read, also for a record that is dropped
-  unfoldable pub exec-Queue : State → ℕ → (Value → Countdown) → Stepped
+  -- all nine inputs are read, and the wait narrowed, also for a record that is dropped
+  unfoldable pub exec-Queue : State → ℕ → (Value → Started) → Stepped
   exec-Queue s₀ g countdown-of =
       let s = readied s₀ g 1 9 in
-      ends (delay≔ s g (queue-record (delay s g) (read-row s g 1 8) (countdown-of (read s g 9))))
+      ends (with-countdown s g (λ d left. queue-record d (read-row s g 1 8) left) (countdown-of (read s g 9)))
 
   -- the Var's value, as it stands in storage, to Value
   unfoldable pub exec-VarGet : State → ℕ → Stepped
@@ -167,5 +184,5 @@ module _ (c : Circuit) where
   exec-gate s i = exec-kind (kind-of-gate c (gate-at-input c i)) s (gate-at-input c i) (i - input c (gate-at-input c i) 0)
 
   unfoldable pub exec-opened : ℕ
-  unfolding fires-next ends remainder cycle-next delay delay≔ set-output readied read read-row countdown var exec-Buffer exec-Stopwatch exec-Queue exec-VarGet record-write exec-VarSet exec-Branch exec-Union exec-Toggle exec-Cycle exec-SendEvent exec-kind exec-gate
+  unfolding fires-next ends tally count-changed remainder cycle-next delay delay≔ set-output readied read read-row countdown var exec-Buffer exec-Stopwatch exec-Queue exec-VarGet record-write exec-VarSet exec-Branch exec-Union exec-Toggle exec-Cycle exec-SendEvent exec-kind exec-gate
   exec-opened = 0

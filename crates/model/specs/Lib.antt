@@ -18,6 +18,7 @@ pub mod Questions
 pub mod Answer
 pub mod Table
 pub mod Order
+pub mod Counted
 pub mod Noticed
 pub mod Fresh
 pub mod Unread

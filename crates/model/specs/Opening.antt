@@ -9,14 +9,14 @@ use Rattle.schedule.specs.Schedule.{Raise, Place, to-late, to-delivered, to-pen
 use Rattle.model.specs.declared.Value.{Value}
 use Rattle.model.specs.declared.Value.the-variants.{Nothing, Int, Float, Bool as Truth}
 use Rattle.model.specs.Base.{if_then_else_, each, keep, joined, from}
-use Rattle.model.specs.Value.{truthy, as-float, same, narrow, plus64, one-point-zero}
+use Rattle.model.specs.Value.{truthy, bit, as-float, same, narrow, narrow-changes, plus64, one-point-zero}
 use Rattle.model.specs.Kinds.{pure}
 use Rattle.model.specs.Circuit.{Circuit, kind-of-gate, output, setting, watching, gates-of}
 use Rattle.model.specs.Script.{Given}
-use Rattle.model.specs.State.{Wires, idle, Act, Send, State, times≔, pulses≔, unions-passed≔, wires≔, outbox≔}
+use Rattle.model.specs.State.{Wires, idle, Act, Send, State, times≔, pulses≔, unions-passed≔, wires≔, outbox≔, changed≔}
 use Rattle.model.specs.Wires.{watch, invalidate, refresh-all, set-out, set-outs}
 use Rattle.model.specs.Delays.{Moved, advance-flight, advance-fires, advance-records, advance-elapsed, advance-time}
-use Rattle.model.specs.Exec.{delay, delay≔, readied, read, countdown}
+use Rattle.model.specs.Exec.{count-changed, delay, delay≔, readied, read, countdown}
 use Rattle.model.specs.Settle.{settle}
 
 -- ---- the start
@@ -48,7 +48,7 @@ wires-at-start c = each watch (wires-fresh c) (keep (watching c) (from 0 (length
 
 -- Clocks and Stopwatches at 0.0, Stopwatches stopped
 unfoldable pub start : Circuit → State
-start c = record { wires = wires-at-start c; delays = replicate (length (c .kinds)) idle; outbox = [] }
+start c = record { wires = wires-at-start c; delays = replicate (length (c .kinds)) idle; outbox = []; changed = 0 }
 
 -- ---- the opening of a tick
 
@@ -74,9 +74,9 @@ unfoldable pub next-tick : Wires → ℕ → Wires
 next-tick w dt =
     unions-passed≔ (times≔ w (suc (w .tick)) dt (plus64 (w .uptime) dt)) (map (λ _. false) (w .unions-passed))
 
--- and the outbox is emptied
+-- and the outbox is emptied; the narrowing of the tick's length is counted in every tick, used or not
 unfoldable pub begin-tick : State → ℕ → State
-begin-tick s dt = outbox≔ (wires≔ s (next-tick (s .wires) dt)) []
+begin-tick s dt = changed≔ (outbox≔ (wires≔ s (next-tick (s .wires) dt)) []) (bit (narrow-changes dt))
 
 -- `bEnabled` of nothing means enabled
 unfoldable pub enabled : Value → Bool
@@ -103,7 +103,7 @@ module _ (c : Circuit) where
   -- gate g has moved on: its row goes to its outputs from p on, then its Fires are raised
   unfoldable pub advanced : Opened → State → Place → ℕ → ℕ → Moved → Opened
   advanced z s place g p m =
-      let t = wires≔ (delay≔ c s g (m .state)) (set-outs c (s .wires) (output c g p) (m .row)) in
+      let t = count-changed (wires≔ (delay≔ c s g (m .state)) (set-outs c (s .wires) (output c g p) (m .row))) (m .changed) in
       record { state = t; raises = z .raises ++ raised-to place t (fire (m .fires) g) }
 
   -- 10 to 13, 16 and 17; dt is the tick's length in f32

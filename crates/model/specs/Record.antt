@@ -14,7 +14,7 @@ pub record Listed : Type 0 where
   pub form : ℕ
 
 -- The parts of a record: the tick, its steps, the units that it began in its late pass and in its main pass, the units that it carries, all in their order, its stop, or
--- 0, and what each output shows; a stopped tick shows none.
+-- 0, how many of its narrowings changed their number, and what each output shows; a stopped tick shows none.
 pub record Log-record : Type 0 where
   pub tick : ℕ
   pub steps : ℕ
@@ -22,17 +22,18 @@ pub record Log-record : Type 0 where
   pub main : List Listed
   pub carried : List Listed
   pub stop : ℕ
+  pub changed : ℕ
   pub outs : List Value
 
 -- ---- its words
 
 -- the words of its head
 abbrev pub head-size : ℕ
-head-size = 6
+head-size = 7
 
--- tick, steps, late units, main units, carried, stop
+-- tick, steps, late units, main units, carried, stop, changed
 unfoldable pub head : Log-record → List ℕ
-head r = r .tick ∷ r .steps ∷ length (r .late) ∷ length (r .main) ∷ length (r .carried) ∷ r .stop ∷ []
+head r = r .tick ∷ r .steps ∷ length (r .late) ∷ length (r .main) ∷ length (r .carried) ∷ r .stop ∷ r .changed ∷ []
 
 -- of units: their gates, then their forms
 unfoldable pub gates-and-forms : List Listed → List ℕ
@@ -97,6 +98,7 @@ record-at outputs ws =
       main = drop (word-at ws 2) (units-at ws head-size (begun-count ws));
       carried = units-at ws (carried-at ws) (carried-count ws);
       stop = stop-in ws;
+      changed = word-at ws 6;
       outs = outputs-at ws (shown-at ws) (shown-count outputs ws);
     }
 

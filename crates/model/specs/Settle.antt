@@ -15,7 +15,7 @@ use Rattle.model.specs.Circuit.{Circuit, kind-of-gate, input, output, ga
 use Rattle.model.specs.State.{Wires, Act, State, to-check≔, last≔, pulses≔, written≔, wires≔}
 use Rattle.model.specs.Wires.{look, ready, refresh-all, mark-readers, set-out}
 use Rattle.model.specs.Delays.{buffer-input}
-use Rattle.model.specs.Exec.{delay, delay≔, countdown}
+use Rattle.model.specs.Exec.{with-countdown, countdown}
 
 -- a state, and what was raised on the way to it, in order, each with the state at that moment
 pub record Settled : Type 0 where
@@ -61,7 +61,7 @@ module _ (c : Circuit) where
       else if eqb k 7 then edge s was now (λ t o. calm (wires≔ t (pulse (t .wires) (output c g o))))
       else if eqb k 8 then calm (wires≔ s (pulse (s .wires) (output c g 0)))
       else if eqb k 9 then edge s was now (λ t o. raise t g (32 + o))
-      else if eqb k 10 || eqb k 12 then calm (delay≔ c s g (buffer-input (delay c s g) now (countdown c g (truthy now))))
+      else if eqb k 10 || eqb k 12 then calm (with-countdown c s g (λ d left. buffer-input d now left) (countdown c g (truthy now)))
       else if truthy now then raise s g (16 + p)
       else calm s
 
@@ -87,10 +87,13 @@ module _ (c : Circuit) where
             check-on n (record { state = r .state; raises = z .raises ++ r .raises })
       ]
 
-  -- What is stale at its start is refreshed first; what becomes stale on the way stays so. Inputs are queued again only when a pulse goes up, and none goes
-  -- down here, so these rounds suffice.
+  -- Inputs are queued again only when a pulse goes up, and none goes down in a settling, so these checks suffice.
+  abbrev pub most-checks : ℕ
+  most-checks = suc (length (c .pins)) * suc (length (c .outputs))
+
+  -- what is stale at its start is refreshed first; what becomes stale on the way stays so
   unfoldable pub settle : State → Settled
-  settle s = check-on (suc (length (c .pins)) * suc (length (c .outputs))) (calm (wires≔ s (refresh-all c (s .wires))))
+  settle s = check-on most-checks (calm (wires≔ s (refresh-all c (s .wires))))
 
   unfoldable pub settle-opened : ℕ
   unfolding calm raise last-value unchanged publish-writes pulse edge detect compared check check-on settle

@@ -60,11 +60,12 @@ pub record Send : Type 0 where
   pub gate : ℕ
   pub row : List Value
 
--- the wires, the small state of each gate, and the events sent in this tick
+-- the wires, the small state of each gate, the events sent in this tick, and how many narrowings of this tick changed their number
 pub record State : Type 0 where
   pub wires : Wires
   pub delays : List Delay
   pub outbox : List Send
+  pub changed : ℕ
 
 -- nothing under way
 unfoldable pub idle : Delay
@@ -117,14 +118,17 @@ unions-passed≔ w x =
     record { tick = w.tick; dt = w.dt; uptime = w.uptime; outs = w.outs; dirty = w.dirty; to-check = w.to-check; queued = w.queued; last = w.last; pulses = w.pulses; written = w.written; unions-passed = x }
 
 unfoldable pub wires≔ : State → Wires → State
-wires≔ s x = record { wires = x; delays = s.delays; outbox = s.outbox }
+wires≔ s x = record { wires = x; delays = s.delays; outbox = s.outbox; changed = s.changed }
 
 unfoldable pub delays≔ : State → List Delay → State
-delays≔ s x = record { wires = s.wires; delays = x; outbox = s.outbox }
+delays≔ s x = record { wires = s.wires; delays = x; outbox = s.outbox; changed = s.changed }
 
 unfoldable pub outbox≔ : State → List Send → State
-outbox≔ s x = record { wires = s.wires; delays = s.delays; outbox = x }
+outbox≔ s x = record { wires = s.wires; delays = s.delays; outbox = x; changed = s.changed }
+
+unfoldable pub changed≔ : State → ℕ → State
+changed≔ s x = record { wires = s.wires; delays = s.delays; outbox = s.outbox; changed = x }
 
 unfoldable pub state-opened : ℕ
-unfolding idle flight≔ fires≔ elapsed≔ records≔ times≔ outs≔ dirty≔ to-check≔ last≔ pulses≔ written≔ unions-passed≔ wires≔ delays≔ outbox≔
+unfolding idle flight≔ fires≔ elapsed≔ records≔ times≔ outs≔ dirty≔ to-check≔ last≔ pulses≔ written≔ unions-passed≔ wires≔ delays≔ outbox≔ changed≔
 state-opened = 0

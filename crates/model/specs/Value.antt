@@ -45,6 +45,10 @@ nearest32 (fin s m e) = round binary32 s (m * up e) (down e)
 unfoldable pub narrow : ℕ → ℕ
 narrow b = toBits binary32 (nearest32 (ofBits binary64 b))
 
+-- Whether narrowing changes the number: the f32 is not equal to the f64. 0.1 becomes another number; 0.5 and -0.0 stay (document 02, K9).
+unfoldable pub narrow-changes : ℕ → Bool
+narrow-changes b = not (eq (ofBits binary32 (narrow b)) (ofBits binary64 b))
+
 -- the f64 nearest to an Int, ties to even
 unfoldable pub of-int : ℤ → ℕ
 of-int z = toBits binary64 (ofInt binary64 z)
@@ -132,5 +136,5 @@ value-of (suc (suc zero)) b = Float b
 value-of (suc (suc (suc k))) b = Truth (not (eqb b 0))
 
 unfoldable pub value-opened : ℕ
-unfolding ofBits toBits add lt le eq round ofInt toSigned plus64 le64 lt64 eq64 plus32 le32 nearest32 narrow of-int to-int truthy bit as-int as-float same kind-of content-of value-of
+unfolding ofBits toBits add lt le eq round ofInt toSigned plus64 le64 lt64 eq64 plus32 le32 nearest32 narrow narrow-changes of-int to-int truthy bit as-int as-float same kind-of content-of value-of
 value-opened = 0

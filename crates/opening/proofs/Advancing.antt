@@ -9,7 +9,7 @@ use borrow.Author.Tests.{eqb-true, eqb-false, ne-eqb}
 use denote.Enum.Declared.{tagOf}
 use types.Run.{OneOf, miss}
 use lib.Dec.{eqb}
-use lib.ListN.{length, getD}
+use lib.ListN.{length}
 use Rattle.schedule.specs.Schedule.{Place, to-late, to-pending}
 use Rattle.lists.specs.declared.Filed.{Filed as Answer}
 use Rattle.lists.specs.declared.Filed.the-variants.{Done}
@@ -19,10 +19,10 @@ use Rattle.model.specs.Base.{if_then_else_, both, each, from}
 use Rattle.model.specs.Value.{value-of, truthy, as-float, bit, one-point-zero}
 use Rattle.model.specs.Circuit.{Circuit, kind-of-gate, input, output, setting}
 use Rattle.model.specs.Questions.{within}
-use Rattle.model.specs.State.{Wires, State, wires≔, delays≔}
+use Rattle.model.specs.State.{Wires, State, wires≔, delays≔, changed≔}
 use Rattle.model.specs.Wires.{look, ready, set-out, set-outs}
 use Rattle.model.specs.Delays.{Moved, moved, advance-flight, advance-fires, advance-records, advance-elapsed, advance-time}
-use Rattle.model.specs.Exec.{delay, delay≔, readied, read, countdown}
+use Rattle.model.specs.Exec.{count-changed, delay, delay≔, readied, read, countdown}
 use Rattle.model.specs.Opening.{Opened, raised-to, fire, enabled, advanced, advance-buffer, advance-clock, advance-timer}
 use Rattle.delays.specs.declared.buffer.Optional.{Optional}
 use Rattle.delays.specs.declared.buffer.Optional.the-variants.{None, Some}
@@ -32,29 +32,29 @@ use Rattle.delays.specs.States.{row-of, stopwatch-moved}
 use Rattle.queue.specs.declared.Released.{Released}
 use Rattle.queue.specs.Queue.{queued, released}
 use Rattle.wires.specs.View.{Values, with-wires}
-use Rattle.states.specs.View.{is-queue, Delays, delay-in, with-delay, delays, Lent, Moves}
+use Rattle.states.specs.View.{is-queue, Delays, delay-in, with-delay, counting, delays, Lent, Moves}
 use Rattle.units.specs.View.{Units}
 use Rattle.areas.specs.Areas.{Contents, together}
 use Rattle.opening.specs.Opening.{unopened, Opens}
 use Rattle.opening.specs.Stages.{Puts, Advances, Moves-on, landing, firing, releasing}
+use Rattle.states.proofs.Lending.{lent-kept}
 use Rattle.opening.proofs.Stages.{puts-none, opens-none, advances-fire}
 
 -- the area stays lent
 pub lent-moved : (c : Circuit) (bs ds : List ℕ) (g n : ℕ) (m : Moved) (row : List Value) → Lent c bs → Moves (delays c bs) (delays c ds) g m row n → length ds ≡ length bs → Lent c ds
-lent-moved c bs ds g n m row l k e =
-    record { room = omega (arith, l .room, e); parted = λ h q. ap (λ (x : Delays). getD (x .parts) h 0) (k .state) ∙ l .parted h q }
+lent-moved c bs ds g n m row l k e = lent-kept c bs ds l e (ap (λ (x : Delays). x .parts) (k .state))
 
 -- a gate moved on, and its row was written to its outputs from q on
 advanced-by :
     (c : Circuit) (v v₁ : Values) (u : Units) (d d₁ : Delays) (p : Place) (g q n : ℕ) (m : Moved) (row : List Value) → Moves d d₁ g m row n →
     v₁ ≡ with-wires v (set-outs c (v .wires) (output c g q) row) →
     Advances (together v u d) (together v₁ u d₁) (advanced c (unopened (together v u d .state)) (together v u d .state) p g q m) p g n
-unfolding advanced unopened wires≔ delay≔ delays≔
+unfolding advanced unopened wires≔ delay≔ delays≔ count-changed changed≔
 advanced-by c v v₁ u d d₁ p g q n m row k e =
     record {
       areas =
           (λ j. together (e j) u (k .state j))
-          ∙ (λ j. together (with-wires v (set-outs c (v .wires) (output c g q) (sym (k .row) j))) u (with-delay d g (m .state)));
+          ∙ (λ j. together (with-wires v (set-outs c (v .wires) (output c g q) (sym (k .row) j))) u (counting (with-delay d g (m .state)) (m .changed)));
       raises =
           λ j. raised-to p (advanced c (unopened (together v u d .state)) (together v u d .state) p g q m .state) (fire (k .fires j) g);
     }
@@ -234,7 +234,7 @@ module _
         ∙ (λ j. with-wires v (ready c (ready c (v .wires) (ei j)) (suc (ei j))))
 
     pub clock-moved : Moves-on v v₂ d d₁ (λ s. advance-clock c (unopened s) g) to-pending g n
-    unfolding advance-clock advanced unopened readied read delay wires≔ delay≔ delays≔
+    unfolding advance-clock advanced unopened readied read delay wires≔ delay≔ delays≔ count-changed changed≔
     clock-moved u =
         let w : Wires = each (ready c) (v .wires) (from (input c g 0) 2) in
         let q : v₂ .wires ≡ w = ap (λ (x : Values). x .wires) clock-values in
@@ -280,7 +280,7 @@ module _
     timer-values = e₁ ∙ (λ j. with-wires v (ready c (v .wires) (ei j)))
 
     pub timer-moved : Moves-on v v₂ d d₁ (λ s. advance-timer c (unopened s) g) to-late g (bit (s .expired))
-    unfolding advance-timer advanced unopened readied read delay wires≔ delay≔ delays≔ stopwatch-moved moved
+    unfolding advance-timer advanced unopened readied read delay wires≔ delay≔ delays≔ count-changed changed≔ stopwatch-moved moved
     timer-moved u =
         let w : Wires = each (ready c) (v .wires) (from (input c g 3) 1) in
         let q : v₁ .wires ≡ w = ap (λ (x : Values). x .wires) timer-values in

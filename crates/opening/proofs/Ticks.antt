@@ -8,15 +8,15 @@ use Rattle.schedule.specs.Schedule.{to-late, to-delivered}
 use Rattle.lists.specs.declared.Filed.{Filed as Answer}
 use Rattle.lists.specs.declared.Filed.the-variants.{Full, Done}
 use Rattle.model.specs.Base.{joined, each, from}
-use Rattle.model.specs.Value.{narrow}
+use Rattle.model.specs.Value.{bit, narrow, narrow-changes}
 use Rattle.model.specs.Circuit.{Circuit}
 use Rattle.model.specs.Script.{Given}
-use Rattle.model.specs.State.{Act, Send, State, wires≔, outbox≔}
+use Rattle.model.specs.State.{Act, Send, State, wires≔, outbox≔, changed≔}
 use Rattle.model.specs.Wires.{invalidate}
 use Rattle.model.specs.Settle.{settle}
 use Rattle.model.specs.Opening.{Opened, raised-to, next-tick, begin-tick, delivered, lower, advance-buffer, advance-clock, advance-timer, open-tick}
 use Rattle.wires.specs.View.{Values, with-wires}
-use Rattle.states.specs.View.{Delays}
+use Rattle.states.specs.View.{Delays, with-changed}
 use Rattle.units.specs.declared.Place.the-variants.{Pending}
 use Rattle.units.specs.View.{Units}
 use Rattle.units.specs.Calls.{reopened as next-units}
@@ -112,30 +112,30 @@ settles c a b r h =
     record { areas = h .0 ∙ (λ j. with-went a (sym q j)); answer = h .1 ∙ (λ j. sym q j .answer) }
 
 module _
-    (c : Circuit) (v v₁ v₂ : Values) (u u₂ : Units) (d d₂ : Delays) (n dt : ℕ) (r : Answer) (t : Bool)
-    (e₁ : v₁ ≡ with-wires v (each (lower c) (v .wires) (from 0 (length (c .outputs))))) (o : Opens c (together v₁ u d) (together v₂ u₂ d₂) r (advanced-all c n (together v₁ u d .state)))
-    (en : n ≡ narrow dt) (e : t ≡ is-full r)
+    (c : Circuit) (v v₁ v₂ : Values) (u u₂ : Units) (d d₂ : Delays) (dt : ℕ) (r : Answer) (t : Bool)
+    (e₁ : v₁ ≡ with-wires v (each (lower c) (v .wires) (from 0 (length (c .outputs))))) (o : Opens c (together v₁ u d) (together v₂ u₂ d₂) r (advanced-all c dt (together v₁ u d .state)))
+    (e : t ≡ is-full r)
   where
     lowers : together v₁ u d ≡ with-state (together v u d) (lowered c (together v u d .state))
     unfolding lowered wires≔
     lowers = λ j. together (e₁ j) u d
 
-    moved-on : Opens c (together v u d) (together v₂ u₂ d₂) r (advanced-all c (narrow dt) (lowered c (together v u d .state)))
+    moved-on : Opens c (together v u d) (together v₂ u₂ d₂) r (advanced-all c dt (lowered c (together v u d .state)))
     moved-on =
-        subst (λ (z : Opened). Opens c (together v u d) (together v₂ u₂ d₂) r z) (λ j. advanced-all c (en j) (lowers j .state))
-        (opens-from c (together v u d) (together v₁ u d) (together v₂ u₂ d₂) (lowered c (together v u d .state)) r (advanced-all c n (together v₁ u d .state)) lowers o)
+        subst (λ (z : Opened). Opens c (together v u d) (together v₂ u₂ d₂) r z) (λ j. advanced-all c dt (lowers j .state))
+        (opens-from c (together v u d) (together v₁ u d) (together v₂ u₂ d₂) (lowered c (together v u d .state)) r (advanced-all c dt (together v₁ u d .state)) lowers o)
 
-    pub advance-stops : t ≡ true → Opens c (together v u d) (together v₂ u₂ d₂) Full (finished c (advanced-all c (narrow dt) (lowered c (together v u d .state))))
+    pub advance-stops : t ≡ true → Opens c (together v u d) (together v₂ u₂ d₂) Full (finished c (advanced-all c dt (lowered c (together v u d .state))))
     unfolding finished
     advance-stops i = opens-full c (together v u d) (together v₂ u₂ d₂) _ _ (full-opens c (together v u d) (together v₂ u₂ d₂) r _ t e i moved-on)
 
     pub finishes : (v₃ : Values) (b : Contents) (r₂ : Answer) → t ≡ false → v₃ ≡ with-wires v₂ (each (invalidate c) (v₂ .wires) (c .time-sources)) →
         (b ≡ with-went (together v₃ u₂ d₂) (filed-into c Pending (settle c (together v₃ u₂ d₂ .state)) (together v₃ u₂ d₂ .lists)))
         × (r₂ ≡ filed-into c Pending (settle c (together v₃ u₂ d₂ .state)) (together v₃ u₂ d₂ .lists) .answer) →
-        Opens c (together v u d) b r₂ (finished c (advanced-all c (narrow dt) (lowered c (together v u d .state))))
+        Opens c (together v u d) b r₂ (finished c (advanced-all c dt (lowered c (together v u d .state))))
     unfolding finished settled-after wires≔
     finishes v₃ b r₂ i e₃ h =
-        let z : Opened = advanced-all c (narrow dt) (lowered c (together v u d .state)) in
+        let z : Opened = advanced-all c dt (lowered c (together v u d .state)) in
         let o′ : Opens c (together v u d) (together v₂ u₂ d₂) Done z = done-opens c (together v u d) (together v₂ u₂ d₂) r z t e i moved-on in
         let stale : State = wires≔ (together v₂ u₂ d₂ .state) (each (invalidate c) (v₂ .wires) (c .time-sources)) in
         let q : together v₃ u₂ d₂ ≡ with-state (together v₂ u₂ d₂) stale = λ j. together (e₃ j) u₂ d₂ in
@@ -151,10 +151,12 @@ module _
 -- ---- the whole
 
 pub tick-begins :
-    (c : Circuit) (v v₁ : Values) (u u₁ : Units) (dt : ℕ) → u₁ ≡ next-units c u → v₁ ≡ with-wires v (next-tick (v .wires) dt) → (d : Delays) →
-    together v₁ u₁ d ≡ with-state (reopened c (together v u d)) (begin-tick (together v u d .state) dt)
-unfolding reopened next-units begin-tick wires≔ outbox≔
-tick-begins c v v₁ u u₁ dt eu ev d = λ j. together (ev j) (eu j) d
+    (c : Circuit) (v v₁ : Values) (u u₁ : Units) (d d₁ : Delays) (dt : ℕ) (changed : Bool) → u₁ ≡ next-units c u → v₁ ≡ with-wires v (next-tick (v .wires) dt) →
+    d₁ ≡ with-changed d (bit changed) → changed ≡ narrow-changes dt → together v₁ u₁ d₁ ≡ with-state (reopened c (together v u d)) (begin-tick (together v u d .state) dt)
+unfolding reopened next-units begin-tick wires≔ outbox≔ changed≔
+tick-begins c v v₁ u u₁ d d₁ dt changed eu ev ed en =
+    let e : d₁ ≡ with-changed d (bit (narrow-changes dt)) = ed ∙ ap (λ (b : Bool). with-changed d (bit b)) en in
+    λ j. together (ev j) (eu j) (e j)
 
 -- the definition, in these stages
 open-stages :
@@ -199,15 +201,16 @@ module _
         in
         (k .areas, k .answer)
 
-    pub opens-all : (y : Contents) (r₂ : Answer) → t ≡ false → Opens c x y r₂ (finished c (advanced-all c (narrow (given .dt)) (lowered c (x .state)))) →
+    pub opens-all : (y : Contents) (r₂ : Answer) (length : ℕ) → length ≡ narrow (given .dt) → t ≡ false → Opens c x y r₂ (finished c (advanced-all c length (lowered c (x .state)))) →
         (y ≡ with-went (reopened c a) (opened c a given)) × (r₂ ≡ opened c a given .answer)
     unfolding opened arrived
-    opens-all y r₂ i p =
+    opens-all y r₂ length en i p =
         let z : Opened = arrived c (begin-tick (a .state) (given .dt)) (a .state .outbox) (given .stimuli) in
         let o′ : Opens c (reopened c a) x Done z = done-opens c (reopened c a) x r z t e i came in
         let k : Opens c (reopened c a) y r₂ (open-tick c (a .state) given) =
         subst (λ (w : Opened). Opens c (reopened c a) y r₂ w) (sym (open-stages c (a .state) given))
         (opens-next c (reopened c a) x y r₂ z _ o′
-        (subst (λ (s : State). Opens c x y r₂ (finished c (advanced-all c (narrow (given .dt)) (lowered c s)))) (opens-state c (reopened c a) x z o′) p))
+        (subst (λ (s : State). Opens c x y r₂ (finished c (advanced-all c (narrow (given .dt)) (lowered c s)))) (opens-state c (reopened c a) x z o′)
+        (subst (λ (n : ℕ). Opens c x y r₂ (finished c (advanced-all c n (lowered c (x .state))))) en p)))
         in
         (k .areas, k .answer)

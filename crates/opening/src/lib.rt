@@ -7,7 +7,7 @@ ghost use Rattle.links.specs.Lent.{Linked, Room};
 ghost use Rattle.wires.specs.Lent.{Tick-fits};
 ghost use Rattle.states.specs.Lent.{Slots, Slots-stay};
 ghost use Rattle.areas.specs.Areas.{with-state};
-ghost use Rattle.areas.specs.Lent.{Over-all, Over-units, Over-values-units, Goes, All-lent};
+ghost use Rattle.areas.specs.Lent.{Over-all, Over-units, Goes, All-lent};
 ghost use Rattle.opening.specs.Opening.{Opens, stimuli-of, reopened, opened};
 ghost use Rattle.opening.specs.Stages.{arrived, lowered, advanced-all, finished};
 ghost use Rattle.opening.specs.Lent.{given-at};
@@ -20,6 +20,7 @@ use crate::moving::advance_timers;
 use floats::narrowing::narrow;
 use lists::Filed;
 use settling::settle;
+use states::counting::begin_count;
 use units::Place;
 use wires;
 use wires::marking::invalidate_all;
@@ -28,13 +29,23 @@ use wires::pulses::lower_all;
 mod filing;
 mod moving;
 
-// The next tick begins, of this length: what was carried is late, and what was sent is to be delivered.
-fn begin_tick(links: &[usize], values: &mut [u8], units: &mut [u8], dt: u64)
-    requires { ⌜ Linked links × Room values × Room units × Tick-fits links values ⌝ }
-    ensures { λ _. ⌜ Over-values-units links values units (λ c old new. new ≡ with-state (reopened c old) (begin-tick (old .state) dt)) ⌝ }
+// The next tick begins, of this length, which is narrowed here and counted: what was carried is late, and what was sent is to be delivered. The length as f32 bits.
+fn begin_tick(
+    links: &[usize],
+    values: &mut [u8],
+    units: &mut [u8],
+    delays: &mut [u8],
+    dt: u64,
+) -> u32
+    requires { ⌜ All-lent links values units delays × Tick-fits links values ⌝ }
+    ensures { λ _. ⌜ Over-all links values units delays (λ c old new. new ≡ with-state (reopened c old) (begin-tick (old .state) dt)) ⌝ }
+    ensures { λ r. ⌜ (r ≡ narrow dt) × Slots-stay links delays ⌝ }
 {
+    let length = narrow(dt);
     units::raising::next_tick(links, units);
     wires::ticks::next_tick(links, values, dt);
+    begin_count(links, delays, length.changed);
+    length.bits
 }
 
 // The events of the tick before are delivered, then the stimuli come.
@@ -79,14 +90,14 @@ fn advance(
     advance_timers(links, values, units, delays)
 }
 
-// Ended pulses fall, gates move on, time sources become stale, and what waits is settled.
-fn finish(links: &[usize], values: &mut [u8], units: &mut [u8], delays: &mut [u8], dt: u64) -> Filed
+// Ended pulses fall, gates move on, time sources become stale, and what waits is settled; dt is the tick's length in f32 bits.
+fn finish(links: &[usize], values: &mut [u8], units: &mut [u8], delays: &mut [u8], dt: u32) -> Filed
     requires { ⌜ All-lent links values units delays ⌝ }
-    ensures { λ r. ⌜ Over-all links values units delays (λ c old new. Opens c old new r (finished c (advanced-all c (narrow dt) (lowered c (old .state))))) ⌝ }
+    ensures { λ r. ⌜ Over-all links values units delays (λ c old new. Opens c old new r (finished c (advanced-all c dt (lowered c (old .state))))) ⌝ }
     ensures { λ _. ⌜ Slots-stay links delays ⌝ }
 {
     lower_all(links, values);
-    let r = advance(links, values, units, delays, narrow(dt));
+    let r = advance(links, values, units, delays, dt);
     if is_full(r) {
         return Filed::Full;
     }
@@ -110,10 +121,10 @@ pub fn open(
     ensures { λ r. ⌜ Over-all links values units delays (λ c old new. Goes (reopened c old) new r (opened c old (given-at c (was script) dt «gates_at» «constants_at» n))) ⌝ }
     ensures { λ _. ⌜ Slots-stay links delays ⌝ }
 {
-    begin_tick(links, values, units, dt);
+    let length = begin_tick(links, values, units, delays, dt);
     let r = arrive(links, units, script, gates_at, constants_at, n);
     if is_full(r) {
         return Filed::Full;
     }
-    finish(links, values, units, delays, dt)
+    finish(links, values, units, delays, length)
 }

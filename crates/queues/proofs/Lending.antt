@@ -20,16 +20,16 @@ use Rattle.model.specs.Base.{if_then_else_, both}
 use Rattle.model.specs.Value.{value-of, as-int, as-float}
 use Rattle.model.specs.Circuit.{Circuit, part, kind-of-gate}
 use Rattle.model.specs.Questions.{queues}
-use Rattle.model.specs.State.{Countdown, Delay, Queued, idle, records≔}
-use Rattle.model.specs.Delays.{Moved, moved, in-ticks, in-seconds, queue-record, advance-records}
-use Rattle.delays.specs.States.{counted, counts-seconds}
-use Rattle.queue.specs.declared.Record.{Record}
+use Rattle.model.specs.State.{Delay, Queued, idle, records≔}
+use Rattle.model.specs.Delays.{Started, Moved, moved, in-ticks, in-seconds, queue-record, advance-records}
+use Rattle.delays.specs.declared.countdown.Started.{Started as Starting}
+use Rattle.delays.specs.States.{counted, started, counts-seconds}
 use Rattle.queue.specs.declared.Released.{Released}
-use Rattle.queue.specs.Queue.{queued, released, records}
+use Rattle.queue.specs.Queue.{released, records}
 use Rattle.queue.proofs.Laws.{moved-in, advance-in, queue-record-in}
-use Rattle.states.specs.View.{slot-at, queue-at, delay-of, is-queue, number, queue-countdown, records-at, delay-at, delay-in, with-delay, delays, Lent, Moves}
+use Rattle.states.specs.View.{slot-at, changed-at, queue-at, delay-of, is-queue, number, queue-countdown, records-at, delay-at, Delays, delay-in, with-delay, counting, starting, delays, Lent, Moves}
 use Rattle.states.proofs.Lists.{part-front, part-before, part-behind, drop-behind, Replaced, replaced}
-use Rattle.states.proofs.Lending.{changed, delay-here}
+use Rattle.states.proofs.Lending.{one-changed, delay-here, still}
 use Rattle.links.specs.Links.{net}
 use Rattle.queues.proofs.Numbers.{number-below, number-rises, queue-there, gates-few}
 
@@ -56,9 +56,9 @@ module _ (c : Circuit) (bs p : List ℕ) (g : ℕ) (l : Lent c bs) (iq : is-queu
       rw (words-put (queue-at (number c g)) 4354 bs p (omega (arith, l .room, number-below c g iq)) e)
       (replaced (words bs) (words p) (queue-at (number c g)) 4354 (omega (arith, words-long (queue-at (number c g) + 4354) bs (omega (arith, l .room, number-below c g iq)))) (length-words 4354 p e))
 
-  -- the table of parts is the same
-  same-part : (h : ℕ) → h < 64 → getD (words to) h 0 ≡ getD (words bs) h 0
-  same-part h u =
+  -- the table of parts and the count are the same
+  same-word : (h : ℕ) → h < queue-at 0 → getD (words to) h 0 ≡ getD (words bs) h 0
+  same-word h u =
       sym (getD-take (queue-at (number c g)) (words to) h 0 (omega arith)) ∙ ap (λ (t : List ℕ). getD t h 0) (part-back .before) ∙ getD-take (queue-at (number c g)) (words bs) h 0 (omega arith)
 
   -- and so is each slot
@@ -85,7 +85,7 @@ module _ (c : Circuit) (bs p : List ℕ) (g : ℕ) (l : Lent c bs) (iq : is-queu
           ≡ (if b then records (eqb (kind-of-gate c h) 17) (part (words bs) (queue-at (getD (words bs) h 0)) 4354) else [])
       go true ih =
           ap (records (eqb (kind-of-gate c h) 17))
-          (ap (λ (i : ℕ). part (words to) (queue-at i) 4354) (same-part h u ∙ part-number c bs h l m ih) ∙ other-part h ih d
+          (ap (λ (i : ℕ). part (words to) (queue-at i) 4354) (same-word h (omega arith) ∙ part-number c bs h l m ih) ∙ other-part h ih d
           ∙ ap (λ (i : ℕ). part (words bs) (queue-at i) 4354) (sym (part-number c bs h l m ih)))
       go false ih = refl
 
@@ -95,14 +95,15 @@ module _ (c : Circuit) (bs p : List ℕ) (g : ℕ) (l : Lent c bs) (iq : is-queu
   own-records =
       rw iq
       (ap (records (eqb (kind-of-gate c g) 17))
-      (ap (λ (i : ℕ). part (words to) (queue-at i) 4354) (same-part g (omega (arith, queue-there c g iq)) ∙ part-number c bs g l m iq) ∙ part-back .here))
+      (ap (λ (i : ℕ). part (words to) (queue-at i) 4354) (same-word g (omega (arith, queue-there c g iq)) ∙ part-number c bs g l m iq) ∙ part-back .here))
 
   lent-part : delays c to ≡ with-delay (delays c bs) g (records≔ (delay-in (delays c bs) g) (records (eqb (kind-of-gate c g) 17) (words p)))
   unfolding delay-at delay-of records≔
   lent-part =
       let k : g < length (c .kinds) = queue-there c g iq in
-      changed c bs to g (records≔ (delay-in (delays c bs) g) (records (eqb (kind-of-gate c g) 17) (words p)))
+      one-changed c bs to g (records≔ (delay-in (delays c bs) g) (records (eqb (kind-of-gate c g) 17) (words p)))
       (part-front (queue-at (number c g)) 64 (words bs) (words to) (omega arith) (part-back .before))
+      (same-word changed-at (omega arith))
       (drop-behind (queue-at (number c g) + 4354) (queue-at (queues c)) (words bs) (words to) (omega (arith, number-below c g iq)) (part-back .behind))
       (back-tail)
       (ap₂ (delay-of (leb 12 (kind-of-gate c g))) (same-slot g (omega arith)) own-records ∙ ap (λ (d : Delay). records≔ d (records (eqb (kind-of-gate c g) 17) (words p))) (sym (delay-here c bs g k)))
@@ -113,16 +114,16 @@ module _ (c : Circuit) (bs p : List ℕ) (g : ℕ) (l : Lent c bs) (iq : is-queu
 
 -- ---- a new record's countdown
 
-pub countdown-seconds : (s : Bool) (v : Value) (w : ℕ) (k : Countdown) → s ≡ true → w ≡ as-float 0 v → k ≡ in-seconds w → k ≡ queue-countdown s v
+pub countdown-seconds : (s : Bool) (v : Value) (w : ℕ) (k : Started) → s ≡ true → w ≡ as-float 0 v → k ≡ in-seconds w → k ≡ queue-countdown s v
 unfolding queue-countdown if_then_else_
 countdown-seconds s v w k es ew ek = rw es (ek ∙ ap in-seconds ew)
 
-pub countdown-ticks : (s : Bool) (v : Value) (x : ℤ) (k : Countdown) → SFits w64 x → s ≡ false → x ≡ as-int (pos 0) v → k ≡ in-ticks (toZ w64 (ofZ w64 x)) → k ≡ queue-countdown s v
+pub countdown-ticks : (s : Bool) (v : Value) (x : ℤ) (k : Started) → SFits w64 x → s ≡ false → x ≡ as-int (pos 0) v → k ≡ in-ticks (toZ w64 (ofZ w64 x)) → k ≡ queue-countdown s v
 unfolding queue-countdown if_then_else_
 countdown-ticks s v x k f es ex ek = rw es (ek ∙ ap in-ticks (toZ-ofZ f ∙ ex))
 
 -- it counts seconds or ticks
-countdown-kind : (s : Bool) (v : Value) → counts-seconds (queue-countdown s v) ≡ s
+countdown-kind : (s : Bool) (v : Value) → counts-seconds (queue-countdown s v .left) ≡ s
 unfolding queue-countdown if_then_else_ counts-seconds in-seconds in-ticks
 countdown-kind true v = refl
 countdown-kind false v = refl
@@ -152,23 +153,23 @@ module _ (c : Circuit) (bs p : List ℕ) (g x a e : ℕ) (l : Lent c bs) (m : le
       ∙ rw iq (ap (λ (i : ℕ). records (eqb (kind-of-gate c g) 17) (part (words bs) (queue-at i) 4354)) (sym ex) ∙ ap (records (eqb (kind-of-gate c g) 17)) (sym lent-words))
 
   pub record-queue :
-      (y : ℕ) (r : Record) (wait : Value) → y ≡ kind-of-gate c g → counted (r .left) ≡ queue-countdown (eqb y 17) wait →
-      records (counts-seconds (counted (r .left))) (words p)
-      ≡ queue-record (records≔ idle (records (counts-seconds (counted (r .left))) (words (take (e - a) (drop a bs))))) (queued r .row) (queued r .left) .records →
-      delays c (putMid a (e - a) bs p)
-      ≡ with-delay (delays c bs) g (queue-record (delay-in (delays c bs) g) (both value-of (r .kinds) (r .contents)) (queue-countdown (eqb (kind-of-gate c g) 17) wait))
-  unfolding queued
-  record-queue y r wait ey el h =
-      let ks = r .kinds in
-      let cs = r .contents in
-      let k : counted (r .left) ≡ queue-countdown (eqb (kind-of-gate c g) 17) wait = el ∙ ap (λ (i : ℕ). queue-countdown (eqb i 17) wait) ey in
-      let s : counts-seconds (counted (r .left)) ≡ eqb (kind-of-gate c g) 17 = ap counts-seconds k ∙ countdown-kind (eqb (kind-of-gate c g) 17) wait in
+      (fs : List ℕ) (y : ℕ) (ks cs : List ℕ) (j : Starting) (wait : Value) → y ≡ kind-of-gate c g → started j ≡ queue-countdown (eqb y 17) wait →
+      records (counts-seconds (counted (j .left))) (words p)
+      ≡ queue-record (records≔ idle (records (counts-seconds (counted (j .left))) (words (take (e - a) (drop a bs))))) (both value-of ks cs) (counted (j .left)) .records →
+      delays c fs ≡ counting (delays c (putMid a (e - a) bs p)) (j .changed) →
+      delays c fs ≡ starting (delays c bs) g (λ d left. queue-record d (both value-of ks cs) left) (queue-countdown (eqb (kind-of-gate c g) 17) wait)
+  unfolding started
+  record-queue fs y ks cs j wait ey el h et =
+      let left = counted (j .left) in
+      let k : started j ≡ queue-countdown (eqb (kind-of-gate c g) 17) wait = el ∙ ap (λ (i : ℕ). queue-countdown (eqb i 17) wait) ey in
+      let s : counts-seconds left ≡ eqb (kind-of-gate c g) 17 = ap (λ (x : Started). counts-seconds (x .left)) k ∙ countdown-kind (eqb (kind-of-gate c g) 17) wait in
       let d = delay-in (delays c bs) g in
-      let q : records (eqb (kind-of-gate c g) 17) (words p) ≡ queue-record (records≔ idle (d .records)) (both value-of ks cs) (queue-countdown (eqb (kind-of-gate c g) 17) wait) .records =
+      let q : records (eqb (kind-of-gate c g) 17) (words p) ≡ queue-record (records≔ idle (d .records)) (both value-of ks cs) left .records =
       ap (λ (b : Bool). records b (words p)) (sym s) ∙ h
-      ∙ ap₂ (λ (b : Bool) (j : Countdown). queue-record (records≔ idle (records b (words (take (e - a) (drop a bs))))) (both value-of ks cs) j .records) s k
-      ∙ ap (λ (qs : List Queued). queue-record (records≔ idle qs) (both value-of ks cs) (queue-countdown (eqb (kind-of-gate c g) 17) wait) .records) (sym own) in
-      back ∙ ap (with-delay (delays c bs) g) (ap (records≔ d) q ∙ sym (queue-record-in d (both value-of ks cs) (queue-countdown (eqb (kind-of-gate c g) 17) wait)))
+      ∙ ap (λ (b : Bool). queue-record (records≔ idle (records b (words (take (e - a) (drop a bs))))) (both value-of ks cs) left .records) s
+      ∙ ap (λ (qs : List Queued). queue-record (records≔ idle qs) (both value-of ks cs) left .records) (sym own) in
+      let w = back ∙ ap (with-delay (delays c bs) g) (ap (records≔ d) q ∙ sym (queue-record-in d (both value-of ks cs) left)) in
+      et ∙ ap (λ (x : Delays). counting x (j .changed)) w ∙ ap (starting (delays c bs) g (λ d left. queue-record d (both value-of ks cs) left)) k
 
   pub advance-queue :
       (y dt : ℕ) (r : Released) → y ≡ kind-of-gate c g →
@@ -183,7 +184,7 @@ module _ (c : Circuit) (bs p : List ℕ) (g x a e : ℕ) (l : Lent c bs) (m : le
       ∙ ap (λ (qs : List Queued). advance-records dt (records≔ idle qs)) (sym own) in
       let q : advance-records dt d ≡ moved-in d (released r (records (eqb (kind-of-gate c g) 17) (words p))) = advance-in dt d ∙ ap (moved-in d) (sym k) in
       record {
-        state = back ∙ ap (λ (o : Moved). with-delay (delays c bs) g (o .state)) (sym q);
+        state = back ∙ still _ ∙ ap (λ (o : Moved). counting (with-delay (delays c bs) g (o .state)) (o .changed)) (sym q);
         row = ap (λ (o : Moved). o .row) q;
         fires = ap (λ (o : Moved). o .fires) q;
       }

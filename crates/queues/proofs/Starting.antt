@@ -18,7 +18,7 @@ use Rattle.model.specs.State.{Queued, idle}
 use Rattle.delays.specs.States.{under-way, ring}
 use Rattle.queue.specs.Queue.{records}
 use Rattle.queue.proofs.Laws.{records-none}
-use Rattle.states.specs.View.{slot-at, queue-at, flight-in, later-in, fires-in, delay-of, is-queue, number, records-at, delay-at, delays, Lent}
+use Rattle.states.specs.View.{slot-at, changed-at, queue-at, flight-in, later-in, fires-in, delay-of, is-queue, number, records-at, delay-at, delays, Lent}
 use Rattle.states.proofs.Lists.{drop-behind}
 use Rattle.model.specs.Questions.{within}
 use Rattle.queues.specs.Start.{Cleared, given, next-part, Numbered}
@@ -29,20 +29,20 @@ use Rattle.queues.proofs.Numbers.{number-below, number-rises, number-fi
 pub cleared-first : (ws : List ℕ) → Cleared 0 ws ws
 cleared-first ws = record { zero = λ i h. absurd (omega arith); behind = refl }
 
-pub cleared-next : (k : ℕ) (ws bs to : List ℕ) → 22528 ≤ length bs → k < 2816 → Cleared k ws (words bs) → to ≡ set (words bs) k 0 → Cleared (k + 1) ws to
+pub cleared-next : (k : ℕ) (ws bs to : List ℕ) → queue-at 0 * 8 ≤ length bs → k < queue-at 0 → Cleared k ws (words bs) → to ≡ set (words bs) k 0 → Cleared (k + 1) ws to
 cleared-next k ws bs to l h c e =
     record {
       zero = λ i u. ap (λ (t : List ℕ). getD t i 0) e ∙ go i u (eqb i k) refl;
-      behind = ap (drop 2816) e ∙ drop-set-lt 2816 (words bs) k 0 h ∙ c .behind;
+      behind = ap (drop (queue-at 0)) e ∙ drop-set-lt (queue-at 0) (words bs) k 0 h ∙ c .behind;
     }
   where
     go : (i : ℕ) → i < k + 1 → (b : Bool) → eqb i k ≡ b → getD (set (words bs) k 0) i 0 ≡ 0
     go i u true q =
         let z : i ≡ k = eqb-true i k q in
-        ap (λ (j : ℕ). getD (set (words bs) k 0) j 0) z ∙ getD-set-same (words bs) k 0 0 (omega (arith, words-long 2816 bs l))
+        ap (λ (j : ℕ). getD (set (words bs) k 0) j 0) z ∙ getD-set-same (words bs) k 0 0 (omega (arith, words-long (queue-at 0) bs l))
     go i u false q = let z : (i ≡ k → ⊥) = eqb-false i k q in getD-set-other (words bs) k i 0 0 z ∙ c .zero i (omega (arith, z))
 
-pub cleared-last : (k : ℕ) (ws to : List ℕ) → 2816 ≤ k → Cleared k ws to → Cleared 2816 ws to
+pub cleared-last : (k : ℕ) (ws to : List ℕ) → queue-at 0 ≤ k → Cleared k ws to → Cleared (queue-at 0) ws to
 cleared-last k ws to h c = record { zero = λ i u. c .zero i (omega arith); behind = c .behind }
 
 -- ---- a gate gets its part
@@ -174,7 +174,7 @@ idle-slot : (s : Bool) (ws : List ℕ) (qs : List Queued) → getD ws 0 0 ≡ 0 
 unfolding delay-of flight-in later-in fires-in under-way ring idle if_then_else_
 idle-slot s ws qs e₀ e₁ e₂ e₆ e₁₀ eq = rw (e₀, e₁, e₂, e₆, e₁₀, eq)
 
-module _ (c : Circuit) (bs ds es : List ℕ) (l : queue-at (queues c) * 8 ≤ length bs) (e : length es ≡ length bs) (m : length (c .kinds) ≤ 64) (z : Cleared 2816 (words bs) (words ds))
+module _ (c : Circuit) (bs ds es : List ℕ) (l : queue-at (queues c) * 8 ≤ length bs) (e : length es ≡ length bs) (m : length (c .kinds) ≤ 64) (z : Cleared (queue-at 0) (words bs) (words ds))
     (k : Numbered c (length (c .kinds)) (words ds) (words es)) where
   no-records : (h : ℕ) → h < length (c .kinds) → records-at c (words es) h ≡ []
   unfolding records-at if_then_else_
@@ -200,11 +200,13 @@ module _ (c : Circuit) (bs ds es : List ℕ) (l : queue-at (queues c) * 8 ≤ le
         parted = λ g q. let u : g < length (c .kinds) = queue-there c g q in getD-take 64 (words es) g 0 (omega arith) ∙ k .parts g u q;
       }
 
-  pub started : tail ds ≡ tail bs → tail es ≡ tail ds → (delays c es .delays ≡ replicate (length (c .kinds)) idle) × (delays c es .rest ≡ delays c bs .rest) × Lent c es
+  pub started : tail ds ≡ tail bs → tail es ≡ tail ds
+      → (delays c es .delays ≡ replicate (length (c .kinds)) idle) × (delays c es .changed ≡ 0) × (delays c es .rest ≡ delays c bs .rest) × Lent c es
   unfolding delays gates
   started t₁ t₂ = (
     from-replicate (delay-at c (words es)) 0 (length (c .kinds)) idle (λ j u v. idle-at j (omega arith)),
-    ap₂ (λ (r t : List ℕ). r ++ t) (k .rest ∙ drop-behind 2816 (queue-at (queues c)) (words bs) (words ds) (omega arith) (z .behind)) (t₂ ∙ t₁),
+    k .slots changed-at (omega arith) (omega arith) ∙ z .zero changed-at (omega arith),
+    ap₂ (λ (r t : List ℕ). r ++ t) (k .rest ∙ drop-behind (queue-at 0) (queue-at (queues c)) (words bs) (words ds) (omega arith) (z .behind)) (t₂ ∙ t₁),
     lent-start,
   )
 

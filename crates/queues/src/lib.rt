@@ -2,7 +2,7 @@
 ghost use mathlib.Core.Path.{_≡_};
 ghost use mathlib.Core.Bool.{true};
 ghost use mathlib.Core.List.{[]};
-ghost use Prim.Native.Nat.{_*_, _≤_};
+ghost use Prim.Native.Nat.{_≤_};
 ghost use lib.Dec.{eqb};
 ghost use lib.ListN.{length, replicate};
 ghost use Rattle.words.specs.Slices.{was, is, Same-tail};
@@ -11,14 +11,14 @@ ghost use Rattle.model.specs.Value.{value-of};
 ghost use Rattle.model.specs.Circuit.{kind-of-gate};
 ghost use Rattle.model.specs.State.{idle};
 ghost use Rattle.model.specs.Delays.{queue-record, advance-records};
-ghost use Rattle.delays.specs.States.{counted};
+ghost use Rattle.delays.specs.States.{started};
 ghost use Rattle.queue.specs.Queue.{released};
 ghost use Rattle.links.specs.Links.{net};
 ghost use Rattle.links.specs.Lent.{Linked, net-of};
-ghost use Rattle.states.specs.View.{delay-in, with-delay, is-queue, queue-at, queue-countdown, Moves};
-ghost use Rattle.states.specs.Lent.{Parts, Slots, Slots-stay, Delays-change};
+ghost use Rattle.states.specs.View.{delay-in, starting, is-queue, queue-at, queue-countdown, Moves};
+ghost use Rattle.states.specs.Lent.{Slots-fit, Parts, Slots, Slots-stay, Delays-change};
 ghost use Rattle.queues.specs.Start.{Cleared, given, next-part, Numbered};
-use delays::countdown::Countdown;
+use delays::countdown::Started;
 use delays::countdown::in_seconds;
 use delays::countdown::in_ticks;
 use kinds::numbers::QUEUE_IN_SECONDS;
@@ -32,6 +32,7 @@ use queue::Record;
 use queue::Released;
 use queue::advance;
 use queue::push;
+use states::counting::count_changed;
 use states::slots::PARTS;
 use value::as_float;
 use value::as_int;
@@ -40,8 +41,8 @@ use words::put;
 use words::write;
 
 // The countdown that a record starts by its wait.
-fn countdown(seconds: bool, wait: Value) -> Countdown
-    ensures { λ r. ⌜ counted r ≡ queue-countdown seconds wait ⌝ }
+fn countdown(seconds: bool, wait: Value) -> Started
+    ensures { λ r. ⌜ started r ≡ queue-countdown seconds wait ⌝ }
 {
     if seconds {
         in_seconds(as_float(wait, 0))
@@ -60,9 +61,10 @@ pub fn queue_record(
     wait: Value,
 )
     requires { ⌜ Linked links × Slots links delays × (is-queue (net (now links)) g ≡ true) ⌝ }
-    ensures { λ _. ⌜ Delays-change links delays (λ c old new. new ≡ with-delay old g (queue-record (delay-in old g) (both value-of kinds contents) (queue-countdown (eqb (kind-of-gate c g) 17) wait))) ⌝ }
+    ensures { λ _. ⌜ Delays-change links delays (λ c old new. new ≡ starting old g (λ d left. queue-record d (both value-of kinds contents) left) (queue-countdown (eqb (kind-of-gate c g) 17) wait)) ⌝ }
 {
-    let left = countdown(kind_of_gate(links, g) == QUEUE_IN_SECONDS, wait);
+    let k = countdown(kind_of_gate(links, g) == QUEUE_IN_SECONDS, wait);
+    let left = k.left;
     let r = Record {
         kinds,
         contents,
@@ -72,6 +74,7 @@ pub fn queue_record(
     let a = (PARTS + PART * p) * 8;
     let e = a + PART_BYTES;
     push(&mut delays[a..e], r);
+    count_changed(links, delays, k.changed);
 }
 
 // Queue g moves on by a tick of the length dt in f32 bits: the front record, if it is due.
@@ -88,9 +91,9 @@ pub fn queue_advance(links: &[usize], delays: &mut [u8], g: usize, dt: u32) -> R
 
 // ---- the start
 
-// The table of parts and the slots are cleared.
+// The table of parts, the slots and the count are cleared.
 fn clear(delays: &mut [u8])
-    requires { ⌜ queue-at 0 * 8 ≤ length (now delays) ⌝ }
+    requires { ⌜ Slots-fit delays ⌝ }
     ensures { λ _. ⌜ Cleared (queue-at 0) (was delays) (is delays) × Same-tail delays ⌝ }
 {
     let mut k: usize = 0;
@@ -134,7 +137,7 @@ fn give_parts(links: &[usize], delays: &mut [u8])
 // The small states at the start of a run, whatever the area held.
 pub fn start(links: &[usize], delays: &mut [u8])
     requires { ⌜ Linked links × Parts links delays ⌝ }
-    ensures { λ _. ⌜ Delays-change links delays (λ c old new. (new .delays ≡ replicate (length (c .kinds)) idle) × (new .rest ≡ old .rest) × Slots-stay links delays) ⌝ }
+    ensures { λ _. ⌜ Delays-change links delays (λ c old new. (new .delays ≡ replicate (length (c .kinds)) idle) × (new .changed ≡ 0) × (new .rest ≡ old .rest) × Slots-stay links delays) ⌝ }
 {
     clear(delays);
     give_parts(links, delays);

@@ -12,9 +12,10 @@ use Rattle.schedule.proofs.Members.{all-append}
 use Rattle.model.specs.declared.Value.{Value}
 use Rattle.model.specs.Circuit.{Circuit, gate-at-input}
 use Rattle.model.specs.Script.{Given}
-use Rattle.model.specs.State.{Wires, State, Countdown, Delay, Act, Send, outs≔, dirty≔, to-check≔, times≔, last≔, pulses≔, written≔, unions-passed≔, wires≔, delays≔, outbox≔}
+use Rattle.model.specs.State.{Wires, State, Delay, Act, Send, outs≔, dirty≔, to-check≔, times≔, last≔, pulses≔, written≔, unions-passed≔, wires≔, delays≔, outbox≔, changed≔}
 use Rattle.model.specs.Wires.{show, soil, clean, watch, recompute, refresh-all, ready, mark-readers, invalidate, set-out, set-outs}
-use Rattle.model.specs.Exec.{Stepped, fires-next, ends, delay≔, set-output, readied, record-write, exec-Buffer, exec-Stopwatch, exec-Queue, exec-VarGet, exec-VarSet, exec-Branch, exec-Union, exec-Toggle, exec-Cycle, exec-SendEvent, exec-kind, exec-gate}
+use Rattle.model.specs.Delays.{Started}
+use Rattle.model.specs.Exec.{count-changed, Stepped, fires-next, ends, delay≔, set-output, readied, record-write, exec-Buffer, exec-Stopwatch, exec-Queue, exec-VarGet, exec-VarSet, exec-Branch, exec-Union, exec-Toggle, exec-Cycle, exec-SendEvent, exec-kind, exec-gate}
 use Rattle.model.specs.Chain.{Calls, Chained, run-chain}
 use Rattle.model.specs.Settle.{Settled, calm, raise, publish-writes, pulse, compared, check, check-on, settle}
 use Rattle.model.specs.Opening.{wires-fresh, wires-at-start, start, next-tick, begin-tick, lower, open-tick}
@@ -110,6 +111,10 @@ module _ (c : Circuit) (n : ℕ) where
   unfolding delay≔ delays≔
   delay-at g d z = record { wires = z .wires }
 
+  count-at : {s : State} (changed : Bool) → State-at n s → State-at n (count-changed s changed)
+  unfolding count-changed changed≔
+  count-at changed z = record { wires = z .wires }
+
   outbox-at : {s : State} (x : List Send) → State-at n s → State-at n (outbox≔ s x)
   unfolding outbox≔
   outbox-at x z = record { wires = z .wires }
@@ -129,15 +134,15 @@ module _ (c : Circuit) (n : ℕ) where
 
   Buffer-at : (s : State) (g : ℕ) → State-at n s → Stepped-at (exec-Buffer c s g)
   unfolding exec-Buffer ends
-  Buffer-at s g z = if-both Stepped-at _ (delay-at _ _ z) z
+  Buffer-at s g z = let y = count-at _ z in if-both Stepped-at _ (delay-at _ _ y) y
 
   Stopwatch-at : (s : State) (g p : ℕ) → State-at n s → Stepped-at (exec-Stopwatch c s g p)
   unfolding exec-Stopwatch ends
   Stopwatch-at s g p z = if-both (State-at n) _ (set-output-at _ _ (delay-at _ _ z)) (delay-at _ _ z)
 
-  Queue-at : (s : State) (g : ℕ) (k : Value → Countdown) → State-at n s → Stepped-at (exec-Queue c s g k)
+  Queue-at : (s : State) (g : ℕ) (k : Value → Started) → State-at n s → Stepped-at (exec-Queue c s g k)
   unfolding exec-Queue ends
-  Queue-at s g k z = delay-at _ _ (readied-at _ _ _ z)
+  Queue-at s g k z = count-at _ (delay-at _ _ (readied-at _ _ _ z))
 
   record-write-at : {w : Wires} (o : ℕ) → Wires-at n w → Wires-at n (record-write c w o)
   unfolding record-write
@@ -214,7 +219,7 @@ module _ (c : Circuit) (n : ℕ) where
       let y = wires-at (wires-at z (ready-at (s .wires) i (z .wires))) (last-at _ (ready-at (s .wires) i (z .wires))) in
       if-both Settled-at _ (calm-at y)
       (detect-keeps c Settled-at _ (gate-at-input c i) (calm-at y) (λ form. raise-at _ form y)
-      (λ o k e u l. calm-at (wires-at y (pulse-at _ (y .wires)))) (λ d. calm-at (delay-at _ d y)) _ _ _)
+      (λ o k e u l. calm-at (wires-at y (pulse-at _ (y .wires)))) (λ d b. calm-at (count-at b (delay-at _ d y))) _ _ _)
 
   check-on-at : (m : ℕ) (z : Settled) → Settled-at z → Settled-at (check-on c m z)
   check-on-at =
@@ -239,6 +244,7 @@ module _ (c : Circuit) (n : ℕ) where
         of = λ z. z .wires;
         put = λ z y. wires-at z y;
         delay = λ g d z. delay-at g d z;
+        count = λ b z. count-at b z;
         ready = ready-at;
         set-outs = set-outs-at;
         lower = lower-at;
@@ -288,7 +294,7 @@ module _ (c : Circuit) (n : ℕ) where
 
 -- the next tick has the next number
 begins-next : (s : State) (dt : ℕ) → State-at (suc (s .wires .tick)) (begin-tick s dt)
-unfolding begin-tick next-tick times≔ unions-passed≔ wires≔ outbox≔
+unfolding begin-tick next-tick times≔ unions-passed≔ wires≔ outbox≔ changed≔
 begins-next s dt = record { wires = record { number = refl } }
 
 -- A tick counts up the number of ticks by one, also one that is stopped.

@@ -28,10 +28,10 @@ use Rattle.run.proofs.Counting.{tick-by-one, start-at-zero}
 -- ---- the start of the areas
 
 pub started :
-    (c : Circuit) (v : Values) (u : Units) (ds : List Delay) (r s : List ℕ) → v ≡ record { wires = wires-at-start c; rest = r } → u ≡ empty s → ds ≡ replicate (length (c .kinds)) idle →
-    (record { wires = v .wires; delays = ds; outbox = u .outbox } ≡ start c) × (u .lists .carried ≡ [])
+    (c : Circuit) (v : Values) (u : Units) (ds : List Delay) (n : ℕ) (r s : List ℕ) → v ≡ record { wires = wires-at-start c; rest = r } → u ≡ empty s →
+    ds ≡ replicate (length (c .kinds)) idle → n ≡ 0 → (record { wires = v .wires; delays = ds; outbox = u .outbox; changed = n } ≡ start c) × (u .lists .carried ≡ [])
 unfolding start empty
-started c v u ds r s e f g = (rw (e, f, g) refl, rw f refl)
+started c v u ds n r s e f g h = (rw (e, f, g, h) refl, rw f refl)
 
 -- ---- a run under way
 

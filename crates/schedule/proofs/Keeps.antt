@@ -1,4 +1,5 @@
 -- What opening, body and closing keep holds wherever a unit begins, and after each tick, of a whole run; what holds when a tick has opened and is kept by body, up to its closing.
+-- A fact may go by how many units may still begin, where each unit uses up one.
 use mathlib.Core.Path.{_≡_, refl, sym, subst}
 use mathlib.Core.List.{List, [], _∷_}
 use Prim.Native.Nat.{ℕ, zero, suc}
@@ -11,17 +12,18 @@ module _ (S : Setup) where
   open Setup S using (Tag, after)
   open Machine (S .machine) using (W, In, Act, opening as opens, body as runs, closing as closes)
 
-  -- the same of a pass, with the world after it
-  pub record Pass-keeps {Q : Type 0} (P : W → Type 0) (k : Passed S Q) : Type 0 where
-    pub turns : All (λ (u : Turn S). P (u .from)) (k .turns)
-    pub world : P (k .world)
+  -- B holds wherever a unit of a pass began, and P in the world after it, by the units that may still begin
+  pub record Pass-keeps {Q : Type 0} (B : W → Type 0) (P : ℕ → W → Type 0) (k : Passed S Q) : Type 0 where
+    pub turns : All (λ (u : Turn S). B (u .from)) (k .turns)
+    pub world : P (k .left) (k .world)
 
-  -- P holds wherever a unit of the tick k began, and in the world before it was closed
-  pub record Tick-closes (P : W → Type 0) (i : In) (k : Tick S) : Type 0 where
-    pub late : All (λ (u : Turn S). P (u .from)) (k .late)
-    pub main : All (λ (u : Turn S). P (u .from)) (k .main)
+  -- B holds wherever a unit of the tick k began, and P in the world before it was closed, by the units that might still have begun
+  pub record Tick-closes (B : W → Type 0) (P : ℕ → W → Type 0) (i : In) (k : Tick S) : Type 0 where
+    pub late : All (λ (u : Turn S). B (u .from)) (k .late)
+    pub main : All (λ (u : Turn S). B (u .from)) (k .main)
     pub before : W
-    pub holds : P before
+    pub left : ℕ
+    pub holds : P left before
     pub done : Outcome Act
     pub world : k .world ≡ closes before i done .world
 
@@ -43,8 +45,10 @@ module _ (S : Setup) where
         go full rec = h
         go (filed q₁) rec = rec q₁
 
-    -- what body keeps
-    module _ (ran : (w : W) (a : Act) → P w → Did-keep P (runs w a)) {Q : Type 0} (next : Q → Took (Activation S) Q) (activate : Activation S → Activation S → Q → Filed Q) where
+  -- P n holds while n units may still begin, each of which uses up one; B is what it says where one begins
+  module _ (B : W → Type 0) (P : ℕ → W → Type 0) (begun : (n : ℕ) (w : W) → P (suc n) w → B w)
+      (ran : (n : ℕ) (w : W) (a : Act) → P (suc n) w → Did-keep (P n) (runs w a)) where
+    module _ {Q : Type 0} (next : Q → Took (Activation S) Q) (activate : Activation S → Activation S → Q → Filed Q) where
       -- one unit, and the pass after it
       turn : ℕ → Tag → W → Activation S → Q → Passed S Q
       turn n t w u q =
@@ -52,11 +56,11 @@ module _ (S : Setup) where
           let k = raise-all S (λ (p : Unit {0}). activate u) (d .raises) t q (d .world) (d .stop) in
           turning S u w (k .raised) (eqb (d .stop) 0) (pass S next activate n (k .next) (k .queue) (k .world) (k .stop))
 
-      pub pass-keeps : (n : ℕ) (t : Tag) (q : Q) (w : W) (s : ℕ) → P w → Pass-keeps P (pass S next activate n t q w s)
+      pass-keeps : (n : ℕ) (t : Tag) (q : Q) (w : W) (s : ℕ) → P n w → Pass-keeps B P (pass S next activate n t q w s)
       unfolding pass turn
       pass-keeps zero t q w zero p = go (next q)
         where
-          go : (x : Took (Activation S) Q) → Pass-keeps P (pass-on S x (no-turn S zero t q w 0) (λ u q′. no-turn S zero t q w list-full))
+          go : (x : Took (Activation S) Q) → Pass-keeps B P (pass-on S x (no-turn S zero t q w 0) (λ u q′. no-turn S zero t q w list-full))
           go empty = record { turns = [·]; world = p }
           go (took u q′) = record { turns = [·]; world = p }
       pass-keeps zero t q w (suc s) p = record { turns = [·]; world = p }
@@ -64,37 +68,42 @@ module _ (S : Setup) where
         where
           go :
               (x : Took (Activation S) Q) →
-              ((t₁ : Tag) (q₁ : Q) (w₁ : W) (s₁ : ℕ) → P w₁ → Pass-keeps P (pass S next activate n t₁ q₁ w₁ s₁)) →
-              Pass-keeps P (pass-on S x (no-turn S (suc n) t q w 0) (turn n t w))
+              ((t₁ : Tag) (q₁ : Q) (w₁ : W) (s₁ : ℕ) → P n w₁ → Pass-keeps B P (pass S next activate n t₁ q₁ w₁ s₁)) →
+              Pass-keeps B P (pass-on S x (no-turn S (suc n) t q w 0) (turn n t w))
           go empty rec = record { turns = [·]; world = p }
           go (took u q′) rec =
-              let d = ran w (u .act) p in
-              let r = rec _ _ _ _ (raise-all-keeps (λ (p : Unit {0}). activate u) _ t q′ _ _ (d .world) (d .raises)) in
-              record { turns = _∷·_ p (r .turns); world = r .world }
+              let d = ran n w (u .act) p in
+              let r = rec _ _ _ _ (raise-all-keeps (P n) (λ (p : Unit {0}). activate u) _ t q′ _ _ (d .world) (d .raises)) in
+              record { turns = _∷·_ (begun n w p) (r .turns); world = r .world }
       pass-keeps (suc n) t q w (suc s) p = record { turns = [·]; world = p }
 
-  -- what holds when a tick has opened, and is kept by body
-  module _ (P : W → Type 0) (ran : (w : W) (a : Act) → P w → Did-keep P (runs w a)) where
-    pub tick-closes : (w : W) (i : In) (came : List (Activation S)) (t : Tag) → Did-keep P (opens w i) → Tick-closes P i (tick S w i came t)
+    -- from the moment on at which a tick has opened
+    pub tick-spends : (w : W) (i : In) (came : List (Activation S)) (t : Tag) → Did-keep (P most-units) (opens w i) → Tick-closes B P i (tick S w i came t)
     unfolding tick late-pass main-pass
-    tick-closes w i came t h =
+    tick-spends w i came t h =
         let d = opens w i in
         let q₀ : OpenQ (Activation S) = record { lateq = record { late = push-all S came []; delivered = [] }; pending = [] } in
         let o = raise-all S (activate-open S) (d .raises) t q₀ (d .world) (d .stop) in
-        let a = raise-all-keeps P (activate-open S) (d .raises) t q₀ (d .world) (d .stop) (h .world) (h .raises) in
+        let a = raise-all-keeps (P most-units) (activate-open S) (d .raises) t q₀ (d .world) (d .stop) (h .world) (h .raises) in
         let l = pass S (next-late S) (activate-late S) most-units (o .next) (o .queue .lateq) (o .world) (o .stop) in
-        let b = pass-keeps P ran (next-late S) (activate-late S) most-units (o .next) (o .queue .lateq) (o .world) (o .stop) a in
+        let b = pass-keeps (next-late S) (activate-late S) most-units (o .next) (o .queue .lateq) (o .world) (o .stop) a in
         let q : MainQ (Activation S) = record { pending = o .queue .pending; carried = [] } in
         let m = pass S (next-main S) (activate-main S) (l .left) (l .next) q (l .world) (l .stop) in
-        let e = pass-keeps P ran (next-main S) (activate-main S) (l .left) (l .next) q (l .world) (l .stop) (b .world) in
+        let e = pass-keeps (next-main S) (activate-main S) (l .left) (l .next) q (l .world) (l .stop) (b .world) in
         record {
           late = b .turns;
           main = e .turns;
           before = m .world;
+          left = m .left;
           holds = e .world;
           done = outcome S (l .turns) (m .turns) (m .queue .carried) (m .stop);
           world = refl;
         }
+
+  -- what holds when a tick has opened, and is kept by body
+  module _ (P : W → Type 0) (ran : (w : W) (a : Act) → P w → Did-keep P (runs w a)) where
+    pub tick-closes : (w : W) (i : In) (came : List (Activation S)) (t : Tag) → Did-keep P (opens w i) → Tick-closes P (λ _. P) i (tick S w i came t)
+    tick-closes = tick-spends P (λ _. P) (λ _ _ p. p) (λ _. ran)
 
     -- and by closing
     module _ (closed : (w : W) (i : In) (o : Outcome Act) → P w → P (closes w i o .world)) where

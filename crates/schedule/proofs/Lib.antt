@@ -26,7 +26,7 @@ pub mod Whole
 pub mod Erase
 -- every tick of a run: `every`, `ran-as-told`
 pub mod Every
--- what is kept in every world of a run: `run-keeps`
+-- what is kept in every world of a run: `run-keeps`; what goes by the units that may still begin, in a tick: `tick-spends`
 pub mod Keeps
 -- what holds wherever a unit begins: `run-begins`
 pub mod Begins

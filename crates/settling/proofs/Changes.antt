@@ -15,10 +15,10 @@ use Rattle.model.specs.declared.Value.the-variants.{Nothing}
 use Rattle.model.specs.Base.{if_then_else_}
 use Rattle.model.specs.Value.{value-of, as-float, truthy, same, lt64}
 use Rattle.model.specs.Circuit.{Circuit, minus-one, kind-of-gate, input, output, gate-at-input, source, stored-in}
-use Rattle.model.specs.State.{State, Wires, wires≔, delays≔, last≔}
+use Rattle.model.specs.State.{State, Wires, wires≔, delays≔, changed≔, last≔}
 use Rattle.model.specs.Wires.{look, ready}
 use Rattle.model.specs.Delays.{buffer-input}
-use Rattle.model.specs.Exec.{delay, delay≔, countdown}
+use Rattle.model.specs.Exec.{count-changed, delay, delay≔, with-countdown, countdown}
 use Rattle.model.specs.Settle.{Settled, calm, raise, last-value, unchanged, pulse, edge, detect, compared, check}
 use Rattle.links.specs.Links.{sources-at, stored-kinds-at, stored-contents-at, inputs-at, entries, net}
 use Rattle.links.proofs.Reading.{entry-out, input-gate, source-none, input-stored}
@@ -26,7 +26,7 @@ use Rattle.wires.specs.declared.Remembered.{Remembered}
 use Rattle.wires.specs.declared.Remembered.the-variants.{Read, Nothing as NoRead}
 use Rattle.wires.specs.View.{Values, with-wires}
 use Rattle.wires.specs.Checks.{remembered}
-use Rattle.states.specs.View.{Delays, delay-in, with-delay}
+use Rattle.states.specs.View.{Delays, starting}
 use Rattle.units.specs.View.{entry-of, row-of, act-of, Units}
 use Rattle.units.proofs.Parts.{act-of-entry}
 use Rattle.areas.specs.Areas.{together, with-state}
@@ -197,7 +197,7 @@ module _ (c : Circuit) (s : State) (g p : ℕ) (was now : Value) (k : ℕ) where
   unfolding detect if_then_else_
   kind-9 e = rw e
 
-  kind-buffer : OneOf (10 ∷ 12 ∷ []) k → detect c k s g p was now ≡ calm (delay≔ c s g (buffer-input (delay c s g) now (countdown c g (truthy now))))
+  kind-buffer : OneOf (10 ∷ 12 ∷ []) k → detect c k s g p was now ≡ calm (with-countdown c s g (λ d left. buffer-input d now left) (countdown c g (truthy now)))
   unfolding detect if_then_else_
   kind-buffer h = ⊎-elim (λ e. rw e) (λ e. rw e) h
 
@@ -252,9 +252,9 @@ module _ (l : List ℕ) (v : Values) (d : Delays) (i g k : ℕ) (was now : Value
       (h small (net l) s ∙ sym (kind-9 (net l) s g _ was now k e) ∙ known s, refl))
 
   pub change-buffer :
-      (x : Delays) → OneOf (10 ∷ 12 ∷ []) k → x ≡ with-delay d g (buffer-input (delay-in d g) now (countdown (net l) g (truthy now))) → (truthy now ≡ true → i < 640) →
+      (x : Delays) → OneOf (10 ∷ 12 ∷ []) k → x ≡ starting d g (λ y left. buffer-input y now left) (countdown (net l) g (truthy now)) → (truthy now ≡ true → i < 640) →
       Acts (net l) v d v x (acted (net l) i was now) NoRaise
-  unfolding settled calm delay delay≔ delays≔
+  unfolding settled calm delay delay≔ delays≔ count-changed changed≔
   change-buffer x e ex hi =
       acts-by (net l) v v d x (acted (net l) i was now) NoRaise (λ u.
       let s = together v u d .state in

@@ -13,7 +13,7 @@ use Rattle.lists.specs.declared.Filed.the-variants.{Full as NoRoom, Done as Roo
 use Rattle.model.specs.Circuit.{Circuit}
 use Rattle.model.specs.State.{State, Wires, wires≔, to-check≔}
 use Rattle.model.specs.Wires.{refresh-all}
-use Rattle.model.specs.Settle.{Settled, calm, check, check-on, settle}
+use Rattle.model.specs.Settle.{Settled, calm, check, check-on, most-checks, settle}
 use Rattle.wires.specs.declared.Waiting.{Waiting}
 use Rattle.wires.specs.declared.Waiting.the-variants.{Input, Nothing as NoInput}
 use Rattle.wires.specs.View.{Values, with-wires}
@@ -252,7 +252,7 @@ pub settled-all :
     (b ≡ with-went (together v u d) (filed-into c to (settle c (together v u d .state)) (u .lists))) × (r ≡ filed-into c to (settle c (together v u d .state)) (u .lists) .answer)
 unfolding settle goes-on wires≔
 settled-all c to v v₁ u d b r i o ev ei eo h =
-    let q : (i + 1) * (o + 1) ≡ suc (length (c .pins)) * suc (length (c .outputs)) = ap₂ (λ (x y : ℕ). x * y) (add-one i ∙ ap suc (ei .0)) (add-one o ∙ ap suc (eo .0)) in (
+    let q : (i + 1) * (o + 1) ≡ most-checks c = ap₂ (λ (x y : ℕ). x * y) (add-one i ∙ ap suc (ei .0)) (add-one o ∙ ap suc (eo .0)) in (
       h .0
           ∙ ap (λ (y : Values). with-went (together y u d) (goes-on c to ((i + 1) * (o + 1)) (together y u d .state) (u .lists))) ev
           ∙ ap (λ (k : ℕ). with-went (together v u d) (goes-on c to k (wires≔ (together v u d .state) (refresh-all c (v .wires))) (u .lists))) q,

@@ -13,24 +13,23 @@ use Rattle.words.proofs.Laws.{length-words}
 use Rattle.words.proofs.Putting.{put-here}
 use Rattle.lists.specs.declared.Filed.{Filed}
 use Rattle.lists.specs.declared.Filed.the-variants.{Full, Done}
-use Rattle.model.specs.declared.Value.{Value}
-use Rattle.model.specs.declared.Value.the-variants.{Nothing}
 use Rattle.model.specs.Base.{if_then_else_}
-use Rattle.model.specs.Circuit.{Circuit, part, kind-of-gate, setting}
+use Rattle.model.specs.Circuit.{Circuit, part, kind-of-gate}
 use Rattle.model.specs.State.{Countdown, Queued, Delay, idle, fires≔}
 use Rattle.model.specs.Delays.{Moved, moved, tick-down, due, drop-due, advance-fires}
 use Rattle.model.specs.Exec.{countdown, most-fires}
+use Rattle.delays.specs.declared.countdown.Started.{Started as Starting}
 use Rattle.delays.specs.declared.fires.Fires.{Fires}
-use Rattle.delays.specs.States.{countdown-by, under-way, fires-of, fires, fires-moved, add-fire}
-use Rattle.delays.proofs.Countdowns.{of-gate, rising-only}
+use Rattle.delays.specs.States.{counted, started, under-way, fires-of, fires, fires-moved, add-fire}
 use Rattle.delays.proofs.Rings.{under-way-length}
 use Rattle.delays.proofs.Firing.{drop-front, keep-front}
 use Rattle.delays.proofs.Kept.{fires-stored, add-stored}
 use borrow.Rule.Slice.PartMut.{putMid}
-use Rattle.states.specs.View.{slot-at, flight-in, later-in, fires-in, delay-of, records-at, delays, delay-in, with-delay, Lent, Moves}
+use Rattle.states.specs.View.{slot-at, flight-in, later-in, fires-in, delay-of, records-at, delays, delay-in, counting, Lent, Moves}
 use Rattle.states.specs.Slots.{Becomes, Turns, Added}
 use Rattle.states.proofs.Lists.{part-length, part-front}
-use Rattle.states.proofs.Lending.{lent-delay, becomes, turns-gate, becomes-past, turns-past, delay-past}
+use Rattle.states.specs.Lent.{Adds-fire}
+use Rattle.states.proofs.Lending.{lent-delay, starts-gate, turns-gate, starts-past, turns-past, delay-past}
 
 -- ---- the 32 places
 
@@ -115,18 +114,13 @@ add-full s ws n k e h qs =
     rw f (refl, refl)
 
 pub add-moves :
-    (c : Circuit) (g : ℕ) (s : Bool) (ws vs : List ℕ) (n : ℕ) (f r : Fires) (wait : Value) → s ≡ leb 12 (kind-of-gate c g) → n ≡ getD ws 10 0 → n < 32 →
-    (f .seconds ≡ s) × (fires-of f ≡ fires-in s ws) → wait ≡ setting c g 1 →
-    (r .seconds ≡ f .seconds) × (fires-moved r ≡ moved (add-fire (fires f) (countdown-by (f .seconds) true wait Nothing)) [] 0) →
-    Becomes (r .seconds) ws vs (λ d. fires≔ d (fires-of r)) → Added s ws vs (countdown c g true) Done
+    (s : Bool) (ws vs : List ℕ) (n : ℕ) (f r : Fires) (k : Countdown) → n ≡ getD ws 10 0 → n < 32 → (f .seconds ≡ s) × (fires-of f ≡ fires-in s ws) →
+    (r .seconds ≡ f .seconds) × (fires-moved r ≡ moved (add-fire (fires f) k) [] 0) → Becomes (r .seconds) ws vs (λ d. fires≔ d (fires-of r)) → Added s ws vs k Done
 unfolding delay-of
-add-moves c g s ws vs n f r wait es en h l ew m st qs =
-    let k : countdown-by (f .seconds) true wait Nothing ≡ countdown c g true = ap (λ (b : Bool). countdown-by b true wait Nothing) (l .0) ∙ rising-only s wait Nothing (setting c g 2) ∙ rw (es, ew) (sym (of-gate c g true)) in
+add-moves s ws vs n f r k en h l m st qs =
     let room : ltb (length (delay-of s ws qs .fires)) 32 ≡ true = lt-ltb (length (delay-of s ws qs .fires)) 32 (omega (arith, many s ws qs)) in
-    let to : Becomes s ws vs (λ d. fires≔ d (fires-of r)) = subst (λ (b : Bool). Becomes b ws vs (λ d. fires≔ d (fires-of r))) (m .0 ∙ l .0) st in (
-      ap (λ (b : Bool). cond b Done Full) (sym room),
-      to qs ∙ add-stored (delay-of s ws qs) f r (l .1) (countdown c g true) (m .1 ∙ ap (λ (x : Countdown). moved (add-fire (fires f) x) [] 0) k),
-    )
+    let to : Becomes s ws vs (λ d. fires≔ d (fires-of r)) = subst (λ (b : Bool). Becomes b ws vs (λ d. fires≔ d (fires-of r))) (m .0 ∙ l .0) st in
+    (ap (λ (b : Bool). cond b Done Full) (sym room), to qs ∙ add-stored (delay-of s ws qs) f r (l .1) k (m .1))
 
 -- ---- a tick
 
@@ -169,13 +163,13 @@ fires-run s ws vs dt f r l m st =
 -- ---- a gate's slot lent
 
 module _ (c : Circuit) (bs p : List ℕ) (n g a e : ℕ) (l : Lent c bs) (en : (n ≡ length (c .kinds)) × (n ≤ 64)) (k : g < n) (ea : a ≡ slot-at g * 8) (ee : e ≡ a + 344) (ep : length p ≡ 344) where
-  pub add-gate : (x : ℕ) (r : Filed) → x ≡ kind-of-gate c g → Added (leb 12 x) (words (take (e - a) (drop a bs))) (words p) (countdown c g true) r
-      → (r ≡ cond (ltb (length (delay-in (delays c bs) g .fires)) most-fires) Done Full)
-      × (delays c (putMid a (e - a) bs p) ≡ with-delay (delays c bs) g (add-fire (delay-in (delays c bs) g) (countdown c g true)))
-  add-gate x r ex h =
-      let q : Added (leb 12 (kind-of-gate c g)) (words (take (e - a) (drop a bs))) (words p) (countdown c g true) r = rw ex at h in (
+  pub add-gate : (fs : List ℕ) (x : ℕ) (j : Starting) (r : Filed) → x ≡ kind-of-gate c g → started j ≡ countdown c g true
+      → Added (leb 12 x) (words (take (e - a) (drop a bs))) (words p) (counted (j .left)) r → delays c fs ≡ counting (delays c (putMid a (e - a) bs p)) (j .changed)
+      → Adds-fire (delays c bs) (delays c fs) g r (countdown c g true)
+  add-gate fs x j r ex ej h et =
+      let q : Added (leb 12 (kind-of-gate c g)) (words (take (e - a) (drop a bs))) (words p) (counted (j .left)) r = rw ex at h in (
         q (records-at c (words bs) g) .0 ∙ ap (λ (d : Delay). cond (ltb (length (d .fires)) most-fires) Done Full) (sym (lent-delay c bs p n g a e l en k ea ee ep)),
-        becomes c bs p n g a e l en k ea ee ep (λ d. add-fire d (countdown c g true)) (λ qs. q qs .1),
+        starts-gate c bs p n g a e l en k ea ee ep fs x true j add-fire ex ej (λ qs. h qs .1) et,
       )
 
   pub fires-gate : (x dt r : ℕ) → x ≡ kind-of-gate c g → Turns (leb 12 x) (words (take (e - a) (drop a bs))) (words p) (advance-fires dt) [] r × (r ≤ 32)
@@ -183,12 +177,11 @@ module _ (c : Circuit) (bs p : List ℕ) (n g a e : ℕ) (l : Lent c bs) (en : (
   fires-gate x dt r ex h = (turns-gate c bs p n g a e l en k ea ee ep x (leb 12 x) (advance-fires dt) [] r ex refl (h .0), h .1)
 
 module _ (c : Circuit) (bs : List ℕ) (n g : ℕ) (en : (n ≡ length (c .kinds)) × (n ≤ 64)) (k : n ≤ g) where
-  pub add-past : (Done ≡ cond (ltb (length (delay-in (delays c bs) g .fires)) most-fires) Done Full)
-      × (delays c bs ≡ with-delay (delays c bs) g (add-fire (delay-in (delays c bs) g) (countdown c g true)))
+  pub add-past : Adds-fire (delays c bs) (delays c bs) g Done (countdown c g true)
   unfolding idle
   add-past =
-      (ap (λ (d : Delay). cond (ltb (length (d .fires)) most-fires) Done Full) (sym (delay-past c bs g (omega (arith, en .0)))), becomes-past c bs n g en k _)
+      (ap (λ (d : Delay). cond (ltb (length (d .fires)) most-fires) Done Full) (sym (delay-past c bs g (omega (arith, en .0)))), starts-past c bs n g en k true add-fire)
 
   pub fires-past : (dt : ℕ) → Moves (delays c bs) (delays c bs) g (advance-fires dt (delay-in (delays c bs) g)) [] 0 × (0 ≤ 32)
   unfolding advance-fires drop-due idle moved
-  fires-past dt = (turns-past c bs n g en k (advance-fires dt) [] 0 refl refl, omega arith)
+  fires-past dt = (turns-past c bs n g en k (advance-fires dt) [] 0 refl refl refl, omega arith)

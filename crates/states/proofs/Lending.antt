@@ -7,7 +7,7 @@ use native.Mathlib.Omega.{arith}
 use borrow.Author.Tests.{leb-true, leb-false}
 use lib.Dec.{leb}
 use lib.ListN.{length, getD, set, take, drop, length-map, List·getD-eq-default}
-use lib.Seq.{getD-take, set-out}
+use lib.Seq.{getD-take, getD-drop, set-out}
 use borrow.Rule.Slice.PartMut.{putMid}
 use Rattle.words.specs.Words.{words, tail}
 use Rattle.words.proofs.Laws.{words-put, tail-put, words-mid, length-words, words-long}
@@ -16,29 +16,29 @@ use Rattle.model.specs.Base.{if_then_else_, from}
 use Rattle.model.specs.Value.{truthy, bit}
 use Rattle.model.specs.Circuit.{Circuit, part, kind-of-gate, gates, setting}
 use Rattle.model.specs.Questions.{queues}
-use Rattle.model.specs.State.{Delay, idle, elapsed≔}
-use Rattle.model.specs.Delays.{Moved, moved, buffer-input, advance-flight, advance-elapsed, advance-time}
-use Rattle.model.specs.Exec.{countdown}
-use Rattle.delays.specs.declared.countdown.Countdown.{Countdown as Counting}
-use Rattle.delays.specs.declared.buffer.Optional.{Optional}
+use Rattle.model.specs.State.{Countdown, Delay, idle, elapsed≔}
+use Rattle.model.specs.Delays.{Started, Moved, moved, in-ticks, countdown-ticks, advance-flight, advance-elapsed, advance-time}
+use Rattle.model.specs.Exec.{tally, countdown}
+use Rattle.delays.specs.declared.countdown.Started.{Started as Starting}
 use Rattle.delays.specs.declared.buffer.Optional.the-variants.{None}
-use Rattle.delays.specs.States.{counted, counts-seconds, countdown-by, row-of, clock, clock-moved, stopwatch-moved}
+use Rattle.delays.specs.States.{counted, started, counts-seconds, row-of, clock, clock-moved, stopwatch-moved}
 use Rattle.delays.specs.declared.clock.Clock.{Clock}
 use Rattle.delays.proofs.Countdowns.{of-gate, kind-by}
 use Rattle.model.proofs.Lists.{map-from, from-length}
-use Rattle.states.specs.View.{slot-at, queue-at, delay-of, records-at, delay-at, Delays, delay-in, with-delay, delays, Lent, Moves}
-use Rattle.states.specs.Slots.{Becomes, Becomes-any, Turns, Turns-any}
+use Rattle.states.specs.declared.slots.Landed.{Landed}
+use Rattle.states.specs.View.{slot-at, changed-at, queue-at, delay-of, records-at, delay-at, Delays, delay-in, with-delay, counting, starting, delays, Lent, Moves}
+use Rattle.states.specs.Slots.{Becomes, Becomes-any, Turns, Turns-any, Lands}
 use Rattle.states.proofs.Lists.{part-front, part-before, part-behind, drop-behind, from-set, Replaced, replaced}
 
 -- what the area holds after one gate alone changed
-pub changed : (c : Circuit) (bs ds : List ℕ) (g : ℕ) (x : Delay) → take 64 (words ds) ≡ take 64 (words bs)
+pub one-changed : (c : Circuit) (bs ds : List ℕ) (g : ℕ) (x : Delay) → take 64 (words ds) ≡ take 64 (words bs) → getD (words ds) changed-at 0 ≡ getD (words bs) changed-at 0
     → drop (queue-at (queues c)) (words ds) ≡ drop (queue-at (queues c)) (words bs) → tail ds ≡ tail bs → delay-at c (words ds) g ≡ x
     → ((h : ℕ) → h < length (c .kinds) → (h ≡ g → ⊥) → delay-at c (words ds) h ≡ delay-at c (words bs) h) → delays c ds ≡ with-delay (delays c bs) g x
 unfolding delays gates
-changed c bs ds g x et ed el eg eh =
+one-changed c bs ds g x et en ed el eg eh =
     let z : 0 + g ≡ g = omega arith in
     let q : map (delay-at c (words ds)) (from 0 (length (c .kinds))) ≡ set (map (delay-at c (words bs)) (from 0 (length (c .kinds)))) g x = from-set (delay-at c (words bs)) (delay-at c (words ds)) 0 (length (c .kinds)) g x (ap (delay-at c (words ds)) z ∙ eg) (λ j p u d. eh j (omega arith) (λ v. d (v ∙ sym z))) in
-    λ j. record { delays = q j; parts = et j; rest = ed j ++ el j }
+    λ j. record { delays = q j; changed = en j; parts = et j; rest = ed j ++ el j }
 
 -- the small state of a gate that there is, and of one that there is not
 pub delay-here : (c : Circuit) (bs : List ℕ) (g : ℕ) → g < length (c .kinds) → delay-in (delays c bs) g ≡ delay-at c (words bs) g
@@ -54,7 +54,7 @@ delay-past c bs g h = List·getD-eq-default (delays c bs .delays) idle {n = g} (
 
 -- a gate that there is not changes nothing
 pub past : (c : Circuit) (bs : List ℕ) (g : ℕ) (x : Delay) → length (c .kinds) ≤ g → delays c bs ≡ with-delay (delays c bs) g x
-past c bs g x h = let e : set (delays c bs .delays) g x ≡ delays c bs .delays = set-out (delays c bs .delays) g x (omega (arith, delays-long c bs)) in λ j. record { delays = sym e j; parts = delays c bs .parts; rest = delays c bs .rest }
+past c bs g x h = let e : set (delays c bs .delays) g x ≡ delays c bs .delays = set-out (delays c bs .delays) g x (omega (arith, delays-long c bs)) in λ j. record { delays = sym e j; changed = delays c bs .changed; parts = delays c bs .parts; rest = delays c bs .rest }
 
 -- ---- the slot of gate g lent, which comes back as p
 
@@ -88,20 +88,35 @@ module _ (c : Circuit) (bs p : List ℕ) (g : ℕ) (l : Lent c bs) (k : g < leng
       go true q = part-before (slot-at g) (slot-at h) 43 (words bs) (words (putMid (slot-at g * 8) 344 bs p)) (omega (arith, leb-true h g q, d)) (slot-back .before)
       go false q = part-behind (slot-at g + 43) (slot-at h) 43 (words bs) (words (putMid (slot-at g * 8) 344 bs p)) (omega (arith, leb-false h g q)) (slot-back .behind)
 
+  -- and the count
+  same-count : getD (words (putMid (slot-at g * 8) 344 bs p)) changed-at 0 ≡ getD (words bs) changed-at 0
+  same-count =
+      let to = words (putMid (slot-at g * 8) 344 bs p) in
+      let behind : drop changed-at to ≡ drop changed-at (words bs) = drop-behind (slot-at g + 43) changed-at (words bs) to (omega arith) (slot-back .behind) in
+      sym (getD-drop changed-at to 0 0) ∙ ap (λ (t : List ℕ). getD t 0 0) behind ∙ getD-drop changed-at (words bs) 0 0
+
   pub lent-slot : delays c (putMid (slot-at g * 8) 344 bs p) ≡ with-delay (delays c bs) g (delay-of (leb 12 (kind-of-gate c g)) (words p) (records-at c (words bs) g))
   unfolding delay-at
   lent-slot =
       let to = words (putMid (slot-at g * 8) 344 bs p) in
-      changed c bs (putMid (slot-at g * 8) 344 bs p) g (delay-of (leb 12 (kind-of-gate c g)) (words p) (records-at c (words bs) g))
+      one-changed c bs (putMid (slot-at g * 8) 344 bs p) g (delay-of (leb 12 (kind-of-gate c g)) (words p) (records-at c (words bs) g))
       (part-front (slot-at g) 64 (words bs) to (omega arith) (slot-back .before))
+      same-count
       (drop-behind (slot-at g + 43) (queue-at (queues c)) (words bs) to (omega arith) (slot-back .behind))
       (tail-put (slot-at g) 43 bs p (omega (arith, l .room)) e)
       (ap₂ (delay-of (leb 12 (kind-of-gate c g))) (slot-back .here) (same-records g (omega arith)))
       (λ h u d. ap₂ (delay-of (leb 12 (kind-of-gate c h))) (same-slot h (omega arith) d) (same-records h (omega arith)))
 
+-- what did not change its number is not counted
+pub still : (d : Delays) → d ≡ counting d false
+unfolding tally if_then_else_
+still d = refl
+
 -- a countdown that a buffer starts is of its kind
-pub of-kind : (s t : Bool) (wait zero-wait : Value) (k : Counting) → counted k ≡ countdown-by s t wait zero-wait → counts-seconds (counted k) ≡ s
-of-kind s t wait zero-wait k e = ap counts-seconds e ∙ kind-by s t wait zero-wait
+pub of-kind : (c : Circuit) (g x : ℕ) (rising : Bool) (k : Starting) → x ≡ kind-of-gate c g → started k ≡ countdown c g rising → counts-seconds (counted (k .left)) ≡ leb 12 x
+unfolding started
+of-kind c g x rising k ex e =
+    ap (λ (y : Started). counts-seconds (y .left)) (e ∙ of-gate c g rising) ∙ kind-by (leb 12 (kind-of-gate c g)) rising (setting c g 1) (setting c g 2) ∙ sym (ap (leb 12) ex)
 
 -- the slot moves on, and with it the gate
 module _ (c : Circuit) (bs p : List ℕ) (n g a e : ℕ) (l : Lent c bs) (en : (n ≡ length (c .kinds)) × (n ≤ 64)) (k : g < n) (ea : a ≡ slot-at g * 8) (ee : e ≡ a + 344) (ep : length p ≡ 344) where
@@ -117,11 +132,14 @@ module _ (c : Circuit) (bs p : List ℕ) (n g a e : ℕ) (l : Lent c bs) (en : (
   lent-delay =
       delay-here c bs g (omega (arith, en .0)) ∙ ap (λ (t : List ℕ). delay-of (leb 12 (kind-of-gate c g)) t (records-at c (words bs) g)) (sym lent-words)
 
+  -- the area when the slot is back
+  back : delays c (putMid a (e - a) bs p) ≡ with-delay (delays c bs) g (delay-of (leb 12 (kind-of-gate c g)) (words p) (records-at c (words bs) g))
+  back = ap (delays c) whole ∙ lent-slot c bs p g l (omega (arith, en .0)) (omega (arith, en .0)) ep
+
   pub becomes : (f : Delay → Delay) → Becomes (leb 12 (kind-of-gate c g)) (words (take (e - a) (drop a bs))) (words p) f
       → delays c (putMid a (e - a) bs p) ≡ with-delay (delays c bs) g (f (delay-in (delays c bs) g))
   becomes f h =
-      ap (delays c) whole ∙ lent-slot c bs p g l (omega (arith, en .0)) (omega (arith, en .0)) ep
-      ∙ ap (with-delay (delays c bs) g) (h (records-at c (words bs) g) ∙ ap f (sym lent-delay))
+      back ∙ ap (with-delay (delays c bs) g) (h (records-at c (words bs) g) ∙ ap f (sym lent-delay))
 
   pub turns : (f : Delay → Moved) (row : List Value) (i : ℕ) → Turns (leb 12 (kind-of-gate c g)) (words (take (e - a) (drop a bs))) (words p) f row i
       → Moves (delays c bs) (delays c (putMid a (e - a) bs p)) g (f (delay-in (delays c bs) g)) row i
@@ -129,32 +147,40 @@ module _ (c : Circuit) (bs p : List ℕ) (n g a e : ℕ) (l : Lent c bs) (en : (
   turns f row i h =
       let m : f (delay-in (delays c bs) g) ≡ moved (delay-of (leb 12 (kind-of-gate c g)) (words p) (records-at c (words bs) g)) row i = ap f lent-delay ∙ h (records-at c (words bs) g) in
       record {
-        state = ap (delays c) whole ∙ lent-slot c bs p g l (omega (arith, en .0)) (omega (arith, en .0)) ep ∙ ap (λ (x : Moved). with-delay (delays c bs) g (x .state)) (sym m);
+        state = back ∙ still _ ∙ ap (λ (x : Moved). counting (with-delay (delays c bs) g (x .state)) (x .changed)) (sym m);
         row = ap (λ (x : Moved). x .row) m;
         fires = ap (λ (x : Moved). x .fires) m;
       }
 
-  -- an input of a value buffer
-  pub input-gate :
-      (x : ℕ) (v wait zero-wait : Value) (t : Bool) (j : Counting) → x ≡ kind-of-gate c g → t ≡ truthy v → wait ≡ setting c g 1 → zero-wait ≡ setting c g 2 →
-      counted j ≡ countdown-by (leb 12 x) t wait zero-wait →
-      Becomes (leb 12 x) (words (take (e - a) (drop a bs))) (words p) (λ d. buffer-input d v (counted j)) →
-      delays c (putMid a (e - a) bs p) ≡ with-delay (delays c bs) g (buffer-input (delay-in (delays c bs) g) v (countdown c g (truthy v)))
-  input-gate x v wait zero-wait t j ex et ew ez ej h =
-      let i : counted j ≡ countdown c g (truthy v) = ej ∙ rw (ex, et, ew, ez) (sym (of-gate c g (truthy v))) in
+  -- the gate takes a countdown, whose narrowing is then counted
+  pub starts-gate :
+      (fs : List ℕ) (x : ℕ) (rising : Bool) (k : Starting) (f : Delay → Countdown → Delay) → x ≡ kind-of-gate c g → started k ≡ countdown c g rising →
+      Becomes (leb 12 x) (words (take (e - a) (drop a bs))) (words p) (λ d. f d (counted (k .left))) →
+      delays c fs ≡ counting (delays c (putMid a (e - a) bs p)) (k .changed) → delays c fs ≡ starting (delays c bs) g f (countdown c g rising)
+  unfolding started
+  starts-gate fs x rising k f ex ek h et =
       let q : leb 12 x ≡ leb 12 (kind-of-gate c g) = ap (leb 12) ex in
-      becomes (λ d. buffer-input d v (countdown c g (truthy v))) (rw (q, i) at h)
+      et ∙ ap (λ (d : Delays). counting d (k .changed)) (becomes (λ d. f d (counted (k .left))) (rw q at h)) ∙ ap (starting (delays c bs) g f) ek
 
   -- the slot moves on, by its kind
   pub turns-gate : (x : ℕ) (s : Bool) (f : Delay → Moved) (row : List Value) (i : ℕ) → x ≡ kind-of-gate c g → s ≡ leb 12 x → Turns s (words (take (e - a) (drop a bs))) (words p) f row i
       → Moves (delays c bs) (delays c (putMid a (e - a) bs p)) g (f (delay-in (delays c bs) g)) row i
   turns-gate x s f row i ex es h = let q : s ≡ leb 12 (kind-of-gate c g) = es ∙ ap (leb 12) ex in turns f row i (rw q at h)
 
-  -- a value buffer moves on
-  pub fly-gate : (x dt : ℕ) (r : Optional) → x ≡ kind-of-gate c g
-      → Turns (leb 12 x) (words (take (e - a) (drop a bs))) (words p) (advance-flight (λ v. countdown c g (truthy v)) dt) (row-of r) 0
-      → Moves (delays c bs) (delays c (putMid a (e - a) bs p)) g (advance-flight (λ v. countdown c g (truthy v)) dt (delay-in (delays c bs) g)) (row-of r) 0
-  fly-gate x dt r ex h = turns-gate x (leb 12 x) (advance-flight (λ v. countdown c g (truthy v)) dt) (row-of r) 0 ex refl h
+  -- a value buffer moves on, and its narrowing is then counted
+  pub fly-gate : (fs : List ℕ) (x dt : ℕ) (r : Landed) → x ≡ kind-of-gate c g
+      → Lands (leb 12 x) (words (take (e - a) (drop a bs))) (words p) (advance-flight (λ v. countdown c g (truthy v)) dt) r
+      → delays c fs ≡ counting (delays c (putMid a (e - a) bs p)) (r .changed)
+      → Moves (delays c bs) (delays c fs) g (advance-flight (λ v. countdown c g (truthy v)) dt (delay-in (delays c bs) g)) (row-of (r .what)) 0
+  fly-gate fs x dt r ex h et =
+      let f = advance-flight (λ v. countdown c g (truthy v)) dt in
+      let q : leb 12 x ≡ leb 12 (kind-of-gate c g) = ap (leb 12) ex in
+      let m = ap f lent-delay ∙ (rw q at h) (records-at c (words bs) g) in
+      record {
+        state = et ∙ ap (λ (d : Delays). counting d (r .changed)) back ∙ ap (λ (x : Moved). counting (with-delay (delays c bs) g (x .state)) (x .changed)) (sym m);
+        row = ap (λ (x : Moved). x .row) m;
+        fires = ap (λ (x : Moved). x .fires) m;
+      }
 
   -- a gate whose slot has no countdowns moves on
   pub turns-any : (f : Delay → Moved) (row : List Value) (i : ℕ) → Turns-any (words (take (e - a) (drop a bs))) (words p) f row i
@@ -170,11 +196,20 @@ module _ (c : Circuit) (bs : List ℕ) (n g : ℕ) (en : (n ≡ length (c .kinds
   pub becomes-past : (x : Delay) → delays c bs ≡ with-delay (delays c bs) g x
   becomes-past x = past c bs g x (omega (arith, en .0))
 
-  pub turns-past : (f : Delay → Moved) (row : List Value) (i : ℕ) → f idle .row ≡ row → f idle .fires ≡ i
+  -- its countdown would be in ticks
+  pub starts-past : (rising : Bool) (f : Delay → Countdown → Delay) → delays c bs ≡ starting (delays c bs) g f (countdown c g rising)
+  unfolding countdown countdown-ticks in-ticks kind-of-gate if_then_else_
+  starts-past rising f =
+      let z : kind-of-gate c g ≡ 0 = List·getD-eq-default (c .kinds) 0 {n = g} (omega (arith, en .0)) in
+      let n : false ≡ countdown c g rising .changed = rw z in
+      becomes-past _ ∙ still _ ∙ ap (counting (with-delay (delays c bs) g (f (delay-in (delays c bs) g) (countdown c g rising .left)))) n
+
+  pub turns-past : (f : Delay → Moved) (row : List Value) (i : ℕ) → f idle .row ≡ row → f idle .fires ≡ i → f idle .changed ≡ false
       → Moves (delays c bs) (delays c bs) g (f (delay-in (delays c bs) g)) row i
-  turns-past f row i er ei =
+  turns-past f row i er ei ef =
       let d = delay-past c bs g (omega (arith, en .0)) in
-      record { state = becomes-past (f (delay-in (delays c bs) g) .state); row = ap (λ (x : Delay). f x .row) d ∙ er; fires = ap (λ (x : Delay). f x .fires) d ∙ ei }
+      let n : false ≡ f (delay-in (delays c bs) g) .changed = sym (ap (λ (x : Delay). f x .changed) d ∙ ef) in
+      record { state = becomes-past (f (delay-in (delays c bs) g) .state) ∙ still _ ∙ ap (counting (with-delay (delays c bs) g (f (delay-in (delays c bs) g) .state))) n; row = ap (λ (x : Delay). f x .row) d ∙ er; fires = ap (λ (x : Delay). f x .fires) d ∙ ei }
 
 -- whether a gate counts seconds
 pub by-kind : (c : Circuit) (g x : ℕ) → x ≡ kind-of-gate c g → leb 12 x ≡ leb 12 (kind-of-gate c g)
@@ -184,30 +219,20 @@ by-kind c g x e = ap (leb 12) e
 module _ (c : Circuit) (bs : List ℕ) (n g : ℕ) (en : (n ≡ length (c .kinds)) × (n ≤ 64)) (k : n ≤ g) where
   pub fly-past : (dt : ℕ) → Moves (delays c bs) (delays c bs) g (advance-flight (λ v. countdown c g (truthy v)) dt (delay-in (delays c bs) g)) (row-of None) 0
   unfolding advance-flight idle row-of moved
-  fly-past dt = turns-past c bs n g en k (advance-flight (λ v. countdown c g (truthy v)) dt) [] 0 refl refl
+  fly-past dt = turns-past c bs n g en k (advance-flight (λ v. countdown c g (truthy v)) dt) [] 0 refl refl refl
 
   pub clock-past :
       (dt interval : ℕ) (enabled : Bool) (r : Clock) → clock-moved r ≡ advance-elapsed dt interval enabled (clock (record { elapsed = 0; fired = false })) →
       Moves (delays c bs) (delays c bs) g (advance-elapsed dt interval enabled (delay-in (delays c bs) g)) [] (bit (r .fired))
   unfolding clock clock-moved idle elapsed≔ moved
   clock-past dt interval enabled r h =
-      turns-past c bs n g en k (advance-elapsed dt interval enabled) [] (bit (r .fired)) (sym (ap (λ (m : Moved). m .row) h)) (sym (ap (λ (m : Moved). m .fires) h))
+      turns-past c bs n g en k (advance-elapsed dt interval enabled) [] (bit (r .fired)) (sym (ap (λ (m : Moved). m .row) h)) (sym (ap (λ (m : Moved). m .fires) h)) (sym (ap (λ (m : Moved). m .changed) h))
 
   pub stopwatch-past : (dt limit : ℕ)
       → Moves (delays c bs) (delays c bs) g (advance-time dt limit (delay-in (delays c bs) g)) (stopwatch-moved (record { time = 0; running = false; shows = false; expired = false }) .row) (stopwatch-moved (record { time = 0; running = false; shows = false; expired = false }) .fires)
   unfolding advance-time stopwatch-moved idle moved bit if_then_else_
-  stopwatch-past dt limit = turns-past c bs n g en k (advance-time dt limit) [] 0 refl refl
+  stopwatch-past dt limit = turns-past c bs n g en k (advance-time dt limit) [] 0 refl refl refl
 
--- ---- an area stays one that can hold the small states
-
+-- an area stays one that can hold the small states
 pub lent-kept : (c : Circuit) (bs ds : List ℕ) → Lent c bs → length ds ≡ length bs → delays c ds .parts ≡ delays c bs .parts → Lent c ds
 lent-kept c bs ds l e p = record { room = omega (arith, l .room); parted = λ g q. ap (λ (t : List ℕ). getD t g 0) p ∙ l .parted g q }
-
--- after a gate changed
-pub lent-with : (c : Circuit) (bs ds : List ℕ) (g : ℕ) (x : Delay) → Lent c bs → length ds ≡ length bs → delays c ds ≡ with-delay (delays c bs) g x → Lent c ds
-lent-with c bs ds g x l e w = lent-kept c bs ds l e (ap (λ (d : Delays). d .parts) w)
-
--- after it moved on
-pub lent-moves : (c : Circuit) (bs ds : List ℕ) (g : ℕ) (m : Moved) (row : List Value) (n : ℕ) → Lent c bs → length ds ≡ length bs → Moves (delays c bs) (delays c ds) g m row n
-    → Lent c ds
-lent-moves c bs ds g m row n l e w = lent-with c bs ds g (m .state) l e (w .state)

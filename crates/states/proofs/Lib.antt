@@ -1,4 +1,5 @@
 pub mod Lists
 pub mod Stores
 pub mod Lending
+pub mod Counts
 pub mod Firing

@@ -40,6 +40,13 @@ pub part-length : (k n : ℕ) (ws : List ℕ) → k + n ≤ length ws → length
 unfolding part
 part-length k n ws h = length-take-le n (drop k ws) (omega (arith, length-drop k ws))
 
+-- lists by their numbers that give the same
+pub from-same : {A : Type 0} (f h : ℕ → A) (a n : ℕ) → ((j : ℕ) → a ≤ j → j < a + n → h j ≡ f j) → map h (from a n) ≡ map f (from a n)
+unfolding from
+from-same f h a zero k = refl
+from-same {A} f h a (suc n) k =
+    ap₂ (λ (y : A) (r : List A). y ∷ r) (k a (omega arith) (omega arith)) (from-same f h (suc a) n (λ j p q. k j (omega arith) (omega arith)))
+
 -- a list by its numbers, one of which gives something else
 pub from-set : {A : Type 0} (f h : ℕ → A) (a n i : ℕ) (x : A) → h (a + i) ≡ x → ((j : ℕ) → a ≤ j → j < a + n → (j ≡ a + i → ⊥) → h j ≡ f j)
     → map h (from a n) ≡ set (map f (from a n)) i x
@@ -47,11 +54,7 @@ unfolding from
 from-set f h a zero i x e k = refl
 from-set {A} f h a (suc n) zero x e k =
     let z : a + 0 ≡ a = omega arith in
-    ap₂ (λ (y : A) (r : List A). y ∷ r) (ap h (sym z) ∙ e) (same (suc a) n (λ j p q. k j (omega arith) (omega arith) (λ u. omega arith)))
-  where
-    same : (b m : ℕ) → ((j : ℕ) → b ≤ j → j < b + m → h j ≡ f j) → map h (from b m) ≡ map f (from b m)
-    same b zero g = refl
-    same b (suc m) g = ap₂ (λ (y : A) (r : List A). y ∷ r) (g b (omega arith) (omega arith)) (same (suc b) m (λ j p q. g j (omega arith) (omega arith)))
+    ap₂ (λ (y : A) (r : List A). y ∷ r) (ap h (sym z) ∙ e) (from-same f h (suc a) n (λ j p q. k j (omega arith) (omega arith) (λ u. omega arith)))
 from-set {A} f h a (suc n) (suc i) x e k =
     let z : suc a + i ≡ a + suc i = omega arith in
     ap₂ (λ (y : A) (r : List A). y ∷ r) (k a (omega arith) (omega arith) (λ u. omega arith))

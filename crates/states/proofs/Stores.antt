@@ -17,7 +17,7 @@ use Rattle.model.specs.Base.{if_then_else_}
 use Rattle.model.specs.Value.{value-of, kind-of, content-of, truthy, bit}
 use Rattle.model.specs.Circuit.{Circuit, part, kind-of-gate, setting}
 use Rattle.model.specs.State.{Countdown, Flight, Queued, Delay, flight≔, elapsed≔}
-use Rattle.model.specs.Delays.{Moved, moved, launch, buffer-input, relaunch, flown, advance-flight, tick-down, due, advance-elapsed, advance-time, pressed}
+use Rattle.model.specs.Delays.{Started, Moved, moved, launch, buffer-input, landed, flown, advance-flight, tick-down, due, advance-elapsed, advance-time, pressed}
 use Rattle.model.specs.Exec.{countdown}
 use Rattle.value.proofs.Laws.{made-again}
 use Rattle.delays.specs.declared.countdown.Countdown.{Countdown as Counting}
@@ -32,7 +32,7 @@ use Rattle.delays.specs.declared.stopwatch.Stopwatch.{Stopwatch}
 use Rattle.delays.proofs.Kept.{buffer-stored, input-stored, clock-stored, stopwatch-stored}
 use Rattle.delays.proofs.Countdowns.{of-gate, kind-by, kind-word, kind-tick}
 use Rattle.states.specs.View.{flight-in, later-in, fires-in, delay-of}
-use Rattle.states.specs.Slots.{Becomes, Becomes-any, flies-by, Becomes-by, Turns, Turns-any}
+use Rattle.states.specs.Slots.{Becomes, Becomes-any, flies-by, Becomes-by, Turns-any, Lands}
 
 -- what holds of eleven words before any others holds of every list that long
 pub eleven : (P : List ℕ → Type 0) → ((a b c d e f g h i j k : ℕ) (r : List ℕ) → P (a ∷ b ∷ c ∷ d ∷ e ∷ f ∷ g ∷ h ∷ i ∷ j ∷ k ∷ r)) → (ws : List ℕ) → 11 ≤ length ws → P ws
@@ -68,9 +68,9 @@ remembered s k b ws h qs =
     (λ a b c d e f g h i j k r. refl) ws h
 
 -- no value in flight
-landed : (s : Bool) (ws : List ℕ) → 11 ≤ length ws → (qs : List Queued) → delay-of s (set ws 2 0) qs ≡ flight≔ (delay-of s ws qs) none (delay-of s ws qs .later)
+emptied : (s : Bool) (ws : List ℕ) → 11 ≤ length ws → (qs : List Queued) → delay-of s (set ws 2 0) qs ≡ flight≔ (delay-of s ws qs) none (delay-of s ws qs .later)
 unfolding delay-of flight-in later-in fires-in flight≔ if_then_else_ part
-landed s ws h qs =
+emptied s ws h qs =
     eleven (λ t. delay-of s (set t 2 0) qs ≡ flight≔ (delay-of s t qs) none (delay-of s t qs .later)) (λ a b c d e f g h i j k r. refl) ws h
 
 -- no later input
@@ -113,19 +113,11 @@ input-later d v u k j e =
     ap (λ (o : Option Flight). elim o [ none ↦ flight≔ d (launch v k) (d .later) | some f ↦ flight≔ d (some f) (some v) ]) e
     ∙ ap (λ (o : Option Flight). flight≔ d o (some v)) (sym e)
 
-relaunch-none : (start : Value → Countdown) (d : Delay) → d .later ≡ none → relaunch start d ≡ flight≔ d none none
-unfolding relaunch
-relaunch-none start d e = ap (λ (o : Option Value). elim o [ none ↦ flight≔ d none none | some v ↦ flight≔ d (launch v (start v)) none ]) e
-
-relaunch-some : (start : Value → Countdown) (d : Delay) (v : Value) → d .later ≡ some v → relaunch start d ≡ flight≔ d (launch v (start v)) none
-unfolding relaunch
-relaunch-some start d v e = ap (λ (o : Option Value). elim o [ none ↦ flight≔ d none none | some v ↦ flight≔ d (launch v (start v)) none ]) e
-
-flight-none : (start : Value → Countdown) (dt : ℕ) (d : Delay) → d .flight ≡ none → advance-flight start dt d ≡ moved d [] 0
+flight-none : (start : Value → Started) (dt : ℕ) (d : Delay) → d .flight ≡ none → advance-flight start dt d ≡ moved d [] 0
 unfolding advance-flight
 flight-none start dt d e = ap (λ (o : Option Flight). elim o [ none ↦ moved d [] 0 | some f ↦ flown start d (f .what) (tick-down dt (f .left)) ]) e
 
-flight-some : (start : Value → Countdown) (dt : ℕ) (d : Delay) (v : Value) (k : Countdown) → d .flight ≡ launch v k → advance-flight start dt d ≡ flown start d v (tick-down dt k)
+flight-some : (start : Value → Started) (dt : ℕ) (d : Delay) (v : Value) (k : Countdown) → d .flight ≡ launch v k → advance-flight start dt d ≡ flown start d v (tick-down dt k)
 unfolding advance-flight launch
 flight-some start dt d v k e = ap (λ (o : Option Flight). elim o [ none ↦ moved d [] 0 | some f ↦ flown start d (f .what) (tick-down dt (f .left)) ]) e
 
@@ -158,7 +150,7 @@ pub stored-empty :
     (f : Flying) (ws vs : List ℕ) → 11 ≤ length ws → f ≡ Empty → vs ≡ set ws 2 0 → Becomes-by (flight-of f) ws vs (λ d. flight≔ d (flight-of f) (d .later))
 unfolding flight-of
 stored-empty f ws vs h e es s k qs =
-    ap (λ (t : List ℕ). delay-of s t qs) es ∙ landed s ws h qs ∙ ap (λ (x : Flying). flight≔ (delay-of s ws qs) (flight-of x) (delay-of s ws qs .later)) (sym e)
+    ap (λ (t : List ℕ). delay-of s t qs) es ∙ emptied s ws h qs ∙ ap (λ (x : Flying). flight≔ (delay-of s ws qs) (flight-of x) (delay-of s ws qs .later)) (sym e)
 
 pub stored-flight :
     (f : Flying) (ws vs : List ℕ) (v : Value) (k : Counting) → f ≡ Of v k → Becomes (counts-seconds (counted k)) ws vs (λ d. flight≔ d (launch v (counted k)) (d .later)) →
@@ -206,21 +198,26 @@ input-kind s d v k j q = go (d .flight) refl
     go none e = ap (λ (x : Delay). flies-by s (x .flight)) (input-first d v k e) ∙ j
     go (some f) e = ap (λ (x : Delay). flies-by s (x .flight)) (input-later d v (f .what) k (f .left) e) ∙ q
 
-module _ (s : Bool) (start : Value → Countdown) (w : (v : Value) → counts-seconds (start v) ≡ s) where
-  relaunch-kind : (d : Delay) → flies-by s (relaunch start d .flight) ≡ s
-  unfolding flies-by launch flight≔
-  relaunch-kind d = go (d .later) refl
+module _ (s : Bool) (start : Value → Started) (w : (v : Value) → counts-seconds (start v .left) ≡ s) where
+  landed-kind : (d : Delay) (v : Value) → flies-by s (landed start d v .state .flight) ≡ s
+  unfolding flies-by landed launch moved flight≔
+  landed-kind d v = go (d .later)
     where
-      go : (o : Option Value) → d .later ≡ o → flies-by s (relaunch start d .flight) ≡ s
-      go none e = ap (λ (x : Delay). flies-by s (x .flight)) (relaunch-none start d e)
-      go (some v) e = ap (λ (x : Delay). flies-by s (x .flight)) (relaunch-some start d v e) ∙ w v
+      go :
+          (o : Option Value) →
+          flies-by s (elim o as (λ _. Moved) [
+            | none ↦ moved (flight≔ d none none) (v ∷ []) 0
+            | some u ↦ record { state = flight≔ d (launch u (start u .left)) none; row = v ∷ []; fires = 0; changed = start u .changed }
+          ] .state .flight) ≡ s
+      go none = refl
+      go (some u) = w u
 
   flown-kind : (d : Delay) (v : Value) (k : Countdown) → counts-seconds k ≡ s → flies-by s (flown start d v k .state .flight) ≡ s
   unfolding flies-by flown launch moved flight≔ if_then_else_
   flown-kind d v k j = go (due k) refl
     where
       go : (b : Bool) → due k ≡ b → flies-by s (flown start d v k .state .flight) ≡ s
-      go true e = rw e (relaunch-kind d)
+      go true e = rw e (landed-kind d v)
       go false e = rw e j
 
   advance-kind : (dt : ℕ) (d : Delay) → flies-by s (d .flight) ≡ s → flies-by s (advance-flight start dt d .state .flight) ≡ s
@@ -247,8 +244,9 @@ input-moves s ws vs b r v k j l h st qs =
 
 -- a tick
 pub fly-empty :
-    (s : Bool) (ws : List ℕ) (x dt : ℕ) (start : Value → Countdown) → x ≡ getD ws 2 0 → x ≡ 0 → Turns s ws ws (advance-flight start dt) (row-of None) 0
-unfolding delay-of flight-of row-of
+    (s : Bool) (ws : List ℕ) (x dt : ℕ) (start : Value → Started) → x ≡ getD ws 2 0 → x ≡ 0 →
+    Lands s ws ws (advance-flight start dt) (record { what = None; changed = false })
+unfolding delay-of flight-of row-of moved
 fly-empty s ws x dt start e z qs = flight-none start dt (delay-of s ws qs) (sym (loaded-empty s ws x e z))
 
 pub fly-moves :
@@ -256,15 +254,15 @@ pub fly-moves :
     (flight-of (b .flight) ≡ flight-in s ws) × (later-of (b .later) ≡ later-in ws) → wait ≡ setting c g 1 → zero-wait ≡ setting c g 2 →
     buffer-moved r ≡ advance-flight (starts s wait zero-wait) dt (buffer b) →
     Becomes-by (flight-of (r .flight)) ws vs (λ d. flight≔ d (flight-of (r .flight)) (later-of (r .later))) →
-    Turns s ws vs (advance-flight (λ v. countdown c g (truthy v)) dt) (row-of (r .landed)) 0
+    Lands s ws vs (advance-flight (λ v. countdown c g (truthy v)) dt) (record { what = r .landed; changed = r .changed })
 unfolding delay-of buffer-moved buffer moved flight≔ starts
 fly-moves c g s ws vs dt b r wait zero-wait es l ew ez h st qs =
     let start : (v : Value) → starts s wait zero-wait v ≡ countdown c g (truthy v) = λ v. rw (es, ew, ez) (sym (of-gate c g (truthy v))) in
-    let of-kind : (v : Value) → counts-seconds (countdown c g (truthy v)) ≡ s = λ v. ap counts-seconds (sym (start v)) ∙ kind-by s (truthy v) wait zero-wait in
-    let m : buffer-moved r ≡ advance-flight (λ v. countdown c g (truthy v)) dt (buffer b) = h ∙ ap (λ (f : Value → Countdown). advance-flight f dt (buffer b)) (λ j v. start v j) in
+    let of-kind : (v : Value) → counts-seconds (countdown c g (truthy v) .left) ≡ s = λ v. ap (λ (k : Started). counts-seconds (k .left)) (sym (start v)) ∙ kind-by s (truthy v) wait zero-wait in
+    let m : buffer-moved r ≡ advance-flight (λ v. countdown c g (truthy v)) dt (buffer b) = h ∙ ap (λ (f : Value → Started). advance-flight f dt (buffer b)) (λ j v. start v j) in
     let kind : flies-by s (flight-of (r .flight)) ≡ s = ap (λ (x : Moved). flies-by s (x .state .flight)) m ∙ advance-kind s (λ v. countdown c g (truthy v)) of-kind dt (buffer b) (ap (flies-by s) (l .0) ∙ in-kind s ws) in
     sym (buffer-stored (delay-of s ws qs) b r (l .0) (l .1) (λ v. countdown c g (truthy v)) dt m)
-    ∙ ap (λ (d : Delay). moved d (row-of (r .landed)) 0) (sym (st s kind qs))
+    ∙ ap (λ (d : Delay). record { state = d; row = row-of (r .landed); fires = 0; changed = r .changed }) (sym (st s kind qs))
 
 -- a slot has eleven words and more
 pub slot-long : (s : List ℕ) → length s ≡ 344 → 11 ≤ length (words s)

@@ -12,7 +12,8 @@ use Rattle.lists.specs.declared.Filed.the-variants.{Full, Done}
 use Rattle.model.specs.State.{Countdown, Flight, Queued, Delay}
 use Rattle.model.specs.Delays.{Moved, moved}
 use Rattle.model.specs.Exec.{most-fires}
-use Rattle.delays.specs.States.{counts-seconds, add-fire}
+use Rattle.delays.specs.States.{counts-seconds, row-of, add-fire}
+use Rattle.states.specs.declared.slots.Landed.{Landed}
 use Rattle.states.specs.View.{delay-of}
 
 -- The small state in the slot becomes what f makes of it.
@@ -35,6 +36,11 @@ Becomes-by flight ws to f = (seconds : Bool) → flies-by seconds flight ≡ sec
 -- It moves on by f, which hands out a row and fires n times.
 abbrev pub Turns : Bool → List ℕ → List ℕ → (Delay → Moved) → List Value → ℕ → Type 0
 Turns seconds ws to f row n = (qs : List Queued) → f (delay-of seconds ws qs) ≡ moved (delay-of seconds to qs) row n
+
+-- A value buffer moves on by f: what lands, and whether narrowing changed a wait.
+abbrev pub Lands : Bool → List ℕ → List ℕ → (Delay → Moved) → Landed → Type 0
+Lands seconds ws to f r =
+    (qs : List Queued) → f (delay-of seconds ws qs) ≡ record { state = delay-of seconds to qs; row = row-of (r .what); fires = 0; changed = r .changed }
 
 -- The same whether its countdowns are in seconds or in ticks.
 abbrev pub Turns-any : List ℕ → List ℕ → (Delay → Moved) → List Value → ℕ → Type 0

@@ -11,17 +11,19 @@ ghost use Rattle.model.specs.Circuit.{part, kind-of-gate};
 ghost use Rattle.model.specs.State.{flight≔, fires≔};
 ghost use Rattle.model.specs.Delays.{launch, buffer-input, advance-flight, advance-fires, advance-elapsed, advance-time, pressed};
 ghost use Rattle.model.specs.Exec.{countdown, most-fires};
-ghost use Rattle.delays.specs.States.{counted, counts-seconds, flight-of, later-of, row-of, fires-of, stopwatch-moved};
+ghost use Rattle.delays.specs.States.{counted, started, counts-seconds, flight-of, later-of, row-of, fires-of, stopwatch-moved};
 ghost use Rattle.links.specs.Links.{net};
 ghost use Rattle.links.specs.Lent.{Linked, net-of};
-ghost use Rattle.states.specs.View.{flight-in, later-in, fires-in, delay-in, with-delay, Moves};
-ghost use Rattle.states.specs.Slots.{Becomes, Becomes-any, Becomes-by, Turns, Turns-any, Added};
+ghost use Rattle.states.specs.View.{flight-in, later-in, fires-in, delay-in, with-delay, starting, Moves};
+ghost use Rattle.states.specs.Slots.{Becomes, Becomes-any, Becomes-by, Turns, Turns-any, Lands, Added};
 ghost use Rattle.states.specs.Lent.{Slot, Slots, Delays-change, Adds-fire};
+use crate::counting::count_changed;
 use delays::buffer::Buffer;
 use delays::buffer::Flight;
 use delays::buffer::Optional;
 use delays::clock::Clock;
 use delays::countdown::Countdown;
+use delays::countdown::Started;
 use delays::countdown::buffer_countdown;
 use delays::countdown::of_word;
 use delays::fires::Fires;
@@ -78,11 +80,20 @@ const SLOT: usize = FIRES + MOST_FIRES;
 
 const SLOT_BYTES: usize = SLOT * 8;
 
-// Where the parts of the Queues begin: behind a slot for each gate.
-pub const PARTS: usize = SLOTS + SLOT * MOST_GATES;
+// Where the count of narrowings stands: behind a slot for each gate.
+pub const CHANGED: usize = SLOTS + SLOT * MOST_GATES;
+
+// Where the parts of the Queues begin.
+pub const PARTS: usize = CHANGED + 1;
 
 // From this kind on countdowns are in seconds.
 const SECONDS: u64 = BUFFER_SECONDS;
+
+// What landed as a value buffer moved on, if anything did, and whether narrowing changed the wait of the input that started then.
+pub struct Landed {
+    pub what: Optional,
+    pub changed: bool,
+}
 
 // ---- a slot
 
@@ -174,6 +185,7 @@ fn load_buffer(slot: &[u8], seconds: bool) -> Buffer
         flight: flight,
         later: later,
         landed: Optional::None,
+        changed: false,
     }
 }
 
@@ -188,18 +200,22 @@ fn input(slot: &mut [u8], seconds: bool, v: Value, k: Countdown)
 }
 
 // One tick: the value in flight lands when its countdown is due.
-fn fly(links: &[usize], slot: &mut [u8], g: usize, seconds: bool, dt: u32) -> Optional
+fn fly(links: &[usize], slot: &mut [u8], g: usize, seconds: bool, dt: u32) -> Landed
     requires { ⌜ Linked links × Slot slot × (seconds ≡ leb 12 (kind-of-gate (net (now links)) g)) ⌝ }
-    ensures { λ r. ⌜ Turns seconds (was slot) (is slot) (advance-flight (λ v. countdown (net-of links) g (truthy v)) dt) (row-of r) 0 ⌝ }
+    ensures { λ r. ⌜ Lands seconds (was slot) (is slot) (advance-flight (λ v. countdown (net-of links) g (truthy v)) dt) r ⌝ }
 {
     if get(slot, FLIGHT) == 0 {
-        return Optional::None;
+        return Landed {
+            what: Optional::None,
+            changed: false,
+        };
     }
     let b = load_buffer(slot, seconds);
     let next = b.advance(dt, seconds, setting(links, g, 1), setting(links, g, 2));
-    let landed = next.landed;
+    let what = next.landed;
+    let changed = next.changed;
     store_buffer(slot, next);
-    landed
+    Landed { what, changed }
 }
 
 // The places of the fires in the slot.
@@ -244,16 +260,16 @@ fn store_fires(slot: &mut [u8], fires: Fires)
     put_row(slot, FIRES, &places);
 }
 
-// One fire more, if there is room.
-fn start_fire(links: &[usize], slot: &mut [u8], g: usize, seconds: bool) -> Filed
-    requires { ⌜ Linked links × Slot slot × (seconds ≡ leb 12 (kind-of-gate (net (now links)) g)) ⌝ }
-    ensures { λ r. ⌜ Added seconds (was slot) (is slot) (countdown (net-of links) g true) r ⌝ }
+// One fire more with its countdown, if there is room.
+fn start_fire(slot: &mut [u8], seconds: bool, k: Countdown) -> Filed
+    requires { ⌜ Slot slot × (counts-seconds (counted k) ≡ seconds) ⌝ }
+    ensures { λ r. ⌜ Added seconds (was slot) (is slot) (counted k) r ⌝ }
 {
     if MOST_FIRES <= get(slot, COUNT) as usize {
         return Filed::Full;
     }
     let fires = load_fires(slot, seconds);
-    let next = fires.add(setting(links, g, 1));
+    let next = fires.add(k);
     store_fires(slot, next);
     Filed::Done
 }
@@ -335,24 +351,30 @@ fn press(slot: &mut [u8], p: usize)
 
 // ---- gates
 
+// The countdown that gate g, a buffer, starts for a value that is rising or not.
+fn countdown(links: &[usize], g: usize, rising: bool) -> Started
+    requires { ⌜ Linked links ⌝ }
+    ensures { λ r. ⌜ started r ≡ countdown (net-of links) g rising ⌝ }
+{
+    let seconds = SECONDS <= kind_of_gate(links, g);
+    buffer_countdown(seconds, rising, setting(links, g, 1), setting(links, g, 2))
+}
+
 // Gate g, a value buffer, gets a new input.
 pub fn buffer_input(links: &[usize], delays: &mut [u8], g: usize, v: Value)
     requires { ⌜ Linked links × Slots links delays ⌝ }
-    ensures { λ _. ⌜ Delays-change links delays (λ c old new. new ≡ with-delay old g (buffer-input (delay-in old g) v (countdown c g (truthy v)))) ⌝ }
+    ensures { λ _. ⌜ Delays-change links delays (λ c old new. new ≡ starting old g (λ d left. buffer-input d v left) (countdown c g (truthy v))) ⌝ }
 {
     if gates(links) <= g {
         return;
     }
     let seconds = SECONDS <= kind_of_gate(links, g);
-    let k = buffer_countdown(
-        seconds,
-        truthy(v),
-        setting(links, g, 1),
-        setting(links, g, 2),
-    );
+    let k = countdown(links, g, truthy(v));
+    let left = k.left;
     let a = (SLOTS + SLOT * g) * 8;
     let e = a + SLOT_BYTES;
-    input(&mut delays[a..e], seconds, v, k);
+    input(&mut delays[a..e], seconds, v, left);
+    count_changed(links, delays, k.changed);
 }
 
 // Gate g, a value buffer, moves on by a tick of the length dt in f32 bits: what lands.
@@ -366,7 +388,10 @@ pub fn buffer_advance(links: &[usize], delays: &mut [u8], g: usize, dt: u32) -> 
     let seconds = SECONDS <= kind_of_gate(links, g);
     let a = (SLOTS + SLOT * g) * 8;
     let e = a + SLOT_BYTES;
-    fly(links, &mut delays[a..e], g, seconds, dt)
+    let landed = fly(links, &mut delays[a..e], g, seconds, dt);
+    count_changed(links, delays, landed.changed);
+    let what = landed.what;
+    what
 }
 
 // One fire more of gate g, a buffer in exec mode, if there is room.
@@ -378,9 +403,13 @@ pub fn add_fire(links: &[usize], delays: &mut [u8], g: usize) -> Filed
         return Filed::Done;
     }
     let seconds = SECONDS <= kind_of_gate(links, g);
+    let k = countdown(links, g, true);
+    let left = k.left;
     let a = (SLOTS + SLOT * g) * 8;
     let e = a + SLOT_BYTES;
-    start_fire(links, &mut delays[a..e], g, seconds)
+    let filed = start_fire(&mut delays[a..e], seconds, left);
+    count_changed(links, delays, k.changed);
+    filed
 }
 
 // Gate g, a buffer in exec mode, moves on by a tick: how many fire.

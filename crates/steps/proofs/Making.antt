@@ -6,10 +6,10 @@ use mathlib.Core.List.{List, [], _∷_}
 use mathlib.Core.Option.{none}
 use lib.ListN.{getD, set}
 use Rattle.model.specs.Base.{if_then_else_}
-use Rattle.model.specs.State.{Wires, Delay, Send, wires≔}
+use Rattle.model.specs.State.{Wires, Delay, Send, wires≔, changed≔}
 use Rattle.model.specs.Exec.{Stepped, fires-next, ends}
 use Rattle.wires.specs.View.{Values, with-wires}
-use Rattle.states.specs.View.{Delays}
+use Rattle.states.specs.View.{Delays, with-changed}
 use Rattle.units.specs.View.{Units}
 use Rattle.units.specs.Calls.{with-outbox}
 use Rattle.areas.specs.Areas.{Contents, together}
@@ -48,23 +48,24 @@ pub makes-ends : (a : Contents) → Makes a a Ends (ends (a .state))
 unfolding ends stepped
 makes-ends a = record { state = refl; answer = refl }
 
--- the wires became w and the small states ds, and the chain ends
-pub makes-delays : (v v₁ : Values) (d d₁ : Delays) (w : Wires) (ds : List Delay) → v₁ ≡ with-wires v w → d₁ ≡ record { delays = ds; parts = d .parts; rest = d .rest } → (u : Units) →
-    Makes (together v u d) (together v₁ u d₁) Ends (ends (record { wires = w; delays = ds; outbox = u .outbox }))
+-- the wires became w, the small states ds and the count n, and the chain ends
+pub makes-delays : (v v₁ : Values) (d d₁ : Delays) (w : Wires) (ds : List Delay) (n : ℕ) → v₁ ≡ with-wires v w → d₁ ≡ record { delays = ds; changed = n; parts = d .parts; rest = d .rest } →
+    (u : Units) → Makes (together v u d) (together v₁ u d₁) Ends (ends (record { wires = w; delays = ds; outbox = u .outbox; changed = n }))
 unfolding ends stepped
-makes-delays v v₁ d d₁ w ds e f u = record { state = λ j. together (e j) u (f j); answer = refl }
+makes-delays v v₁ d d₁ w ds n e f u = record { state = λ j. together (e j) u (f j); answer = refl }
 
--- nothing changed, and a list was full
-pub makes-full : (v : Values) (u : Units) (d d₁ : Delays) → d₁ ≡ d → Makes (together v u d) (together v u d₁) Full (record { state = together v u d .state; next = none; full = true })
-unfolding stepped
-makes-full v u d d₁ e = record { state = ap (λ (x : Delays). together v u x) e; answer = refl }
+-- the count became n, and a list was full
+pub makes-full : (v : Values) (u : Units) (d d₁ : Delays) (n : ℕ) → d₁ ≡ with-changed d n →
+    Makes (together v u d) (together v u d₁) Full (record { state = changed≔ (together v u d .state) n; next = none; full = true })
+unfolding stepped changed≔
+makes-full v u d d₁ n e = record { state = ap (λ (x : Delays). together v u x) e; answer = refl }
 
 -- the wires became w and the outbox x, and the chain goes on from output o
 pub makes-sent : (v v₁ : Values) (u u₁ : Units) (w : Wires) (x : List Send) (o o₁ : ℕ) → v₁ ≡ with-wires v w → u₁ ≡ with-outbox u x → o ≡ o₁ → (d : Delays) →
-    Makes (together v u d) (together v₁ u₁ d) (Fires o) (fires-next (record { wires = w; delays = d .delays; outbox = x }) o₁)
+    Makes (together v u d) (together v₁ u₁ d) (Fires o) (fires-next (record { wires = w; delays = d .delays; outbox = x; changed = d .changed }) o₁)
 unfolding fires-next stepped
 makes-sent v v₁ u u₁ w x o o₁ e f h d =
-    record { state = λ j. together (e j) (f j) d; answer = ap (fires-next (record { wires = w; delays = d .delays; outbox = x })) h }
+    record { state = λ j. together (e j) (f j) d; answer = ap (fires-next (record { wires = w; delays = d .delays; outbox = x; changed = d .changed })) h }
 
 -- what stands at a place is put there again
 pub set-again : {A : Type 0} (l : List A) (i : ℕ) (a : A) → set l i (getD l i a) ≡ l

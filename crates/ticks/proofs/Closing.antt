@@ -73,7 +73,7 @@ module _ (c : Circuit) where
     module _ (same : w .state ≡ a .state) (late : Passes c (for-late c) a₁ a₂ r₁ v (late-from c q v s)) (e : a₂ .lists .pending ≡ a₁ .lists .pending) (f : a₂ .lists .carried ≡ a₁ .lists .carried)
         (main : Passes c (for-main c) a₂ a₃ r₂ (state≔ v (r₁ .left) (a₂ .state)) (main-pass S (units-left a₂) tt (for-main c (a₂ .lists)) (state≔ v (r₁ .left) (a₂ .state)) (r₁ .stop)))
         (h : Head) (ended : State) (reads : ended ≡ read-outputs c (a₃ .state) (r₂ .stop)) (h₁ : h .tick ≡ ended .wires .tick) (h₂ : h .steps ≡ i .limit - r₂ .left + (if eqb (r₂ .stop) 11 then 1 else 0))
-        (h₃ : h .late ≡ length (a₂ .kept .begun)) (h₄ : h .stop ≡ r₂ .stop) where
+        (h₃ : h .late ≡ length (a₂ .kept .begun)) (h₄ : h .stop ≡ r₂ .stop) (h₅ : h .changed ≡ ended .changed) where
       abbrev l : Passed S (LateQ (Activation S))
       l = late-from c q v s
 
@@ -101,7 +101,7 @@ module _ (c : Circuit) where
           ap (λ (x : Passed S (MainQ (Activation S))). closing c (x .world) i (outcome S (l .turns) (x .turns) (x .queue .carried) (x .stop))) (main-is late e f)
           ∙ rw (main .world, main .queue, main .stop) (ap (λ (x : State). write (state≔ w (r₂ .left) x) (record-words (log-record (i .limit) (state≔ w (r₂ .left) x) (outcome S (l .turns) (m .turns) (map (waiting c) (a₃ .lists .carried)) (r₂ .stop))))) (sym reads))
           ∙ ap (λ (r : Log-record). write u (record-words r)) (record-is c (i .limit) u (l .turns) (m .turns) (a₃ .lists .carried) (r₂ .stop) h (a₃ .kept .begun)
-          h₁ h₂ (h₃ ∙ ap length begun₂ ∙ length-map (acts S (l .turns)) as-listed) h₄ begun₃)
+          h₁ h₂ (h₃ ∙ ap length begun₂ ∙ length-map (acts S (l .turns)) as-listed) h₄ h₅ begun₃)
 
       -- ---- the tick
       module _ (before after : List ℕ) (at : ℕ) (room : w .room ≡ length before - 8 * at) (inside : 8 * at ≤ length before) (kept : Writes before after at rs) where

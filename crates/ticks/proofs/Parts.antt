@@ -99,11 +99,11 @@ module _ (c : Circuit) where
   -- the record of a tick, by what the areas hold
   pub record-is :
       (limit : ℕ) (v : World) (late : List (Turn S)) (main : List (Turn S)) (carried : List Act) (stop : ℕ) (h : Head) (begun : List Listed) →
-      h .tick ≡ v .state .wires .tick → h .steps ≡ steps limit v stop → h .late ≡ length (acts S late) → h .stop ≡ stop →
+      h .tick ≡ v .state .wires .tick → h .steps ≡ steps limit v stop → h .late ≡ length (acts S late) → h .stop ≡ stop → h .changed ≡ v .state .changed →
       begun ≡ map as-listed (acts S late) ++ map as-listed (acts S main) →
       log-record limit v (outcome S late main (map (waiting c) carried) stop) ≡ record-of h begun (map as-listed carried) (v .state .wires .outs)
   unfolding log-record outputs-shown record-of
-  record-is limit v late main carried stop h begun e₁ e₂ e₃ e₄ e₅ =
+  record-is limit v late main carried stop h begun e₁ e₂ e₃ e₄ e₆ e₅ =
       let n : h .late ≡ length (map as-listed (acts S late)) = e₃ ∙ sym (length-map (acts S late) as-listed) in
       let l : take (h .late) begun ≡ map as-listed (acts S late) = ap₂ take n e₅ ∙ take-append-seam (map as-listed (acts S late)) (map as-listed (acts S main)) in
       let m : drop (h .late) begun ≡ map as-listed (acts S main) = ap₂ drop n e₅ ∙ drop-append-seam (map as-listed (acts S late)) (map as-listed (acts S main)) in
@@ -115,5 +115,6 @@ module _ (c : Circuit) where
         main = sym m j;
         carried = map as-listed (acts-waiting carried j);
         stop = sym e₄ j;
+        changed = sym e₆ j;
         outs = if eqb (sym e₄ j) 0 then v .state .wires .outs else [];
       }

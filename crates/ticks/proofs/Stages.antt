@@ -104,10 +104,10 @@ read-all c v b stop h e = rw h e
 
 -- the head of the record
 pub head-is :
-    (limit late left stop tick made : ℕ) (v : Values) → tick ≡ v .wires .tick → made ≡ steps-made limit left stop →
-    _≡_ {A = Head} (record { tick = tick; steps = made; late = late; stop = stop }) (head-of limit late left stop v)
+    (limit late changed left stop tick made : ℕ) (v : Values) → tick ≡ v .wires .tick → made ≡ steps-made limit left stop →
+    _≡_ {A = Head} (record { tick = tick; steps = made; late = late; stop = stop; changed = changed }) (head-of limit late changed left stop v)
 unfolding head-of
-head-is limit late left stop tick made v e₁ e₂ = rw (e₁, e₂) refl
+head-is limit late changed left stop tick made v e₁ e₂ = rw (e₁, e₂) refl
 
 -- what a tick answers, by what writing its record came to
 abbrev pub ticked-by : Written → ℕ → Ticked
@@ -121,13 +121,13 @@ ticked-is false rs stop = refl
 
 -- the record was written, or did not fit
 pub closes :
-    (c : Circuit) (limit late : ℕ) (r : Ran) (v b : Values) (u : Units) (before after : List ℕ) (at : ℕ) (h : Head) {x y : Written} →
-    b ≡ with-wires v (outputs-read c (v .wires) (r .stop)) → h ≡ head-of limit late (r .left) (r .stop) b →
+    (c : Circuit) (limit late changed : ℕ) (r : Ran) (v b : Values) (u : Units) (before after : List ℕ) (at : ℕ) (h : Head) {x y : Written} →
+    b ≡ with-wires v (outputs-read c (v .wires) (r .stop)) → h ≡ head-of limit late changed (r .left) (r .stop) b →
     x ≡ written-as (fits before at (words-with h b u)) (words-with h b u) → Writes before after at (words-with h b u) → x ≡ y →
-    Closes c limit late r v b u before after at (ticked-by y (r .stop))
+    Closes c limit late changed r v b u before after at (ticked-by y (r .stop))
 unfolding words-of
-closes c limit late r v b u before after at h e₁ e₂ e₃ e₄ e₅ =
-    let rs = words-of limit late r b u in
+closes c limit late changed r v b u before after at h e₁ e₂ e₃ e₄ e₅ =
+    let rs = words-of limit late changed r b u in
     let same : words-with h b u ≡ rs = ap (λ (z : Head). words-with z b u) e₂ in
     record {
       values = e₁;

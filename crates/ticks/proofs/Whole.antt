@@ -36,7 +36,7 @@ all-left : (c : Circuit) (a a₁ : Contents) (given : Given) → a₁ ≡ with-w
 unfolding reopened
 all-left c a a₁ given e = ap (λ (x : Contents). units-left x) e
 
-module _ (c : Circuit) (i : Allowed) (a a₁ a₂ : Contents) (v b : Values) (u : Units) (d : Delays) (r₁ r₂ : Ran) (late : ℕ) (before after : List ℕ) (at : ℕ) where
+module _ (c : Circuit) (i : Allowed) (a a₁ a₂ : Contents) (v b : Values) (u : Units) (d : Delays) (r₁ r₂ : Ran) (late changed : ℕ) (before after : List ℕ) (at : ℕ) where
   abbrev a₃ : Contents
   a₃ = together v u d
 
@@ -45,9 +45,9 @@ module _ (c : Circuit) (i : Allowed) (a a₁ a₂ : Contents) (v b : Values) (u 
   ended = together b u d .state
 
   abbrev rs : List ℕ
-  rs = words-of (i .limit) late r₂ b u
+  rs = words-of (i .limit) late changed r₂ b u
 
-  module _ (came : a₁ ≡ with-went (reopened c a) (opened c a (i .given))) (l : Ran-late c a₁ a₂ (i .limit) (stop-of (opened c a (i .given) .answer)) r₁) (n : late ≡ length (a₂ .kept .begun)) (m : Ran-main c a₂ a₃ (r₁ .left) (r₁ .stop) r₂)
+  module _ (came : a₁ ≡ with-went (reopened c a) (opened c a (i .given))) (l : Ran-late c a₁ a₂ (i .limit) (stop-of (opened c a (i .given) .answer)) r₁) (n : late ≡ length (a₂ .kept .begun)) (x : changed ≡ d .changed) (m : Ran-main c a₂ a₃ (r₁ .left) (r₁ .stop) r₂)
       (read : b ≡ with-wires v (outputs-read c (v .wires) (r₂ .stop))) (inside : at * 8 ≤ length before) (kept : Writes before after at rs) (w : World) (same : w .state ≡ a .state) (room : w .room ≡ length before - 8 * at) where
     abbrev w₁ : World
     w₁ = state≔ w (i .limit) (a₁ .state)
@@ -82,13 +82,13 @@ module _ (c : Circuit) (i : Allowed) (a a₁ a₂ : Contents) (v b : Values) (u 
     unfolding words-of head-of steps-made
     tick-fits y =
         subst (λ (x : Contents). Ticks c a x before after at (length rs) (r₂ .stop) w (tick (bare c) w i (map (waiting c) (a .lists .carried)) tt)) areas-are
-        (ticks-fit c w i a a₁ a₂ a₃ r₁ r₂ came same late-is (l .pending) (l .carried) main-is₁ (head-of (i .limit) late (r₂ .left) (r₂ .stop) b) ended reads refl refl n refl before after at room (omega arith) kept y)
+        (ticks-fit c w i a a₁ a₂ a₃ r₁ r₂ came same late-is (l .pending) (l .carried) main-is₁ (head-of (i .limit) late changed (r₂ .left) (r₂ .stop) b) ended reads refl refl n refl x before after at room (omega arith) kept y)
 
     tick-full : fits before at rs ≡ false → Ticks c a (together b u d) before after at 0 log-full w (tick (bare c) w i (map (waiting c) (a .lists .carried)) tt)
     unfolding words-of head-of steps-made
     tick-full y =
         subst (λ (x : Contents). Ticks c a x before after at 0 log-full w (tick (bare c) w i (map (waiting c) (a .lists .carried)) tt)) areas-are
-        (ticks-full c w i a a₁ a₂ a₃ r₁ r₂ came same late-is (l .pending) (l .carried) main-is₁ (head-of (i .limit) late (r₂ .left) (r₂ .stop) b) ended reads refl refl n refl before after at room (omega arith) kept y)
+        (ticks-full c w i a a₁ a₂ a₃ r₁ r₂ came same late-is (l .pending) (l .carried) main-is₁ (head-of (i .limit) late changed (r₂ .left) (r₂ .stop) b) ended reads refl refl n refl x before after at room (omega arith) kept y)
 
     pub tick-answers :
         (t : Ticked) → t ≡ ticked-as (fits before at rs) rs (r₂ .stop) →
@@ -102,10 +102,10 @@ module _ (c : Circuit) (i : Allowed) (a a₁ a₂ : Contents) (v b : Values) (u 
 
 -- the opening, the passes and the record make a tick
 pub ticks-through :
-    (c : Circuit) (limit : ℕ) (given : Given) (a a₁ a₂ : Contents) (v b : Values) (u : Units) (d : Delays) (o : Filed) (r₁ r₂ : Ran) (late : ℕ) (before after : List ℕ) (at : ℕ) (t : Ticked) → at * 8 ≤ length before →
-    (a₁ ≡ with-went (reopened c a) (opened c a given)) × (o ≡ opened c a given .answer) → Ran-late c a₁ a₂ limit (stop-of o) r₁ → late ≡ length (a₂ .kept .begun) → Ran-main c a₂ (together v u d) (r₁ .left) (r₁ .stop) r₂ →
-    Closes c limit late r₂ v b u before after at t →
+    (c : Circuit) (limit : ℕ) (given : Given) (a a₁ a₂ : Contents) (v b : Values) (u : Units) (d : Delays) (o : Filed) (r₁ r₂ : Ran) (late changed : ℕ) (before after : List ℕ) (at : ℕ) (t : Ticked) → at * 8 ≤ length before →
+    (a₁ ≡ with-went (reopened c a) (opened c a given)) × (o ≡ opened c a given .answer) → Ran-late c a₁ a₂ limit (stop-of o) r₁ → late ≡ length (a₂ .kept .begun) → changed ≡ d .changed →
+    Ran-main c a₂ (together v u d) (r₁ .left) (r₁ .stop) r₂ → Closes c limit late changed r₂ v b u before after at t →
     (w : World) → w .state ≡ a .state → w .room ≡ length before - 8 * at →
     Ticks c a (together b u d) before after at (t .size) (t .stop) w (tick (bare c) w (allow limit given) (map (waiting c) (a .lists .carried)) tt)
-ticks-through c limit given a a₁ a₂ v b u d o r₁ r₂ late before after at t inside opens l n m ends w same room =
-    tick-answers c (allow limit given) a a₁ a₂ v b u d r₁ r₂ late before after at (opens .0) (subst (λ (x : Filed). Ran-late c a₁ a₂ limit (stop-of x) r₁) (opens .1) l) n m (ends .values) inside (ends .log) w same room t (ends .answer)
+ticks-through c limit given a a₁ a₂ v b u d o r₁ r₂ late changed before after at t inside opens l n x m ends w same room =
+    tick-answers c (allow limit given) a a₁ a₂ v b u d r₁ r₂ late changed before after at (opens .0) (subst (λ (x : Filed). Ran-late c a₁ a₂ limit (stop-of x) r₁) (opens .1) l) n x m (ends .values) inside (ends .log) w same room t (ends .answer)

@@ -43,16 +43,16 @@ unfoldable pub outputs-read : Circuit → Wires → ℕ → Wires
 outputs-read c w stop = if eqb stop 0 then refresh-all c w else w
 
 -- the head of a tick's record
-unfoldable pub head-of : ℕ → ℕ → ℕ → ℕ → Values → Head
-head-of limit late left stop v = record { tick = v .wires .tick; steps = steps-made limit left stop; late = late; stop = stop }
+unfoldable pub head-of : ℕ → ℕ → ℕ → ℕ → ℕ → Values → Head
+head-of limit late changed left stop v = record { tick = v .wires .tick; steps = steps-made limit left stop; late = late; stop = stop; changed = changed }
 
 -- the words of a record with this head
 abbrev pub words-with : Head → Values → Units → List ℕ
 words-with h v u = record-words (record-of h (u .begun) (map as-listed (u .lists .carried)) (v .wires .outs))
 
 -- the words of a tick's record
-unfoldable pub words-of : ℕ → ℕ → Ran → Values → Units → List ℕ
-words-of limit late r v u = words-with (head-of limit late (r .left) (r .stop) v) v u
+unfoldable pub words-of : ℕ → ℕ → ℕ → Ran → Values → Units → List ℕ
+words-of limit late changed r v u = words-with (head-of limit late changed (r .left) (r .stop) v) v u
 
 -- the answer of a tick, by whether its record fits
 unfoldable pub ticked-as : Bool → List ℕ → ℕ → Ticked
@@ -60,7 +60,7 @@ ticked-as true rs stop = record { size = length rs; stop = stop }
 ticked-as false rs stop = record { size = 0; stop = log-full }
 
 -- The end of a tick after the passes' answer r: the outputs are read, v became b, and the record is written to the log, which became `after`.
-pub record Closes (c : Circuit) (limit late : ℕ) (r : Ran) (v b : Values) (u : Units) (before after : List ℕ) (at : ℕ) (t : Ticked) : Type 0 where
+pub record Closes (c : Circuit) (limit late changed : ℕ) (r : Ran) (v b : Values) (u : Units) (before after : List ℕ) (at : ℕ) (t : Ticked) : Type 0 where
   pub values : b ≡ with-wires v (outputs-read c (v .wires) (r .stop))
-  pub answer : t ≡ ticked-as (fits before at (words-of limit late r b u)) (words-of limit late r b u) (r .stop)
-  pub log : Writes before after at (words-of limit late r b u)
+  pub answer : t ≡ ticked-as (fits before at (words-of limit late changed r b u)) (words-of limit late changed r b u) (r .stop)
+  pub log : Writes before after at (words-of limit late changed r b u)

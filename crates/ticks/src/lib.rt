@@ -23,6 +23,7 @@ use log::write_record;
 use opening::open;
 use passes::late_pass;
 use passes::main_pass;
+use states::counting::changed;
 use stops::LIST_FULL;
 use stops::LOG_FULL;
 use stops::RUNAWAY;
@@ -97,20 +98,29 @@ fn read_outputs(links: &[usize], values: &mut [u8], stop: u64)
     refresh_all(links, values);
 }
 
-// The head of the tick's record, where `late` units began in the late pass.
-fn head(links: &[usize], values: &[u8], limit: u64, late: usize, left: u64, stop: u64) -> Head
+// The head of the tick's record, where `late` units began in the late pass and so many narrowings changed their number.
+fn head(
+    links: &[usize],
+    values: &[u8],
+    limit: u64,
+    late: usize,
+    changed: u64,
+    left: u64,
+    stop: u64,
+) -> Head
     requires { ⌜ Linked links × Room values × (limit < 2 ^ 63) ⌝ }
-    ensures { λ r. ⌜ r ≡ head-of limit late left stop (values-in links values) ⌝ }
+    ensures { λ r. ⌜ r ≡ head-of limit late changed left stop (values-in links values) ⌝ }
 {
     Head {
         tick: wires::ticks::tick(links, values),
         steps: steps(limit, left, stop),
         late,
         stop,
+        changed,
     }
 }
 
-// The end of a tick after the passes' answer r, where `late` units began in the late pass: its record becomes the words of the log from word `at` on, if it fits there.
+// The end of a tick after the passes' answer r, where `late` units began in the late pass and so many narrowings changed their number: its record becomes the words of the log from word `at` on, if it fits there.
 fn close(
     links: &[usize],
     values: &mut [u8],
@@ -119,15 +129,16 @@ fn close(
     at: usize,
     limit: u64,
     late: usize,
+    changed: u64,
     r: Ran,
 ) -> Ticked
     requires { ⌜ Linked links × Room values × Room units × (at * 8 ≤ length (now log)) × (limit < 2 ^ 63) ⌝ }
-    ensures { λ t. ⌜ Closes (net-of links) limit late r (values-in links values) (values-out links values) (units-in links units) (before log) (after log) at t ⌝ }
+    ensures { λ t. ⌜ Closes (net-of links) limit late changed r (values-in links values) (values-out links values) (units-in links units) (before log) (after log) at t ⌝ }
 {
     let left = r.left;
     let stop = r.stop;
     read_outputs(links, values, stop);
-    let h = head(links, values, limit, late, left, stop);
+    let h = head(links, values, limit, late, changed, left, stop);
     match write_record(links, values, units, log, at, h) {
         Written::Fits(n) => Ticked { size: n, stop },
         Written::Full => Ticked {
@@ -171,5 +182,6 @@ pub fn tick(
     let first = run_late(links, values, units, delays, opened, limit);
     let late = begun(units);
     let second = run_main(links, values, units, delays, first);
-    close(links, values, units, log, at, limit, late, second)
+    let narrowed = changed(links, delays);
+    close(links, values, units, log, at, limit, late, narrowed, second)
 }

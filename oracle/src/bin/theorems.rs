@@ -16,6 +16,9 @@ use oracle::{Answer, Lent};
 const MOST_WORDS: usize = 3_000;
 const MOST_WORK: usize = 40_000;
 
+/// The words of a record before its units begun.
+const HEAD: usize = 7;
+
 const THEOREMS_A_MODULE: usize = 25;
 
 fn main() -> ExitCode {
@@ -112,10 +115,10 @@ impl Case<'_> {
         let kinds = circuit.iter().skip(4 + 2 * *constants as usize).take(*gates as usize);
         let outputs: usize = kinds.map(|&n| oracle::kinds::kind(n).map_or(0, |kind| kind.outputs.len())).sum();
         let (mut at, mut done) = (0, 0);
-        while at + 6 <= log.len() {
+        while at + HEAD <= log.len() {
             let units = (log[at + 2] + log[at + 3]) as usize;
             done += log[at + 1] as usize + units;
-            at += 6 + 2 * (units + log[at + 4] as usize) + if log[at + 5] == 0 { 2 * outputs } else { 0 };
+            at += HEAD + 2 * (units + log[at + 4] as usize) + if log[at + 5] == 0 { 2 * outputs } else { 0 };
         }
         done * *gates as usize
     }

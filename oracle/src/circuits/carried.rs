@@ -144,14 +144,14 @@ fn and_pending_11() -> Case {
     Case::new("carried-and-pending-11", shows, &and_pending(1), &s).tells(&[32, 52])
 }
 
-/// A record of 32 words, then one of 34, which lists four carried units.
+/// A record of 33 words, then one of 35, which lists four carried units.
 fn logged(name: &str, shows: &str, log: usize) -> Case {
     let mut s = Script::new();
     s.first_checks(1, 0.0).tick(0.25);
     Case::new(name, shows, &one_unit(), &s).tells(&[53]).log(log)
 }
 
-/// A record of 32 words, then a stopped one of 14, which lists two.
+/// A record of 33 words, then a stopped one of 15, which lists two.
 fn logged_12(name: &str, shows: &str, log: usize) -> Case {
     Case { name: name.into(), shows: shows.into(), ..and_pending_12() }.tells(&[53]).log(log)
 }
@@ -160,17 +160,17 @@ fn logs() -> Vec<Case> {
     vec![
         logged(
             "log-carried-exact",
-            "A record with four carried units, of 272 bytes, fills the log's rest.",
-            528,
+            "A record with four carried units, of 280 bytes, fills the log's rest.",
+            544,
         ),
-        logged("log-carried-byte-short", "A byte short for it: 13.", 527),
-        logged("log-carried-word-short", "A word short for it: 13.", 520),
+        logged("log-carried-byte-short", "A byte short for it: 13.", 543),
+        logged("log-carried-word-short", "A word short for it: 13.", 536),
         logged_12(
             "log-carried-12-exact",
-            "A stopped record with two, of 112 bytes, fills the log's rest.",
-            368,
+            "A stopped record with two, of 120 bytes, fills the log's rest.",
+            384,
         ),
-        logged_12("log-carried-12-byte-short", "A byte short for it: 13.", 367),
-        logged_12("log-carried-12-word-short", "A word short for it: 13.", 360),
+        logged_12("log-carried-12-byte-short", "A byte short for it: 13.", 383),
+        logged_12("log-carried-12-word-short", "A word short for it: 13.", 376),
     ]
 }

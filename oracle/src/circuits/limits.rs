@@ -403,7 +403,7 @@ fn queue_released_and_filled(past: usize) -> Case {
     Case::new(name, "A full Queue takes one record in the tick that releases one.", &c, &s).log(1 << 18)
 }
 
-/// The first played circuit for `ticks` ticks: 128 bytes a record.
+/// The first played circuit for `ticks` ticks: 136 bytes a record.
 fn logged(name: &str, shows: &str, ticks: usize, log: usize) -> Case {
     let mut c = Circuit::new();
     let world = c.world_event(0);
@@ -417,7 +417,7 @@ fn logged(name: &str, shows: &str, ticks: usize, log: usize) -> Case {
     Case::new(name, shows, &c, &s).tells(&[35]).log(log)
 }
 
-/// A unit whose calls double until the stack is full: 64 bytes of record.
+/// A unit whose calls double until the stack is full: 72 bytes of record.
 fn logged_12(name: &str, shows: &str, log: usize) -> Case {
     let mut c = Circuit::new();
     let world = c.world_event(0);
@@ -429,7 +429,7 @@ fn logged_12(name: &str, shows: &str, log: usize) -> Case {
     Case::new(name, shows, &c, &s).tells(&[35]).log(log)
 }
 
-/// A Reroute that calls itself: 64 bytes of record.
+/// A Reroute that calls itself: 72 bytes of record.
 fn logged_11(name: &str, shows: &str, log: usize) -> Case {
     let mut c = Circuit::new();
     let world = c.world_event(0);
@@ -442,18 +442,18 @@ fn logged_11(name: &str, shows: &str, log: usize) -> Case {
 
 fn logs() -> Vec<Case> {
     vec![
-        logged("log-exact", "Two records of 128 bytes fit 256.", 2, 256),
-        logged("log-byte-short", "A byte short for the second: 13.", 2, 255),
-        logged("log-word-short", "A word short for the second: 13.", 2, 248),
-        logged("log-byte-over", "A byte over stays untouched.", 2, 257),
-        logged("log-one-record-short", "The first record alone does not fit: 13.", 2, 127),
+        logged("log-exact", "Two records of 136 bytes fit 272.", 2, 272),
+        logged("log-byte-short", "A byte short for the second: 13.", 2, 271),
+        logged("log-word-short", "A word short for the second: 13.", 2, 264),
+        logged("log-byte-over", "A byte over stays untouched.", 2, 273),
+        logged("log-one-record-short", "The first record alone does not fit: 13.", 2, 135),
         logged("log-empty", "No log at all: 13.", 1, 0),
         logged("log-empty-no-ticks", "No log and no ticks.", 0, 0),
-        logged_12("log-12-exact", "The record of a tick stopped by 12 fits 64 bytes.", 64),
-        logged_12("log-12-byte-short", "A byte short for it: 13.", 63),
+        logged_12("log-12-exact", "The record of a tick stopped by 12 fits 72 bytes.", 72),
+        logged_12("log-12-byte-short", "A byte short for it: 13.", 71),
         logged_12("log-12-empty", "No log for it: 13.", 0),
-        logged_11("log-11-exact", "The record of a tick stopped by 11 fits 64 bytes.", 64),
-        logged_11("log-11-byte-short", "A byte short for it: 13.", 63),
+        logged_11("log-11-exact", "The record of a tick stopped by 11 fits 72 bytes.", 72),
+        logged_11("log-11-byte-short", "A byte short for it: 13.", 71),
     ]
 }
 
@@ -465,7 +465,7 @@ fn events_64() -> Case {
     }
     let mut s = Script::new();
     s.ticks(2, 0.25);
-    Case::new("outputs-576", "64 gates of nine outputs: 1,158 words a record.", &c, &s)
+    Case::new("outputs-576", "64 gates of nine outputs: 1,159 words a record.", &c, &s)
 }
 
 fn inputs_640() -> Case {
@@ -523,7 +523,7 @@ fn ticks_100000() -> Case {
     c.server_uptime();
     let mut s = Script::new();
     s.ticks(100_000, 0.1);
-    Case::new("ticks-100000", "The longest script: 100,000 sums of 0.1.", &c, &s).log(100_000 * 64)
+    Case::new("ticks-100000", "The longest script: 100,000 sums of 0.1.", &c, &s).log(100_000 * 72)
 }
 
 fn stimuli_65535() -> Case {

@@ -6,6 +6,7 @@ mod families;
 mod kinds;
 mod limits;
 mod list;
+mod narrowed;
 mod places;
 mod played;
 mod questions;
@@ -39,6 +40,11 @@ pub fn groups() -> Vec<Group> {
             start::cases(),
         ),
         group("carried", "What a tick carries is listed in its record (document 02, K4).", carried::cases()),
+        group(
+            "narrowed",
+            "What a tick narrows and so changes is counted in its record (document 02, K9).",
+            narrowed::cases(),
+        ),
         group("kinds", "Every kind and every pin.", kinds::cases()),
         group("limits", "Every limit at its edge and one past it.", limits::cases()),
         group(

@@ -2,7 +2,7 @@
 
 /// Each in short; a case names the places that it tells by their numbers,
 /// from 1.
-pub const PLACES: [&str; 53] = [
+pub const PLACES: [&str; 58] = [
     "Settling refreshes stale gates once, before its checks. A pulse raised by a check leaves gates \
      stale, and a later VarSet is seen through them at once.",
     "Refreshing a gate refreshes all its stale pure sources, the unchosen side of a Select too.",
@@ -81,15 +81,20 @@ pub const PLACES: [&str; 53] = [
      stopped one lists what was carried up to the stop, and none that is pending or late.",
     "The carried units count in a record's length, of a stopped one too; a record that just fills the \
      log's rest fits.",
+    "A narrowing changes its number where the f32, as a number, is not the f64: -0.0 and the least f32 \
+     stay, what loses a digit, becomes zero or infinite does not.",
+    "The tick length counts once in every tick: where no gate is timed, where several are, and where the \
+     tick stops before it is used.",
+    "A wait counts each time that it is started, kept or not: an input while a value is in flight and \
+     again after the landing, a dropped record, the fire that is one too many, a first reading.",
+    "Only the wait that is chosen counts. Waits in ticks, intervals, limits, sums in f32 and Ints that \
+     become f64s narrow nothing.",
+    "The count begins anew in every tick. A stopped record has what was counted up to the stop: what is \
+     not done after a full list does not count.",
 ];
 
 /// Places that no circuit can tell, and how they are held.
-pub const HELD_OTHERWISE: [(u8, &str); 5] = [
-    (
-        17,
-        "The two roundings differ only for Ints above 2^53, which no run of 100,000 ticks waits for: \
-         held by the definition of narrowing.",
-    ),
+pub const HELD_OTHERWISE: [(u8, &str); 4] = [
     (36, "The oracle has no areas: the definition of the answer says it, and the contract of `run`."),
     (38, "Held by questions 2 and 9, whose circuits try them, and by total definitions on bits."),
     (39, "Held by the definition, which numbers them."),

@@ -142,7 +142,7 @@ fn queue_257() -> Case {
 }
 
 /// `n` Reroutes over `leaf`; a call of the last makes 2^n calls of the leaf.
-fn doublings(c: &mut Circuit, leaf: Gate, n: usize) -> Gate {
+pub(super) fn doublings(c: &mut Circuit, leaf: Gate, n: usize) -> Gate {
     let mut below = leaf;
     for _ in 0..n {
         let above = c.reroute(NOTHING);

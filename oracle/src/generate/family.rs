@@ -17,9 +17,10 @@ pub enum Family {
     Mixed,
     Stops,
     Stale,
+    Narrowed,
 }
 
-pub const FAMILIES: [Family; 15] = [
+pub const FAMILIES: [Family; 16] = [
     Family::Small,
     Family::Pure,
     Family::Ranks,
@@ -35,6 +36,7 @@ pub const FAMILIES: [Family; 15] = [
     Family::Mixed,
     Family::Stops,
     Family::Stale,
+    Family::Narrowed,
 ];
 
 /// The families of the stated circuits: all but the one that was made for what
@@ -65,6 +67,7 @@ impl Family {
             Family::Mixed => "Any kinds, many gates",
             Family::Stops => "Circuits that end with 12 or 13",
             Family::Stale => "Pulses through Selects that nothing watches, and chains that read them",
+            Family::Narrowed => "Waits and tick lengths that are f32s, and as many that are none",
         }
     }
 }
@@ -83,6 +86,8 @@ pub struct Profile {
     pub remote: usize,
     pub queues: usize,
     pub lengths: &'static [f64],
+    /// Settings in seconds.
+    pub seconds: &'static [f64],
 }
 
 const PLAIN: &[f64] = &[0.25, 0.25, 0.5, 0.125, 1.0, 0.0];
@@ -105,6 +110,70 @@ const AWKWARD: &[f64] = &[
     3600.0,
 ];
 
+const SECONDS: &[f64] = &[
+    0.0,
+    -0.0,
+    0.1,
+    0.2,
+    0.3,
+    0.5,
+    0.7,
+    1.0,
+    -1.0,
+    1e-300,
+    1e300,
+    16777216.0,
+    16777218.0,
+    1.0000000596046448,
+    0.09999999,
+    3600.0,
+    0.3333333333333333,
+];
+
+/// The least f32, and half of it, which is none.
+const LEAST: f64 = f64::from_bits((1023 - 149) << 52);
+const HALF_OF_LEAST: f64 = f64::from_bits((1023 - 150) << 52);
+
+/// f32s, then others.
+const LENGTHS_OF_BOTH: &[f64] = &[
+    0.0,
+    0.125,
+    0.25,
+    0.5,
+    0.1f32 as f64,
+    1.0000001192092896,
+    LEAST,
+    3600.0,
+    0.05,
+    0.1,
+    0.3333333333333333,
+    1.0000000596046448,
+    HALF_OF_LEAST,
+    1e-40,
+];
+
+const SECONDS_OF_BOTH: &[f64] = &[
+    0.0,
+    -0.0,
+    0.25,
+    0.5,
+    0.1f32 as f64,
+    LEAST,
+    -1.0,
+    16777218.0,
+    f32::MAX as f64,
+    0.05,
+    0.1,
+    0.3,
+    1.0000000596046448,
+    HALF_OF_LEAST,
+    1e-40,
+    -0.1,
+    16777217.0,
+    3.4028235677973366e38,
+    1e300,
+];
+
 fn plain() -> Profile {
     Profile {
         gates: (6, 20),
@@ -116,6 +185,7 @@ fn plain() -> Profile {
         remote: 15,
         queues: 1,
         lengths: PLAIN,
+        seconds: SECONDS,
     }
 }
 
@@ -172,6 +242,15 @@ impl Family {
                 calling: 95,
                 driven: 5,
                 ..of(&[7, 7, 8, 8, 1, 1, 1, 2, 2, 3, 4, 5, 18, 19, 19, 19, 20, 22, 28, 28])
+            },
+            Family::Narrowed => Profile {
+                gates: (8, 18),
+                ticks: (4, 9),
+                calling: 95,
+                queues: 2,
+                lengths: LENGTHS_OF_BOTH,
+                seconds: SECONDS_OF_BOTH,
+                ..of(&[12, 12, 12, 13, 13, 17, 14, 22, 23, 6, 28])
             },
         }
     }

@@ -32,26 +32,6 @@ const FLOATS: &[f64] = &[
     3.4028235677973366e38,
 ];
 
-const SECONDS: &[f64] = &[
-    0.0,
-    -0.0,
-    0.1,
-    0.2,
-    0.3,
-    0.5,
-    0.7,
-    1.0,
-    -1.0,
-    1e-300,
-    1e300,
-    16777216.0,
-    16777218.0,
-    1.0000000596046448,
-    0.09999999,
-    3600.0,
-    0.3333333333333333,
-];
-
 const TICKS: &[i64] = &[0, 1, 2, 3, 4, 7, -1, i64::MIN, i64::MAX];
 
 /// The valid case of a family and a seed.
@@ -131,7 +111,7 @@ fn is_pure(g: Gate) -> bool {
 /// What an input is given; `None` for nothing.
 fn feed(r: &mut Random, p: &Profile, gates: &[Gate], order: &[usize], g: Gate, pin: &str) -> Option<Feed> {
     if let Some(setting) = pin.strip_prefix("S:") {
-        return setting_of(r, gates, g, setting);
+        return setting_of(r, p, gates, g, setting);
     }
     if pin.starts_with("E:") {
         let may = !matches!(g.kind, BUFFER_TICKS_EXEC | BUFFER_SECONDS_EXEC);
@@ -144,7 +124,7 @@ fn feed(r: &mut Random, p: &Profile, gates: &[Gate], order: &[usize], g: Gate, p
     if r.chance(20) { Some(value(r).into()) } else { source(r, gates, order, g) }
 }
 
-fn setting_of(r: &mut Random, gates: &[Gate], g: Gate, setting: &str) -> Option<Feed> {
+fn setting_of(r: &mut Random, p: &Profile, gates: &[Gate], g: Gate, setting: &str) -> Option<Feed> {
     let optional = r.chance(75);
     match (setting, g.kind) {
         ("variable", _) => {
@@ -155,7 +135,7 @@ fn setting_of(r: &mut Random, gates: &[Gate], g: Gate, setting: &str) -> Option<
         ("initial", _) => optional.then(|| value(r).into()),
         (_, BUFFER_TICKS | BUFFER_TICKS_EXEC) => optional.then(|| r.pick(TICKS).into()),
         (_, CLOCK) if r.chance(50) => Some(r.pick(&[0.0, 0.25, 0.5]).into()),
-        _ => optional.then(|| r.pick(SECONDS).into()),
+        _ => optional.then(|| r.pick(p.seconds).into()),
     }
 }
 

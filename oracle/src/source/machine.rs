@@ -170,6 +170,7 @@ impl Machine {
     fn step(&mut self) -> Result<(), SimError> {
         self.tick += 1;
         self.dt = self.opts.dt_at(self.tick);
+        self.tally.narrow(self.dt); // oracle: for advance_buffers, in every tick
         self.uptime += self.dt;
         self.steps = 0;
         self.unions_passed[0].clear();
@@ -744,6 +745,7 @@ impl Machine {
                 }
                 let countdown = if seconds {
                     let wait = self.read_named(g, "SecondsToWait")?.and_then(|v| v.as_float());
+                    self.tally.narrow(wait.unwrap_or(0.0)); // oracle:
                     Countdown::Seconds {
                         wait: wait.unwrap_or(0.0) as f32,
                         elapsed: 0.0,
@@ -774,6 +776,7 @@ impl Machine {
             let wait = gate.field_f64("SecondsToWait").unwrap_or(0.0);
             let zero = gate.field_f64("ZeroSecondsToWait").unwrap_or(-1.0);
             let w = if !rising && zero >= 0.0 { zero } else { wait };
+            self.tally.narrow(w); // oracle:
             Countdown::Seconds {
                 wait: w as f32,
                 elapsed: 0.0,

@@ -139,6 +139,7 @@ pub struct Record {
     pub late: i64,
     pub main: i64,
     pub stop: i64,
+    pub changed: i64,
     /// Gate and form.
     pub units: Vec<(i64, i64)>,
     /// Gate and form of the carried units.
@@ -162,13 +163,13 @@ impl Run {
 
 fn records(mut log: &[i64], outputs: usize) -> Vec<Record> {
     let mut records = vec![];
-    while let &[tick, steps, late, main, carried, stop, ref rest @ ..] = log {
+    while let &[tick, steps, late, main, carried, stop, changed, ref rest @ ..] = log {
         let shown = if stop == 0 { outputs } else { 0 };
         let (units, rest) = rest.split_at(2 * (late + main) as usize);
         let (carried, rest) = rest.split_at(2 * carried as usize);
         let (shown, rest) = rest.split_at(2 * shown);
         let [units, carried, shown] = [units, carried, shown].map(pairs);
-        records.push(Record { tick, steps, late, main, stop, units, carried, shown });
+        records.push(Record { tick, steps, late, main, stop, changed, units, carried, shown });
         log = rest;
     }
     assert!(log.is_empty());

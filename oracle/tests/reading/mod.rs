@@ -19,6 +19,7 @@ pub struct Tick {
     pub main: Vec<(i64, i64)>,
     pub carried: Vec<(i64, i64)>,
     pub stop: i64,
+    pub changed: i64,
     /// Kinds and contents.
     pub outputs: Vec<(i64, i64)>,
 }
@@ -98,13 +99,12 @@ fn take<'a>(rest: &mut &'a [i64], n: usize) -> &'a [i64] {
 }
 
 fn record(rest: &mut &[i64], outputs: usize) -> Tick {
-    let head = take(rest, 6).to_vec();
-    let (late, main) = (head[2] as usize, head[3] as usize);
-    let mut begun = pairs(rest, late + main);
-    let main = begun.split_off(late);
-    let carried = pairs(rest, head[4] as usize);
-    let outputs = if head[5] == 0 { pairs(rest, outputs) } else { Vec::new() };
-    Tick { tick: head[0], steps: head[1], late: begun, main, carried, stop: head[5], outputs }
+    let &[tick, steps, late, main, carried, stop, changed] = take(rest, 7) else { panic!("a head") };
+    let mut begun = pairs(rest, (late + main) as usize);
+    let main = begun.split_off(late as usize);
+    let carried = pairs(rest, carried as usize);
+    let outputs = if stop == 0 { pairs(rest, outputs) } else { Vec::new() };
+    Tick { tick, steps, late: begun, main, carried, stop, changed, outputs }
 }
 
 fn pairs(rest: &mut &[i64], n: usize) -> Vec<(i64, i64)> {

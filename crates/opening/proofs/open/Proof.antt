@@ -20,10 +20,10 @@ same-length-2 : tie.Need-same-length-2
 same-length-2 c = search needs
 
 returns : tie.Need-returns
-returns c = (open-stops _ _ _ _ _ _ _ _ (c .before .before .before .before .before .before .before .before .before .before .begin-tick .ensures _) refl (c .before .before .before .before .arrive .ensures _ _) (c .before .is-full .ensures) (c .if1 .taken), c .before .before .before .before .before .before .before .before .before .before .before .before .before .before .before .before .before .before .pre .3)
+returns c = (open-stops _ _ _ _ _ _ _ _ (c .before .before .before .before .before .before .before .before .before .before .before .before .begin-tick .ensures .0) refl (c .before .before .before .before .arrive .ensures _ _) (c .before .is-full .ensures) (c .if1 .taken), c .before .before .before .before .before .before .before .before .before .before .before .before .begin-tick .ensures .1 .1)
 
 finish-requires : tie.Need-finish-requires
-finish-requires c κs = search needs
+finish-requires c κs = (search needs, search needs, search needs, c .before .before .before .before .before .before .before .before .before .before .before .before .before .before .before .begin-tick .ensures .1 .1)
 
 same-length-3 : tie.Need-same-length-3
 same-length-3 c = search needs
@@ -34,8 +34,11 @@ same-length-4 c = search needs
 same-length-5 : tie.Need-same-length-5
 same-length-5 c = search needs
 
+same-length-6 : tie.Need-same-length-6
+same-length-6 c = search needs
+
 returns-2 : tie.Need-returns-2
-returns-2 c = (opens-all _ _ _ _ _ _ _ _ (c .before .before .before .before .before .before .before .before .before .before .before .before .before .before .before .before .before .before .before .before .begin-tick .ensures _) refl (c .before .before .before .before .before .before .before .before .before .before .before .before .before .before .arrive .ensures _ _) (c .before .before .before .before .before .before .before .before .before .before .before .is-full .ensures) _ _ (c .before .before .before .before .before .before .before .before .before .before .if1 .left) (c .before .before .before .before .before .before .finish .ensures .0), c .before .before .before .before .before .before .finish .ensures .1)
+returns-2 c = (opens-all _ _ _ _ _ _ _ _ (c .before .before .before .before .before .before .before .before .before .before .before .before .before .before .before .before .before .before .before .before .before .before .begin-tick .ensures .0) refl (c .before .before .before .before .before .before .before .before .before .before .before .before .before .before .arrive .ensures _ _) (c .before .before .before .before .before .before .before .before .before .before .before .is-full .ensures) _ _ _ (c .before .before .before .before .before .before .before .before .before .before .before .before .before .before .before .before .before .before .before .before .before .before .begin-tick .ensures .1 .0) (c .before .before .before .before .before .before .before .before .before .before .if1 .left) (c .before .before .before .before .before .before .finish .ensures .0), c .before .before .before .before .before .before .finish .ensures .1)
 
 pub open-spec : {M : Type 1} → statement M
 open-spec =
@@ -46,9 +49,10 @@ open-spec =
     is-full-requires
     same-length
     same-length-2
+    same-length-3
     returns
     finish-requires
-    same-length-3
     same-length-4
     same-length-5
+    same-length-6
     returns-2)

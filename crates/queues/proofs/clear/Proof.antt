@@ -1,4 +1,5 @@
 use Rattle.queues.proofs.Starting.{cleared-first, cleared-next, cleared-last}
+use Rattle.states.specs.View.{queue-at}
 use Rattle.queues.specs.Start.{Cleared}
 use Rattle.words.specs.Words.{words, tail}
 use Prim.Native.Nat.{_≤_, _-_}
@@ -9,10 +10,10 @@ use Rattle.queues.proofs.clear.Statement.{statement}
 use Rattle.queues.proofs.clear.Tie as tie
 
 abbrev Inv-loop : tie.InvT-loop
-Inv-loop delays₀ k₀ delays k = (length delays ≡ length delays₀) × (k ≤ 2816) × Cleared k (words delays₀) (words delays) × (tail delays ≡ tail delays₀)
+Inv-loop delays₀ k₀ delays k = (length delays ≡ length delays₀) × (k ≤ queue-at 0) × Cleared k (words delays₀) (words delays) × (tail delays ≡ tail delays₀)
 
 abbrev μ-loop : tie.MeasureT-loop
-μ-loop delays₀ k₀ delays k = 2816 - k
+μ-loop delays₀ k₀ delays k = queue-at 0 - k
 
 loop-holds : tie.Need-loop-holds Inv-loop μ-loop
 loop-holds c = (search needs, search needs, cleared-first _, refl)

@@ -1,3 +1,4 @@
+use Rattle.queue.specs.Queue.{queued}
 use Rattle.queues.proofs.Numbers.{gates-few}
 use Rattle.queues.proofs.Lending.{table-inside, part-inside, record-queue}
 use borrow.Author.Needs.{needs}
@@ -39,11 +40,15 @@ part-push-end c = let h = part-inside _ _ _ (c .before .before .before .before .
 push-requires : tie.Need-push-requires
 push-requires c κs = let h = part-inside _ _ _ (c .before .before .before .before .before .before .before .pre .1) (c .before .before .before .before .before .before .before .pre .2) _ (c .before .get .ensures) in search needs
 
+count-changed-requires : tie.Need-count-changed-requires
+count-changed-requires c κs = search needs
+
 same-length : tie.Need-same-length
 same-length c = search needs
 
 returns : tie.Need-returns
-returns c = record-queue _ _ _ _ _ _ _ (c .before .before .before .before .before .before .before .before .before .before .pre .1) (gates-few _) (c .before .before .before .before .before .before .before .before .before .before .pre .2) (c .before .before .before .before .get .ensures) refl refl (search needs) _ _ _ (c .before .before .before .before .before .before .before .kind-of-gate .ensures) (c .before .before .before .before .before .before .countdown .ensures) (c .before .before .push .ensures)
+unfolding queued
+returns c = let a = c .before .before .before .before .before .before .before .before .before .before .before .before .before .before .args in record-queue _ _ _ _ _ _ _ (c .before .before .before .before .before .before .before .before .before .before .before .before .before .before .pre .1) (gates-few _) (c .before .before .before .before .before .before .before .before .before .before .before .before .before .before .pre .2) (c .before .before .before .before .before .before .before .before .get .ensures) refl refl (search needs) _ _ (a .kinds) (a .contents) _ _ (c .before .before .before .before .before .before .before .before .before .before .before .kind-of-gate .ensures) (c .before .before .before .before .before .before .before .before .before .before .countdown .ensures) (c .before .before .before .before .before .before .push .ensures) (c .before .before .count-changed .ensures)
 
 pub queue-record-spec : {M : Type 1} → statement M
 queue-record-spec =
@@ -60,5 +65,6 @@ queue-record-spec =
     part-push-start
     part-push-end
     push-requires
+    count-changed-requires
     same-length
     returns)

@@ -22,7 +22,7 @@ same-length-3 : tie.Need-same-length-3
 same-length-3 c = search needs
 
 returns : tie.Need-returns
-returns c = let x = started _ _ _ _ _ _ (c .before .before .before .before .before .before .before .before .before .before .start .ensures) (c .before .before .before .before .before .before .start2 .ensures) (c .before .before .start3 .ensures .0) in (x .0, x .1, c .before .before .start3 .ensures .2)
+returns c = let x = started _ _ _ _ _ _ _ (c .before .before .before .before .before .before .before .before .before .before .start .ensures) (c .before .before .before .before .before .before .start2 .ensures) (c .before .before .start3 .ensures .0) (c .before .before .start3 .ensures .1) in (x .0, x .1, c .before .before .start3 .ensures .3)
 
 pub start-spec : {M : Type 1} → statement M
 start-spec =

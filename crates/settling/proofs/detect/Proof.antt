@@ -1,4 +1,6 @@
-use Rattle.states.proofs.Lending.{lent-with}
+use mathlib.Core.Path.{ap}
+use Rattle.states.specs.View.{Delays}
+use Rattle.states.proofs.Lending.{lent-kept}
 use Rattle.settling.proofs.Changes.{change-6, change-7, change-8, change-9, change-buffer, change-pin}
 use borrow.Author.Needs.{needs}
 use Rattle.settling.proofs.detect.Statement.{statement}
@@ -53,7 +55,7 @@ same-length-3 : tie.Need-same-length-3
 same-length-3 c = search needs
 
 returns-5 : tie.Need-returns-5
-returns-5 c = (change-buffer _ _ _ _ _ _ _ _ (c .before .before .before .before .before .before .gate-at-input .ensures) (c .before .before .before .before .before .kind-of-gate .ensures) _ (c .before .before .before .before .match .keys5) (c .before .before .buffer-input .ensures), lent-with _ _ _ _ _ (c .before .before .before .before .before .before .before .before .before .before .pre .2) (search needs) (c .before .before .buffer-input .ensures))
+returns-5 c = (change-buffer _ _ _ _ _ _ _ _ (c .before .before .before .before .before .before .gate-at-input .ensures) (c .before .before .before .before .before .kind-of-gate .ensures) _ (c .before .before .before .before .match .keys5) (c .before .before .buffer-input .ensures), lent-kept _ _ _ (c .before .before .before .before .before .before .before .before .before .before .pre .2) (search needs) (ap (λ (d : Delays). d .parts) (c .before .before .buffer-input .ensures)))
 
 returns-6 : tie.Need-returns-6
 returns-6 c = (change-pin _ _ _ _ _ _ _ _ (c .before .before .before .gate-at-input .ensures) (c .before .before .kind-of-gate .ensures) _ (c .before .match .rest) (c .pin-raised .ensures), c .before .before .before .before .before .before .before .pre .2)

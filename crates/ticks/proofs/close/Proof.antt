@@ -25,7 +25,7 @@ same-length-2 : tie.Need-same-length-2
 same-length-2 c = search needs
 
 returns : tie.Need-returns
-returns c = closes _ _ _ _ _ _ _ _ _ _ _ (c .before .before .before .before .before .before .before .before .before .before .before .before .read-outputs .ensures) (c .before .before .before .before .before .before .before .before .head .ensures) (c .before .before .before .before .before .write-record .ensures .0) (c .before .before .before .before .before .write-record .ensures .1) (c .before .n .given .1)
+returns c = closes _ _ _ _ _ _ _ _ _ _ _ _ (c .before .before .before .before .before .before .before .before .before .before .before .before .read-outputs .ensures) (c .before .before .before .before .before .before .before .before .head .ensures) (c .before .before .before .before .before .write-record .ensures .0) (c .before .before .before .before .before .write-record .ensures .1) (c .before .n .given .1)
 
 same-length-3 : tie.Need-same-length-3
 same-length-3 c = search needs
@@ -34,7 +34,7 @@ same-length-4 : tie.Need-same-length-4
 same-length-4 c = search needs
 
 returns-2 : tie.Need-returns-2
-returns-2 c = closes _ _ _ _ _ _ _ _ _ _ _ (c .before .before .before .before .before .before .before .before .before .before .before .read-outputs .ensures) (c .before .before .before .before .before .before .before .head .ensures) (c .before .before .before .before .write-record .ensures .0) (c .before .before .before .before .write-record .ensures .1) (c .enum-told .given .1)
+returns-2 c = closes _ _ _ _ _ _ _ _ _ _ _ _ (c .before .before .before .before .before .before .before .before .before .before .before .read-outputs .ensures) (c .before .before .before .before .before .before .before .head .ensures) (c .before .before .before .before .write-record .ensures .0) (c .before .before .before .before .write-record .ensures .1) (c .enum-told .given .1)
 
 pub close-spec : {M : Type 1} → statement M
 close-spec =

@@ -10,7 +10,7 @@ steps-requires : tie.Need-steps-requires
 steps-requires c κs = search needs
 
 returns : tie.Need-returns
-returns c = head-is _ _ _ _ _ _ _ (c .before .tick .ensures) (c .steps .ensures)
+returns c = head-is _ _ _ _ _ _ _ _ (c .before .tick .ensures) (c .steps .ensures)
 
 pub head-spec : {M : Type 1} → statement M
 head-spec = tie.close (tie.spec tick-requires steps-requires returns)

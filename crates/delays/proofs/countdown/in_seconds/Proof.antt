@@ -7,7 +7,7 @@ narrow-requires : tie.Need-narrow-requires
 narrow-requires c κs = search needs
 
 returns : tie.Need-returns
-returns c = seconds-in _ _ (c .narrow .ensures)
+returns c = seconds-in _ _ _ (c .narrow .ensures)
 
 pub in-seconds-spec : {M : Type 1} → statement M
 in-seconds-spec = tie.close (tie.spec narrow-requires returns)

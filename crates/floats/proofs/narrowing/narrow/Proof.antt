@@ -1,28 +1,26 @@
-use Rattle.floats.proofs.Narrow.{narrow-nan, narrow-rest, sign-le}
-use lib.Dec.{leb}
-use native.Mathlib.Omega.{arith}
+use mathlib.Core.Path.{refl}
+use Rattle.model.specs.Value.{narrow-changes}
 use borrow.Author.Needs.{needs}
 use Rattle.floats.proofs.narrowing.narrow.Statement.{statement}
 use Rattle.floats.proofs.narrowing.narrow.Tie as tie
 
-sign-requires : tie.Need-sign-requires
-sign-requires c κs = search needs
+nearest-f32-requires : tie.Need-nearest-f32-requires
+nearest-f32-requires c κs = search needs
 
-magnitude-requires : tie.Need-magnitude-requires
-magnitude-requires c κs = search needs
+float32-of-requires : tie.Need-float32-of-requires
+float32-of-requires c κs = search needs
 
-add-result : tie.Need-add-result
-add-result c = omega (arith, c .before .sign .ensures, sign-le (leb 9223372036854775808 (c .before .before .before .args .bits)), c .magnitude .ensures .1)
+float-of-requires : tie.Need-float-of-requires
+float-of-requires c κs = search needs
 
-cast-result : tie.Need-cast-result
-cast-result c = omega (arith, c .before .sign .ensures, sign-le (leb 9223372036854775808 (c .before .before .before .args .bits)), c .magnitude .ensures .1)
+differs-requires : tie.Need-differs-requires
+differs-requires c κs = search needs
 
 returns : tie.Need-returns
-returns c = narrow-nan (c .before .args .bits) (c .if1 .taken)
-
-returns-2 : tie.Need-returns-2
-returns-2 c = narrow-rest (c .before .before .before .args .bits) _ _ (c .before .sign .ensures) (c .magnitude .ensures .0)
+unfolding narrow-changes
+returns c =
+    let n = c .before .before .before .nearest-f32 .ensures in
+    (n, rw (c .differs .ensures, c .before .before .float32-of .ensures, c .before .float-of .ensures, n) refl)
 
 pub narrow-spec : {M : Type 1} → statement M
-narrow-spec =
-    tie.close (tie.spec sign-requires magnitude-requires add-result cast-result returns returns-2)
+narrow-spec = tie.close (tie.spec nearest-f32-requires float32-of-requires float-of-requires differs-requires returns)

@@ -1,5 +1,5 @@
 use Rattle.states.proofs.Firing.{add-past, add-gate}
-use Rattle.states.proofs.Lending.{by-kind}
+use Rattle.states.proofs.Lending.{of-kind}
 use mathlib.Core.Path.{refl}
 use borrow.Author.Needs.{needs}
 use Rattle.states.proofs.slots.add_fire.Statement.{statement}
@@ -13,6 +13,9 @@ returns c = add-past _ _ _ _ (c .before .gates .ensures) (c .if1 .taken)
 
 kind-of-gate-requires : tie.Need-kind-of-gate-requires
 kind-of-gate-requires c κs = search needs
+
+countdown-requires : tie.Need-countdown-requires
+countdown-requires c κs = search needs
 
 mul-a : tie.Need-mul-a
 mul-a c = search needs
@@ -36,13 +39,16 @@ part-start-fire-end : tie.Need-part-start-fire-end
 part-start-fire-end c = search needs
 
 start-fire-requires : tie.Need-start-fire-requires
-start-fire-requires c κs = (search needs, search needs, by-kind _ _ _ (c .before .kind-of-gate .ensures))
+start-fire-requires c κs = (search needs, of-kind _ _ _ _ _ (c .before .before .kind-of-gate .ensures) (c .before .countdown .ensures))
+
+count-changed-requires : tie.Need-count-changed-requires
+count-changed-requires c κs = search needs
 
 same-length : tie.Need-same-length
 same-length c = search needs
 
 returns-2 : tie.Need-returns-2
-returns-2 c = add-gate _ _ _ _ _ _ _ (search needs) (c .before .before .before .before .before .before .gates .ensures) (c .before .before .before .before .before .if1 .left) refl refl (search needs) _ _ (c .before .before .before .before .kind-of-gate .ensures) (c .before .before .start-fire .ensures)
+returns-2 c = add-gate _ _ _ _ _ _ _ (search needs) (c .before .before .before .before .before .before .before .before .before .before .before .gates .ensures) (c .before .before .before .before .before .before .before .before .before .before .if1 .left) refl refl (search needs) _ _ _ _ (c .before .before .before .before .before .before .before .before .before .kind-of-gate .ensures) (c .before .before .before .before .before .before .before .before .countdown .ensures) (c .before .before .before .before .before .before .start-fire .ensures) (c .before .before .count-changed .ensures)
 
 pub add-fire-spec : {M : Type 1} → statement M
 add-fire-spec =
@@ -51,6 +57,7 @@ add-fire-spec =
     gates-requires
     returns
     kind-of-gate-requires
+    countdown-requires
     mul-a
     add-a
     mul-a-2
@@ -59,5 +66,6 @@ add-fire-spec =
     part-start-fire-start
     part-start-fire-end
     start-fire-requires
+    count-changed-requires
     same-length
     returns-2)

@@ -37,11 +37,14 @@ part-fly-end c = search needs
 fly-requires : tie.Need-fly-requires
 fly-requires c κs = (search needs, search needs, by-kind _ _ _ (c .before .kind-of-gate .ensures))
 
+count-changed-requires : tie.Need-count-changed-requires
+count-changed-requires c κs = search needs
+
 same-length : tie.Need-same-length
 same-length c = search needs
 
 returns-2 : tie.Need-returns-2
-returns-2 c = fly-gate _ _ _ _ _ _ _ (search needs) (c .before .before .before .before .before .before .gates .ensures) (c .before .before .before .before .before .if1 .left) refl refl (search needs) _ _ _ (c .before .before .before .before .kind-of-gate .ensures) (c .before .before .fly .ensures)
+returns-2 c = fly-gate _ _ _ _ _ _ _ (search needs) (c .before .before .before .before .before .before .before .before .before .before .gates .ensures) (c .before .before .before .before .before .before .before .before .before .if1 .left) refl refl (search needs) _ _ _ _ (c .before .before .before .before .before .before .before .before .kind-of-gate .ensures) (c .before .before .before .before .before .before .fly .ensures) (c .before .before .count-changed .ensures)
 
 pub buffer-advance-spec : {M : Type 1} → statement M
 buffer-advance-spec =
@@ -58,5 +61,6 @@ buffer-advance-spec =
     part-fly-start
     part-fly-end
     fly-requires
+    count-changed-requires
     same-length
     returns-2)

@@ -15,11 +15,11 @@ tick-down-requires c κs = search needs
 due-requires : tie.Need-due-requires
 due-requires c κs = search needs
 
-relaunch-requires : tie.Need-relaunch-requires
-relaunch-requires c κs = search needs
+land-requires : tie.Need-land-requires
+land-requires c κs = search needs
 
 returns : tie.Need-returns
-returns c = advance-lands _ _ _ _ _ _ _ _ _ (c .before .before .before .before .before .flight .given .1) (c .before .before .before .tick-down .ensures) (c .before .before .due .ensures) _ (c .before .if1 .taken) (c .relaunch .ensures)
+returns c = advance-lands _ _ _ _ _ _ _ _ _ (c .before .before .before .before .before .flight .given .1) (c .before .before .before .tick-down .ensures) (c .before .before .due .ensures) _ (c .before .if1 .taken) (c .land .ensures)
 
 returns-2 : tie.Need-returns-2
 returns-2 c = advance-none _ _ _ _ _ (c .enum-told .given .1)
@@ -35,7 +35,7 @@ advance-spec =
     enum-known-flight
     tick-down-requires
     due-requires
-    relaunch-requires
+    land-requires
     returns
     returns-2
     returns-3)

@@ -7,9 +7,6 @@ use Rattle.delays.proofs.fires.Fires.add.Tie as tie
 add-at : tie.Need-add-at
 add-at c = search needs
 
-buffer-countdown-requires : tie.Need-buffer-countdown-requires
-buffer-countdown-requires c κs = search needs
-
 word-requires : tie.Need-word-requires
 word-requires c κs = search needs
 
@@ -23,7 +20,7 @@ add-self : tie.Need-add-self
 add-self c = search needs
 
 returns : tie.Need-returns
-returns c = (refl, add-one-more _ _ _ _ (search needs) (c .before .before .if1 .taken) (c .before .buffer-countdown .ensures) (c .word .ensures))
+returns c = (refl, add-one-more _ _ _ (search needs) (c .before .if1 .taken) (c .before .before .pre) (c .word .ensures))
 
 returns-2 : tie.Need-returns-2
 returns-2 c = (refl, add-full _ _ (c .if1 .left))
@@ -33,7 +30,6 @@ add-spec =
     tie.close
     (tie.spec
     add-at
-    buffer-countdown-requires
     word-requires
     mul-self
     element-write-self

@@ -1,7 +1,7 @@
-use Rattle.delays.proofs.Buffers.{relaunch-none, relaunch-starts}
+use Rattle.delays.proofs.Buffers.{lands-last, lands-starting}
 use borrow.Author.Needs.{needs}
-use Rattle.delays.proofs.buffer.Buffer.relaunch.Statement.{statement}
-use Rattle.delays.proofs.buffer.Buffer.relaunch.Tie as tie
+use Rattle.delays.proofs.buffer.Buffer.land.Statement.{statement}
+use Rattle.delays.proofs.buffer.Buffer.land.Tie as tie
 
 enum-told : tie.Need-enum-told
 enum-told c = search needs
@@ -16,13 +16,13 @@ buffer-countdown-requires : tie.Need-buffer-countdown-requires
 buffer-countdown-requires c κs = search needs
 
 returns : tie.Need-returns
-returns c = relaunch-none _ _ _ _ _ (c .enum-told .given .1)
+returns c = lands-last _ _ _ _ _ (c .enum-told .given .1)
 
 returns-2 : tie.Need-returns-2
-returns-2 c = relaunch-starts _ _ _ _ _ _ _ _ (c .before .before .before .later .given .1) (c .before .truthy .ensures) (c .buffer-countdown .ensures)
+returns-2 c = lands-starting _ _ _ _ _ _ _ _ (c .before .before .before .later .given .1) (c .before .truthy .ensures) (c .buffer-countdown .ensures)
 
-pub relaunch-spec : {M : Type 1} → statement M
-relaunch-spec =
+pub land-spec : {M : Type 1} → statement M
+land-spec =
     tie.close
     (tie.spec
     enum-told
