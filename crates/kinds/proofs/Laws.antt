@@ -12,6 +12,7 @@ use types.Run.{OneOf}
 use Rattle.model.specs.Base.{if_then_else_, joined, among, from, base-opened}
 use Rattle.model.specs.Kinds.{Kind, value, fires, kind-at, table, kinds-opened}
 use Rattle.model.proofs.Lists.{map-from, all-same}
+use Rattle.model.proofs.Roomy.{nine-outputs}
 
 -- ---- keys
 
@@ -95,8 +96,7 @@ unfolding kinds-opened base-opened
 few-inputs k = leb-true (length (kind-at k .ins)) 10 (everywhere (λ x. leb (length (x .ins)) 10) (λ x. true) k refl)
 
 pub few-outputs : (k : ℕ) → length (kind-at k .outs) ≤ 9
-unfolding kinds-opened base-opened
-few-outputs k = leb-true (length (kind-at k .outs)) 9 (everywhere (λ x. leb (length (x .outs)) 9) (λ x. true) k refl)
+few-outputs = nine-outputs
 
 -- The places from a to below b of a list.
 abbrev places : {A : Type 0} → A → ℕ → ℕ → List A → List A

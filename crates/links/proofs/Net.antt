@@ -11,15 +11,15 @@ use lib.ListN.{length, getD, length-map, List·getD-map}
 use borrow.Author.Tests.{eqb-true}
 use Rattle.words.specs.Words.{words}
 use Rattle.model.specs.declared.Value.the-variants.{Nothing}
-use Rattle.model.specs.Base.{if_then_else_, keep, all, joined, both, from, sum, starts}
+use Rattle.model.specs.Base.{if_then_else_, keep, all, joined, both, from, starts}
 use Rattle.model.specs.Value.{value-of, kind-of, content-of, bit}
 use Rattle.model.specs.Kinds.{value, fires, kind-at, time-source, buffering, receiving}
 use Rattle.model.specs.Circuit.{Call, Circuit, circuit, part, word-at, minus-one, source-of, reads, listed-call, calls-from, gates-such, kind-of-gate, input, output, gate-at-input, gate-at-output}
 use Rattle.model.specs.Questions.{within, question-1, question-3}
 use Rattle.model.proofs.Lists.{both-true, bit-most, both-length, from-length}
 use Rattle.model.proofs.Sizes.{all-within, sizes}
-use Rattle.model.proofs.Laid.{starts-length, joined-length, part-most, Laid, laid, Full, filled}
-use Rattle.kinds.proofs.Laws.{few-outputs as nine-outputs}
+use Rattle.model.proofs.Roomy.{few}
+use Rattle.model.proofs.Laid.{starts-length, part-most, Laid, laid, Full, filled}
 use Rattle.value.proofs.Laws.{made-again}
 use Rattle.links.specs.Links.{gates-at, sources-at, stored-kinds-at, stored-contents-at, inputs-at, outputs-at, rows-at, readers-at, calls-at, constant-kinds-at, constant-contents-at, packed, digit, word-of-gates, gates-of-word, source-cell, call-cell, gate-cells, row-cells, named, count-cells, cells, listed, call-of, cell, gate-digit, input-digit, row-digit, kind-in, net}
 use Rattle.links.proofs.Tables.{listed-is, both-at, both-most, map-at, base, table-sizes, Room, [·], _∷·_, table-read, digit-0, digit-1, Small, gate-cells-length, Four, four, rows-read, starts-small, counts-small, firsts-small, by-owner, bit-read, word-read, shares, joined-map}
@@ -354,12 +354,6 @@ module _ (c : Circuit) (L : Laid c) (F : Full c) (T : Fitting c) where
 
 -- ---- a circuit that is read from words
 
--- numbers of which none is above nine
-nine-each : (f : ℕ → ℕ) → ((k : ℕ) → f k ≤ 9) → (ks : List ℕ) → sum (map f ks) ≤ 9 * length ks
-unfolding sum
-nine-each f h [] = omega arith
-nine-each f h (k ∷ ks) = omega (arith, h k, nine-each f h ks)
-
 -- a source and its cell
 pub source-back : (w : ℕ) → source-cell (source-of w) ≡ w
 unfolding source-of source-cell if_then_else_
@@ -380,31 +374,13 @@ reads-one ss i o p = go (getD ss i none)
 
 module _ (bytes ws : List ℕ) (q : question-1 bytes ws ≡ true) (r : question-3 ws (circuit ws) ≡ true) where
   few-gates : length (circuit ws .kinds) ≤ 64
-  unfolding circuit word-at
-  few-gates = omega (arith, part-most ws (4 + 2 * word-at ws 1) (word-at ws 0), sizes bytes ws q .gates)
+  few-gates = few bytes ws q r .gates
 
   few-inputs : length (circuit ws .pins) ≤ 640
-  unfolding circuit word-at
-  few-inputs =
-      let ss = part ws (4 + 2 * word-at ws 1 + 2 * word-at ws 0) (word-at ws 2) in
-      omega (
-        arith,
-        filled bytes ws q r .sources,
-        length-map ss source-of,
-        part-most ws (4 + 2 * word-at ws 1 + 2 * word-at ws 0) (word-at ws 2),
-        sizes bytes ws q .inputs,
-      )
+  few-inputs = few bytes ws q r .inputs
 
   few-outputs : length (circuit ws .outputs) ≤ 576
-  unfolding circuit
-  few-outputs =
-      let ks = circuit ws .kinds in
-      omega (
-        arith,
-        joined-length (λ k. kind-at k .outs) ks,
-        nine-each (λ k. length (kind-at k .outs)) nine-outputs ks,
-        few-gates,
-      )
+  few-outputs = few bytes ws q r .outputs
 
   sources-again : (i : ℕ) → source-of (source-cell (getD (circuit ws .sources) i none)) ≡ getD (circuit ws .sources) i none
   unfolding circuit source-of if_then_else_

@@ -29,7 +29,7 @@ pub record Few (c : Circuit) : Type 0 where
   pub outputs : length (c .outputs) ≤ 576
 
 -- no kind has more than nine
-nine-outputs : (k : ℕ) → length (kind-at k .outs) ≤ 9
+pub nine-outputs : (k : ℕ) → length (kind-at k .outs) ≤ 9
 unfolding kinds-opened all
 nine-outputs zero = omega arith
 nine-outputs (suc k) =
