@@ -61,6 +61,9 @@ pub const MINUS_ONE: u64 = 0xFFFF_FFFF_FFFF_FFFF;
 
 pub const NO_SOURCE: usize = MINUS_ONE as usize;
 
+// A circuit's word for a gate's rank and body is rank + RANKS × body.
+pub const RANKS: usize = 0x1_0000;
+
 // Four numbers to the base DIGIT stand in a cell; the second, third and fourth begin here.
 pub const DIGIT: usize = 0x1_0000;
 
@@ -69,3 +72,8 @@ pub const SECOND: usize = DIGIT;
 pub const THIRD: usize = SECOND * DIGIT;
 
 pub const FOURTH: usize = THIRD * DIGIT;
+
+// A gate's kind and its body share a digit, and so do its first input and its entry; bodies and entries begin here.
+pub const BODY: usize = 0x100;
+
+pub const ENTRY: usize = 0x400;
