@@ -9,27 +9,28 @@ use lib.Dec.{T, leb}
 use lib.ListN.{length, getD, set}
 use lib.Seq.{getD-set-same}
 use Rattle.words.specs.Words.{words, Stored}
-use Rattle.words.specs.Tables.{stack}
+use Rattle.words.specs.Tables.{marked, stack}
 use Rattle.words.proofs.Tables.{stack-push, stack-length, digits-length}
 use Rattle.model.specs.declared.Value.{Value}
 use Rattle.model.specs.Base.{if_then_else_, each, from}
 use Rattle.model.specs.Value.{same}
 use Rattle.model.specs.Kinds.{pure}
 use Rattle.model.specs.Circuit.{Circuit, kind-of-gate, gate-at-input, watching, output, readers-of}
-use Rattle.model.specs.State.{Wires, dirty≔, to-check≔}
-use Rattle.model.specs.Wires.{Marking, shown, show, is-clean, soil, watch, mark-reader, mark-on, mark-readers, invalidate, set-out}
+use Rattle.model.specs.State.{Wires, dirty≔, to-check≔, late-checks≔}
+use Rattle.model.specs.Wires.{Marking, shown, show, is-clean, soil, watch, watch-for, mark-reader, mark-on, mark-readers-for, mark-readers, invalidate, set-out}
 use Rattle.model.proofs.Lists.{if-both}
+use Rattle.model.proofs.Sized.{watch-for-keeps}
 use Rattle.links.specs.Links.{net, first-reader, reader-count, reader-at}
 use Rattle.links.proofs.Reading.{readers-row}
 use Rattle.wires.specs.View.{cut, Values, with-wires, values}
-use Rattle.wires.specs.Marking.{Area, area-with, area, Marked, with-marking, marking, cleans, to-do}
+use Rattle.wires.specs.Marking.{Area, area-with, area-for, area, Marked, with-marking, marking, cleans, to-do}
 use Rattle.wires.proofs.Lists.{left-of, turn-first, turn-next, each-map}
 use Rattle.wires.proofs.Area.{cut-poke, cut-peek, sized}
 
 -- ---- the stack in the area
 
 -- place n of the stack becomes o
-push : (c : Circuit) (bs bs₁ : List ℕ) (n o : ℕ) → n < 65 → Stored bs bs₁ (4753 + n) o → area c bs₁ ≡ record { values = area c bs .values; stack = set (area c bs .stack) n o }
+push : (c : Circuit) (bs bs₁ : List ℕ) (n o : ℕ) → n < 65 → Stored bs bs₁ (4753 + n) o → area c bs₁ ≡ record { values = area c bs .values; stack = set (area c bs .stack) n o; late = area c bs .late }
 unfolding area values
 push c bs bs₁ n o h e = rw (e .words, cut-poke (words bs) 17 n o h, e .tail)
 
@@ -69,7 +70,7 @@ module _ (c : Circuit) (bs : List ℕ) (n i g k : ℕ) (b : Bool) (eg : g ≡ ga
       rw (t, clean-test q true eq hq, push c bs₁ bs₂ n o h e₂, e₁, add-one, stack-push n o (area c bs .stack) (omega arith), eo .0, eg)
 
   pub reader-watched :
-      (t : Bool) (bs₁ : List ℕ) → b ≡ false → t ≡ watching c i → t ≡ true → area c bs₁ ≡ area-with (area c bs) (watch (area c bs .values .wires) i) →
+      (t : Bool) (bs₁ : List ℕ) → b ≡ false → t ≡ watching c i → t ≡ true → area c bs₁ ≡ area-with (area c bs) (watch-for (area c bs .late) (area c bs .values .wires) i) →
       marking c bs₁ n ≡ with-marking (marking c bs n) (mark-reader c (marking c bs n .marking) i)
   unfolding mark-reader if_then_else_ marking
   reader-watched t bs₁ hb et ht e₁ =
@@ -115,6 +116,10 @@ watch-dirty : (w : Wires) (i : ℕ) → watch w i .dirty ≡ w .dirty
 unfolding watch to-check≔
 watch-dirty w i = if-both (λ (v : Wires). v .dirty ≡ w .dirty) (getD (w .queued) i true || leb 640 (length (w .to-check))) refl refl
 
+watch-for-dirty : (late : Bool) (w : Wires) (i : ℕ) → watch-for late w i .dirty ≡ w .dirty
+unfolding late-checks≔
+watch-for-dirty late w i = watch-for-keeps (λ (v : Wires). v .dirty ≡ w .dirty) late w i (λ v e. watch-dirty v i ∙ e) (λ _. refl) refl
+
 one-to-do : (c : Circuit) (m : Marking) (i : ℕ) → to-do (mark-reader c m i) ≡ to-do m
 unfolding to-do mark-reader if_then_else_ soil dirty≔ is-clean
 one-to-do c m i = go (pure (kind-of-gate c (gate-at-input c i))) (not (getD (m .wires .dirty) (gate-at-input c i) true)) (watching c i) refl refl refl
@@ -124,7 +129,7 @@ one-to-do c m i = go (pure (kind-of-gate c (gate-at-input c i))) (not (getD (m .
         to-do (mark-reader c m i) ≡ to-do m
     go true true k e f h = rw (e, f, to-do, mark-reader) (let q = cleans-set (m .wires .dirty) (gate-at-input c i) f in unfold to-do in omega arith)
     go true false k e f h = rw (e, f, to-do, mark-reader)
-    go false d true e f h = rw (e, h, to-do, mark-reader, watch-dirty)
+    go false d true e f h = rw (e, h, to-do, mark-reader, watch-for-dirty)
     go false d false e f h = rw (e, h, to-do, mark-reader)
 
 all-to-do : (c : Circuit) (m : Marking) (is : List ℕ) → to-do (each (mark-reader c) m is) ≡ to-do m
@@ -213,28 +218,47 @@ module _ (c : Circuit) (bs bs₁ : List ℕ) (o : ℕ) (e₁ : Stored bs bs₁ 4
   unfolding area
   start-values = ap (λ (a : Area). a .values) (push c bs bs₁ 0 o (omega arith) e₁)
 
-  start-marking : 65536 ≤ length bs → marking c bs₁ 1 .marking ≡ record { wires = values c bs .wires; work = o ∷ [] }
+  start-marking : 65536 ≤ length bs → marking c bs₁ 1 .marking ≡ record { wires = values c bs .wires; work = o ∷ []; late = area c bs .late }
   unfolding marking area stack
   start-marking l =
       let m : length (cut (words bs) .stack) ≡ 65 = sized bs 17 l (omega arith) (omega arith) in
-      ap {B = Marking} (λ (a : Area). record { wires = a .values .wires; work = stack 1 (a .stack) }) (push c bs bs₁ 0 o (omega arith) e₁)
-      ∙ ap {B = Marking} (λ (x : ℕ). record { wires = values c bs .wires; work = x ∷ [] }) (getD-set-same (cut (words bs) .stack) 0 o 0 (omega arith))
+      ap {B = Marking} (λ (a : Area). record { wires = a .values .wires; work = stack 1 (a .stack); late = a .late }) (push c bs bs₁ 0 o (omega arith) e₁)
+      ∙ ap {B = Marking} (λ (x : ℕ). record { wires = values c bs .wires; work = x ∷ []; late = area c bs .late }) (getD-set-same (cut (words bs) .stack) 0 o 0 (omega arith))
 
   module _ (n : ℕ) (en : (n ≡ length (c .kinds)) × (n ≤ 64)) where
     -- at the start one output is on the stack, and at most 64 gates are not stale
     pub start-to-do : 65536 ≤ length bs → to-do (marking c bs₁ 1 .marking) ≤ 65
     start-to-do l = rw (start-marking l) (few (values c bs .wires) (omega (arith, en .0, en .1, cleans-most (values c bs .wires .dirty), dirty-length c bs)))
       where
-        few : (w : Wires) → cleans (w .dirty) ≤ 64 → to-do (record { wires = w; work = o ∷ [] }) ≤ 65
+        few : (w : Wires) → cleans (w .dirty) ≤ 64 → to-do (record { wires = w; work = o ∷ []; late = area c bs .late }) ≤ 65
         few w h = unfold to-do in omega (arith, h)
 
     pub marked-readers :
         (v : Values) → 65536 ≤ length bs → v ≡ with-wires (values c bs₁) (mark-on c (n + 1) (marking c bs₁ 1 .marking)) →
-        v ≡ with-wires (values c bs) (mark-readers c (values c bs .wires) o)
-    unfolding mark-readers
+        v ≡ with-wires (values c bs) (mark-readers-for c (area c bs .late) (values c bs .wires) o)
+    unfolding mark-readers-for
     marked-readers v l e =
         e ∙ ap₂ (λ (x : Values) (k : Marking). with-wires x (mark-on c (n + 1) k)) start-values (start-marking l)
-        ∙ ap (λ (k : ℕ). with-wires (values c bs) (mark-on c k (record { wires = values c bs .wires; work = o ∷ [] }))) (add-one n ∙ ap suc (en .0))
+        ∙ ap (λ (k : ℕ). with-wires (values c bs) (mark-on c k (record { wires = values c bs .wires; work = o ∷ []; late = area c bs .late }))) (add-one n ∙ ap suc (en .0))
+
+-- ---- what marking is for
+
+pub set-marking : (c : Circuit) (bs bs₁ : List ℕ) (late : Bool) (x : ℕ) → 65536 ≤ length bs → late ≡ marked x → Stored bs bs₁ 5461 x → area c bs₁ ≡ area-for (area c bs) late
+unfolding area values
+set-marking c bs bs₁ late x l q e =
+    let m : length (cut (words bs) .marking-late) ≡ 1 = sized bs 22 l (omega arith) (omega arith) in
+    rw (e .words, cut-poke (words bs) 22 0 x (omega arith), e .tail, getD-set-same (cut (words bs) .marking-late) 0 x 0 (omega arith), q)
+
+pub marked-for :
+    (c : Circuit) (bs bs₁ : List ℕ) (v : Values) (o : ℕ) (late : Bool) → area c bs₁ ≡ area-for (area c bs) late →
+    v ≡ with-wires (values c bs₁) (mark-readers-for c (area c bs₁ .late) (values c bs₁ .wires) o) → v ≡ with-wires (values c bs) (mark-readers-for c late (values c bs .wires) o)
+unfolding area
+marked-for c bs bs₁ v o late e₁ e = e ∙ ap (λ (a : Area). with-wires (a .values) (mark-readers-for c (a .late) (a .values .wires) o)) e₁
+
+-- of an output that is no Var written
+pub marked-plainly : (c : Circuit) (v v₁ : Values) (o : ℕ) → v₁ ≡ with-wires v (mark-readers-for c false (v .wires) o) → v₁ ≡ with-wires v (mark-readers c (v .wires) o)
+unfolding mark-readers
+marked-plainly c v v₁ o e = e
 
 pub invalidated :
     (c : Circuit) (bs bs₁ : List ℕ) (v : Values) (g o : ℕ) → area c bs₁ ≡ area-with (area c bs) (soil (area c bs .values .wires) g) → (o ≡ output c g 0) × (o < 131072) →

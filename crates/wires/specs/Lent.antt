@@ -25,7 +25,7 @@ wires-in links vs = values-in links vs .wires
 abbrev pub Turns : Slice → Slice → (Circuit → Wires → Wires) → Type 0
 Turns links vs f = values-out links vs ≡ with-wires (values-in links vs) (f (net-of links) (wires-in links vs))
 
--- the same, and the stack of marking stays
+-- the same, and the stack of marking and what it is for stay
 abbrev pub Turns-beside-stack : Slice → Slice → (Circuit → Wires → Wires) → Type 0
 Turns-beside-stack links vs f =
     area (net-of links) (after vs) ≡ area-with (area (net-of links) (before vs)) (f (net-of links) (area (net-of links) (before vs) .values .wires))

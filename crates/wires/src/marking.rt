@@ -1,10 +1,18 @@
 // Marking: everything that reads an output is stale, through any depth of pure gates, and the watched inputs that this reaches wait to be checked.
-ghost use Rattle.model.specs.Base.{each};
+ghost use mathlib.Core.Path.{_≡_};
+ghost use mathlib.Core.Bool.{true};
+ghost use lib.ListN.{set};
+ghost use Rattle.words.specs.Slices.{before, after};
+ghost use Rattle.model.specs.Base.{if_then_else_, each};
 ghost use Rattle.model.specs.Circuit.{readers-of};
-ghost use Rattle.model.specs.Wires.{mark-reader, mark-on, mark-readers, invalidate, set-out};
-ghost use Rattle.links.specs.Lent.{Linked, Room};
-ghost use Rattle.wires.specs.Lent.{Turns, Few-to-do, marking-in, Marks};
+ghost use Rattle.model.specs.State.{late-checks≔};
+ghost use Rattle.model.specs.Wires.{watch-for, mark-reader, mark-on, mark-readers-for, mark-readers, invalidate, set-out};
+ghost use Rattle.links.specs.Lent.{Linked, net-of, Room};
+ghost use Rattle.wires.specs.Marking.{area, area-for};
+ghost use Rattle.wires.specs.Lent.{Turns, Turns-beside-stack, Few-to-do, marking-in, Marks};
 use crate::checks::watch;
+use crate::layout::LATE_CHECKS;
+use crate::layout::MARKING_LATE;
 use crate::layout::STACK;
 use crate::reading::show;
 use crate::reading::shown;
@@ -15,6 +23,7 @@ use links::first_reader;
 use links::gate_at_input;
 use links::gates;
 use links::kind_of_gate;
+use links::layout::MOST_INPUTS;
 use links::output;
 use links::reader;
 use links::reader_count;
@@ -24,6 +33,27 @@ use model::Value;
 use value::same;
 use words::get;
 use words::put;
+
+// Input i is marked for a late check, if marking is for one.
+fn mark_late(links: &[usize], values: &mut [u8], i: usize)
+    requires { ⌜ Linked links × Room values ⌝ }
+    ensures { λ _. ⌜ Turns-beside-stack links values (λ c w. if area c (before values) .late then late-checks≔ w (set (w .late-checks) i true) else w) ⌝ }
+{
+    if get(values, MARKING_LATE) != 0 {
+        if i < MOST_INPUTS {
+            put(values, LATE_CHECKS + i, 1);
+        }
+    }
+}
+
+// Watched input i waits to be checked, for a late check if marking is for one, also where it waits already.
+fn watch_for(links: &[usize], values: &mut [u8], i: usize)
+    requires { ⌜ Linked links × Room values ⌝ }
+    ensures { λ _. ⌜ Turns-beside-stack links values (λ c w. watch-for (area c (before values) .late) w i) ⌝ }
+{
+    watch(links, values, i);
+    mark_late(links, values, i);
+}
 
 // One reader, input i, where n outputs are on the stack: how many there are then. A pure gate that is stale already marks nothing further.
 fn mark_reader(links: &[usize], values: &mut [u8], n: usize, i: usize) -> usize
@@ -41,7 +71,7 @@ fn mark_reader(links: &[usize], values: &mut [u8], n: usize, i: usize) -> usize
             n
         }
     } else if watching(links, i) {
-        watch(links, values, i);
+        watch_for(links, values, i);
         n
     } else {
         n
@@ -83,13 +113,43 @@ fn mark_on(links: &[usize], values: &mut [u8], n: usize, rounds: usize)
     }
 }
 
-// All that reads output o.
+// All that reads output o, for what marking is for.
+fn mark_from(links: &[usize], values: &mut [u8], o: usize)
+    requires { ⌜ Linked links × Room values ⌝ }
+    ensures { λ _. ⌜ Turns links values (λ c w. mark-readers-for c (area c (before values) .late) w o) ⌝ }
+{
+    put(values, STACK, o as u64);
+    mark_on(links, values, 1, gates(links) + 1);
+}
+
+// Marking is for a late check, or not.
+fn set_marking(links: &[usize], values: &mut [u8], late: bool)
+    requires { ⌜ Linked links × Room values ⌝ }
+    ensures { λ _. ⌜ area (net-of links) (after values) ≡ area-for (area (net-of links) (before values)) late ⌝ }
+{
+    if late {
+        put(values, MARKING_LATE, 1);
+    } else {
+        put(values, MARKING_LATE, 0);
+    }
+}
+
+// All that reads output o, for a late check if `late` says so: of a Var written only inside bodies.
+pub fn mark_readers_for(links: &[usize], values: &mut [u8], o: usize, late: bool)
+    requires { ⌜ Linked links × Room values ⌝ }
+    ensures { λ _. ⌜ Turns links values (λ c w. mark-readers-for c late w o) ⌝ }
+{
+    set_marking(links, values, late);
+    mark_from(links, values, o);
+}
+
+// All that reads any other output o.
 pub fn mark_readers(links: &[usize], values: &mut [u8], o: usize)
     requires { ⌜ Linked links × Room values ⌝ }
     ensures { λ _. ⌜ Turns links values (λ c w. mark-readers c w o) ⌝ }
 {
-    put(values, STACK, o as u64);
-    mark_on(links, values, 1, gates(links) + 1);
+    set_marking(links, values, false);
+    mark_from(links, values, o);
 }
 
 // Time source g becomes stale itself, and all that reads it is marked.

@@ -34,8 +34,8 @@ add-result c = let q = room _ _ _ _ _ (c .before .before .before .before .before
 watching-requires : tie.Need-watching-requires
 watching-requires c κs = search needs
 
-watch-requires : tie.Need-watch-requires
-watch-requires c κs = search needs
+watch-for-requires : tie.Need-watch-for-requires
+watch-for-requires c κs = search needs
 
 same-length : tie.Need-same-length
 same-length c = search needs
@@ -53,7 +53,7 @@ same-length-3 : tie.Need-same-length-3
 same-length-3 c = search needs
 
 returns-3 : tie.Need-returns-3
-returns-3 c = reader-watched _ _ _ _ _ _ _ (c .before .before .before .before .before .before .before .before .before .gate-at-input .ensures) (c .before .before .before .before .before .before .before .before .kind-of-gate .ensures) (c .before .before .before .before .before .before .before .is-pure .ensures) _ _ (c .before .before .before .before .before .before .if1 .left) (c .before .before .before .before .before .watching .ensures) (c .before .before .before .before .if3 .taken) (c .before .before .watch .ensures)
+returns-3 c = reader-watched _ _ _ _ _ _ _ (c .before .before .before .before .before .before .before .before .before .gate-at-input .ensures) (c .before .before .before .before .before .before .before .before .kind-of-gate .ensures) (c .before .before .before .before .before .before .before .is-pure .ensures) _ _ (c .before .before .before .before .before .before .if1 .left) (c .before .before .before .before .before .watching .ensures) (c .before .before .before .before .if3 .taken) (c .before .before .watch-for .ensures)
 
 returns-4 : tie.Need-returns-4
 returns-4 c = reader-not _ _ _ _ _ _ _ (c .before .before .before .before .before .gate-at-input .ensures) (c .before .before .before .before .kind-of-gate .ensures) (c .before .before .before .is-pure .ensures) _ (c .before .before .if1 .left) (c .before .watching .ensures) (c .if3 .left)
@@ -72,7 +72,7 @@ mark-reader-spec =
     put-requires
     add-result
     watching-requires
-    watch-requires
+    watch-for-requires
     same-length
     returns
     same-length-2
