@@ -16,10 +16,10 @@ pub mod Placing
 pub mod Sized
 -- what one check does, by kind
 pub mod Checks
--- what small changes keep, chains, settling and the opening of a tick keep
+-- what small changes keep, a chain keeps, with all that its Loops run
+pub mod Running
+-- and settling and the opening of a tick
 pub mod Walks
--- nothing is put off: `never-put-off`
-pub mod PutOff
 -- every operation on the state keeps its sizes
 pub mod Kept
 -- so does every world of a run: `run-sized`
@@ -32,7 +32,7 @@ pub mod Marking
 pub mod Refreshing
 -- settling has rounds enough, and ends: `settled`
 pub mod Settling
--- a chain without a stop has made all its calls
+-- a run of calls has rounds enough, and a chain without a stop has made all its calls
 pub mod Chains
 -- refreshing in any order is the same: `stale-is-dirty`
 pub mod Stale
@@ -40,6 +40,8 @@ pub mod Stale
 pub mod ReadBack
 -- the order promise at this machine: `in-order`
 pub mod InOrder
+-- what may be put off: `put-off-rightly`
+pub mod PutOff
 -- which numbers an answer can have: `numbers`
 pub mod Ends
 -- the records of a run fit its log: `play-fits`, `log-keeps-length`

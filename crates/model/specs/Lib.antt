@@ -8,6 +8,7 @@ pub mod Wires
 pub mod Delays
 pub mod Exec
 pub mod Chain
+pub mod Loops
 pub mod Settle
 pub mod Opening
 pub mod Unit
@@ -18,6 +19,7 @@ pub mod Questions
 pub mod Answer
 pub mod Table
 pub mod Order
+pub mod PutOff
 pub mod Counted
 pub mod Noticed
 pub mod Fresh
