@@ -136,7 +136,6 @@ time-inputs k e = go (eqb k 3) refl e
 part-size : (size : ℕ → ℕ) → size 0 ≡ 0 → (ks : List ℕ) (g : ℕ) → getD (map size ks) g 0 ≡ size (getD ks g 0)
 part-size size e ks g = ap (λ d. getD (map size ks) g d) (sym e) ∙ List·getD-map size ks g 0
 
--- a gate that has a kind is one of the circuit's
 -- each member of a list that passes a test
 all-at : (p : ℕ → Bool) (xs : List ℕ) → all p xs ≡ true → (i : ℕ) → i < length xs → p (getD xs i 0) ≡ true
 unfolding all
@@ -144,6 +143,7 @@ all-at p [] h i l = absurd (omega (arith, l))
 all-at p (x ∷ xs) h zero l = both-true (p x) (all p xs) h .0
 all-at p (x ∷ xs) h (suc i) l = all-at p xs (both-true (p x) (all p xs) h .1) i (omega (arith, l))
 
+-- a gate that has a kind is one of the circuit's
 kind-in : (c : Circuit) (g : ℕ) → 0 < kind-of-gate c g → g < length (c .kinds)
 unfolding kind-of-gate
 kind-in c g l = go (ltb g (length (c .kinds))) refl
