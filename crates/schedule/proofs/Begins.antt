@@ -6,7 +6,7 @@ use mathlib.Core.List.{List, [], _∷_, _++_}
 use Prim.Native.Nat.{ℕ, zero, suc}
 use native.Mathlib.Omega.{arith}
 use lib.Dec.{eqb, leb}
-use Rattle.schedule.specs.Schedule.{Raise, Outcome, Machine, Setup, Place, to-late, to-delivered, to-pending, Took, empty, took, Filed, full, filed, room, Activation, rank-of, push, push-all, raise-on, raise-all, Passed, turning, no-turn, pass-on, pass, activate-open, next-late, next-late′, activate-late, next-main, next-main′, activate-main, carries, most-units, most-waiting, most-delivered, LateQ, MainQ, OpenQ, late-pass, main-pass, outcome, Tick, tick, go-on, run-on, run, list-full}
+use Rattle.schedule.specs.Schedule.{When, Raise, Outcome, Machine, Setup, Place, to-late, to-delivered, to-pending, Took, empty, took, Filed, full, filed, room, Activation, rank-of, push, push-all, raise-on, raise-all, Passed, turning, no-turn, pass-on, pass, activate-open, next-late, next-late′, activate-late, next-main, next-main′, activate-main, carries, most-units, most-waiting, most-delivered, LateQ, MainQ, OpenQ, late-pass, main-pass, outcome, Tick, tick, go-on, run-on, run, list-full}
 use Rattle.schedule.specs.Promise.{All, [·], _∷·_, left-by}
 use Rattle.schedule.specs.Keeping.{Did-bring, Turn-begins, Tick-begins}
 use Rattle.schedule.proofs.Steps.{room-is, raise-steps}
@@ -88,9 +88,9 @@ module _ (S : Setup) where
 
     -- ---- what opening and body keep
     module _ (R : In → Type 0) (opened : (w : W) (i : In) → R i → P w → Did-bring P Q (opens w i)) (ran : (w : W) (a : Act) → Q a → P w → Did-bring P Q (runs w a)) where
-      module _ {Qu : Type 0} (H : Qu → Type 0) (next : Qu → Took (Activation S) Qu) (activate : Activation S → Activation S → Qu → Filed Qu)
+      module _ {Qu : Type 0} (H : Qu → Type 0) (next : Qu → Took (Activation S) Qu) (activate : Activation S → When → Activation S → Qu → Filed Qu)
           (takes : (q : Qu) (u : Activation S) (q₁ : Qu) → H q → next q ≡ took u q₁ → Q (u .act) × H q₁)
-          (puts : (u e : Activation S) (q q₁ : Qu) → Q (e .act) → H q → activate u e q ≡ filed q₁ → H q₁) where
+          (puts : (u : Activation S) (p : When) (e : Activation S) (q q₁ : Qu) → Q (e .act) → H q → activate u p e q ≡ filed q₁ → H q₁) where
         record Pass-goes (k : Passed S Qu) : Type 0 where
           turns : All (Turn-begins S P Q) (k .turns)
           goes : Goes H (k .queue) (k .world) (k .stop)
@@ -98,7 +98,7 @@ module _ (S : Setup) where
         turn : ℕ → Tag → W → Activation S → Qu → Passed S Qu
         turn n t w u q =
             let d = runs w (u .act) in
-            let k = raise-all S (λ (p : Unit {0}). activate u) (d .raises) t q (d .world) (d .stop) in
+            let k = raise-all S (activate u) (d .raises) t q (d .world) (d .stop) in
             turning S u w (k .raised) (eqb (d .stop) 0) (pass S next activate n (k .next) (k .queue) (k .world) (k .stop))
 
         pass-goes : (n : ℕ) (t : Tag) (q : Qu) (w : W) (s : ℕ) → Goes H q w s → Pass-goes (pass S next activate n t q w s)
@@ -119,7 +119,7 @@ module _ (S : Setup) where
             go (took u q′) e rec =
                 let h = takes q u q′ (g .queue) e in
                 let d = ran w (u .act) (h .0) (g .world refl) in
-                let r = rec _ _ _ _ (raise-all-goes H (λ (p : Unit {0}). activate u) (λ p e₁ q₁ q₂ a b f. puts u e₁ q₁ q₂ a b f) _ t q′ _ _ (d .raises) (record { queue = h .1; world = d .world })) in
+                let r = rec _ _ _ _ (raise-all-goes H (activate u) (puts u) _ t q′ _ _ (d .raises) (record { queue = h .1; world = d .world })) in
                 record { turns = _∷·_ (record { from = g .world refl; act = h .0 }) (r .turns); goes = r .goes }
         pass-goes (suc n) t q w (suc s) g = record { turns = [·]; goes = g }
 
@@ -140,9 +140,9 @@ module _ (S : Setup) where
               let hq : record { late = l; delivered = d } ≡ q₁ = cc in
               (subst (λ (y : Activation S). Q (y .act)) hu p, subst Late-waits hq (record { late = a; delivered = b }))
 
-      late-puts : (u e : Activation S) (q q₁ : LateQ (Activation S)) → Q (e .act) → Late-waits q → activate-late S u e q ≡ filed q₁ → Late-waits q₁
+      late-puts : (u : Activation S) (w : When) (e : Activation S) (q q₁ : LateQ (Activation S)) → Q (e .act) → Late-waits q → activate-late S u w e q ≡ filed q₁ → Late-waits q₁
       unfolding activate-late
-      late-puts u e q q₁ p h f =
+      late-puts u w e q q₁ p h f =
           subst Late-waits (sym (room-is (q .late) most-waiting f .0)) (record { late = push-waits e (q .late) p (h .late); delivered = h .delivered })
 
       main-takes : (q : MainQ (Activation S)) (u : Activation S) (q₁ : MainQ (Activation S)) → Main-waits q → next-main S q ≡ took u q₁ → Q (u .act) × Main-waits q₁
@@ -156,9 +156,9 @@ module _ (S : Setup) where
               let hq : record { pending = l; carried = d } ≡ q₁ = cc in
               (subst (λ (y : Activation S). Q (y .act)) hu p, subst Main-waits hq (record { pending = a; carried = b }))
 
-      main-puts : (u e : Activation S) (q q₁ : MainQ (Activation S)) → Q (e .act) → Main-waits q → activate-main S u e q ≡ filed q₁ → Main-waits q₁
+      main-puts : (u : Activation S) (w : When) (e : Activation S) (q q₁ : MainQ (Activation S)) → Q (e .act) → Main-waits q → activate-main S u w e q ≡ filed q₁ → Main-waits q₁
       unfolding activate-main
-      main-puts u e q q₁ p h f = go (carries S (rank-of S u) e) f
+      main-puts u w e q q₁ p h f = go (carries S (rank-of S u) w e) f
         where
           go :
               (b : Bool) →

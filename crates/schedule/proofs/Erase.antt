@@ -5,7 +5,7 @@ use mathlib.Core.Bool.{Bool, true, false, cond}
 use Prim.Native.Nat.{ℕ, zero, suc}
 use lib.ListN.{length, length-map}
 use lib.Dec.{leb, ltb, eqb}
-use Rattle.schedule.specs.Schedule.{Setup, plain, Machine, Raise, Outcome, most-units, most-waiting, most-delivered, list-full, Took, empty, took, Filed, full, filed, room, LateQ, MainQ, OpenQ, Place, to-late, to-delivered, to-pending, Activation, rank-of, push, push-all, carries, activate-late, activate-main, activate-open, Raising, raising, raise-on, raise-all, Turn, Passed, turning, no-turn, pass-on, pass, next-late, next-late′, late-pass, next-main, next-main′, main-pass, Tick, acts, outcome, tick-of, tick, go-on, run-on, run}
+use Rattle.schedule.specs.Schedule.{Setup, plain, Machine, Raise, Outcome, most-units, most-waiting, most-delivered, list-full, Took, empty, took, Filed, full, filed, room, LateQ, MainQ, OpenQ, Place, to-late, to-delivered, to-pending, When, by-rank, put-off, Activation, rank-of, push, push-all, carries, activate-late, activate-main, activate-open, Raising, raising, raise-on, raise-all, Turn, Passed, turning, no-turn, pass-on, pass, next-late, next-late′, late-pass, next-main, next-main′, main-pass, Tick, acts, outcome, tick-of, tick, go-on, run-on, run}
 use Rattle.schedule.specs.Erasure.{bare, bare-turn, bare-tick}
 
 -- What is worked out of each element of two lists in a row.
@@ -100,16 +100,21 @@ module _ (S : Setup) where
       go [] c = refl
       go (e ∷ l) c = refl
 
-  activate-late-bare : (u e : E₁) (q : LateQ E₁) → activate-late S₀ (b u) (b e) (bare-late q) ≡ bare-filed bare-late (activate-late S u e q)
+  activate-late-bare : (u : E₁) (p : When) (e : E₁) (q : LateQ E₁) → activate-late S₀ (b u) p (b e) (bare-late q) ≡ bare-filed bare-late (activate-late S u p e q)
   unfolding activate-late
-  activate-late-bare u e q = rw (push-bare e (q .late)) (room-bare bare-late (q .late) most-waiting _)
+  activate-late-bare u p e q = rw (push-bare e (q .late)) (room-bare bare-late (q .late) most-waiting _)
 
-  activate-main-bare : (u e : E₁) (q : MainQ E₁) → activate-main S₀ (b u) (b e) (bare-main q) ≡ bare-filed bare-main (activate-main S u e q)
-  unfolding activate-main carries
-  activate-main-bare u e q =
-      cond-bare bare-main (carries S (rank-of S u) e) _ _
+  carries-bare : (n : ℕ) (p : When) (e : E₁) → carries S₀ n p (b e) ≡ carries S n p e
+  unfolding carries
+  carries-bare n by-rank e = refl
+  carries-bare n put-off e = refl
+
+  activate-main-bare : (u : E₁) (p : When) (e : E₁) (q : MainQ E₁) → activate-main S₀ (b u) p (b e) (bare-main q) ≡ bare-filed bare-main (activate-main S u p e q)
+  unfolding activate-main
+  activate-main-bare u p e q =
+      rw (carries-bare (rank-of S u) p e) (cond-bare bare-main (carries S (rank-of S u) p e) _ _
       (rw (← map-append b (q .carried) (e ∷ [])) (room-bare bare-main (q .carried) most-waiting _))
-      (rw (push-bare e (q .pending)) (room-bare bare-main (q .pending) most-waiting _))
+      (rw (push-bare e (q .pending)) (room-bare bare-main (q .pending) most-waiting _)))
 
   activate-open-bare : (p : Place) (e : E₁) (q : OpenQ E₁) → activate-open S₀ p (b e) (bare-open q) ≡ bare-filed bare-open (activate-open S p e q)
   unfolding activate-open
@@ -149,8 +154,8 @@ module _ (S : Setup) where
   -- ---- a pass
   module _ {Q Q₀ : Type 0} (h : Q → Q₀)
       (next : Q → Took E₁ Q) (next₀ : Q₀ → Took E₀ Q₀) (hn : (q : Q) → next₀ (h q) ≡ bare-took h (next q))
-      (activate : E₁ → E₁ → Q → Filed Q) (activate₀ : E₀ → E₀ → Q₀ → Filed Q₀)
-      (ha : (u e : E₁) (q : Q) → activate₀ (b u) (b e) (h q) ≡ bare-filed h (activate u e q)) where
+      (activate : E₁ → When → E₁ → Q → Filed Q) (activate₀ : E₀ → When → E₀ → Q₀ → Filed Q₀)
+      (ha : (u : E₁) (p : When) (e : E₁) (q : Q) → activate₀ (b u) p (b e) (h q) ≡ bare-filed h (activate u p e q)) where
     abbrev turn₀ : ℕ → W → Bool → E₀ → Raising S₀ Q₀ → Passed S₀ Q₀
     turn₀ n w ran u k = turning S₀ u w (k .raised) ran (pass S₀ next₀ activate₀ n (k .next) (k .queue) (k .world) (k .stop))
 
@@ -170,12 +175,12 @@ module _ (S : Setup) where
         ap (λ (x : Took E₀ Q₀). pass-on S₀ x (no-turn S₀ (suc n) tt (h q) w 0) k₀) (hn q) ∙ go (λ t₁ q₁ w₁ s₁. pass-bare n t₁ q₁ w₁ s₁) (next q)
       where
         k₀ : E₀ → Q₀ → Passed S₀ Q₀
-        k₀ u q′ = let d = body w (u .act) in turn₀ n w (eqb (d .stop) 0) u (raise-all S₀ (λ p. activate₀ u) (d .raises) tt q′ (d .world) (d .stop))
+        k₀ u q′ = let d = body w (u .act) in turn₀ n w (eqb (d .stop) 0) u (raise-all S₀ (activate₀ u) (d .raises) tt q′ (d .world) (d .stop))
 
         k₁ : E₁ → Q → Passed S Q
         k₁ u q′ =
             let d = body w (u .act) in
-            let k = raise-all S (λ p. activate u) (d .raises) t q′ (d .world) (d .stop) in
+            let k = raise-all S (activate u) (d .raises) t q′ (d .world) (d .stop) in
             turning S u w (k .raised) (eqb (d .stop) 0) (pass S next activate n (k .next) (k .queue) (k .world) (k .stop))
 
         go :
@@ -186,8 +191,8 @@ module _ (S : Setup) where
         go rec empty = refl
         go rec (took u q₁) =
             let d = body w (u .act) in
-            let k = raise-all S (λ (p : Unit {0}). activate u) (d .raises) t q₁ (d .world) (d .stop) in
-            ap (turn₀ n w (eqb (d .stop) 0) (b u)) (raise-all-bare h (λ (p : Unit {0}). activate u) (λ (p : Unit {0}). activate₀ (b u)) (λ p. ha u) (d .raises) t q₁ (d .world) (d .stop))
+            let k = raise-all S (activate u) (d .raises) t q₁ (d .world) (d .stop) in
+            ap (turn₀ n w (eqb (d .stop) 0) (b u)) (raise-all-bare h (activate u) (activate₀ (b u)) (ha u) (d .raises) t q₁ (d .world) (d .stop))
             ∙ ap (turning S₀ (b u) w (map b (k .raised)) (eqb (d .stop) 0)) (rec (k .next) (k .queue) (k .world) (k .stop))
     pass-bare (suc n) t q w (suc s) = refl
 

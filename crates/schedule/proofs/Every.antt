@@ -1,7 +1,7 @@
 -- What holds of every tick and of what it gets holds of all ticks of a run; and so of each unit begun: it has run exactly when its body came to no stop.
 use mathlib.Core.List.{List, [], _∷_}
 use Prim.Native.Nat.{ℕ, zero, suc}
-use Rattle.schedule.specs.Schedule.{Setup, Machine, Took, Filed, Activation, activate-late, activate-main, next-late, next-main, Turn, Tick, tick, go-on, run-on, run}
+use Rattle.schedule.specs.Schedule.{Setup, Machine, When, Took, Filed, Activation, activate-late, activate-main, next-late, next-main, Turn, Tick, tick, go-on, run-on, run}
 use Rattle.schedule.specs.Promise.{All, Along, Ran-as-told}
 use Rattle.schedule.proofs.Steps.{Passes, broke, done, turn}
 use Rattle.schedule.proofs.Ticks.{ticked}
@@ -32,7 +32,7 @@ module _ (S : Setup) where
   every P h is w = each-of (each-given (λ i. P) h is w)
 
   passes-told :
-      {Q : Type 0} (next : Q → Took (Activation S) Q) (activate : Activation S → Activation S → Q → Filed Q) {t t₁ : Tag} {q q₁ : Q} {s s₁ : ℕ} {us : List (Turn S)} →
+      {Q : Type 0} (next : Q → Took (Activation S) Q) (activate : Activation S → When → Activation S → Q → Filed Q) {t t₁ : Tag} {q q₁ : Q} {s s₁ : ℕ} {us : List (Turn S)} →
       Passes S next activate t q s us t₁ q₁ s₁ → All (Ran-as-told S) us
   passes-told next activate broke = All.[·]
   passes-told next activate (done h) = All.[·]

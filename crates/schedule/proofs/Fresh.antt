@@ -6,7 +6,7 @@ use Prim.Native.Nat.{ℕ, suc, _+_, _<_}
 use native.Mathlib.Omega.{arith}
 use lib.Dec.{leb, eqb}
 use borrow.Author.Tests.{leb-true, leb-false, eqb-true, eqb-false, le-leb, lt-leb}
-use Rattle.schedule.specs.Schedule.{numbered, Machine, Took, Filed, activate-late, activate-main, activate-open, next-late, next-main, Turn}
+use Rattle.schedule.specs.Schedule.{numbered, Machine, Raise, When, Took, Filed, activate-late, activate-main, activate-open, next-late, next-main, Turn}
 use Rattle.schedule.specs.Promise.{Raised, Played, Numbered, times, raised-by, raised}
 use Rattle.schedule.proofs.Steps.{Raises, none, one, Passes, broke, done, turn}
 use Rattle.schedule.proofs.Ticks.{Ticked}
@@ -38,15 +38,15 @@ module _ (M : Machine) where
   numbered-fresh x (Numbered.one {e = e} r) = omega (arith, numbered-fresh x r, coming-suc x (e .tag))
 
   module _ {P Q : Type 0} (activate : P → Raised M → Q → Filed Q) where
-    pub raises-numbered : {t t₁ : ℕ} {q q₁ : Q} {es : List (Raised M)} → Raises (numbered M) activate t q es t₁ q₁ → Numbered M t es t₁
+    raises-numbered : {rs : List (Raise (M .W) (M .Act) P)} {t t₁ : ℕ} {q q₁ : Q} {es : List (Raised M)} → Raises (numbered M) activate rs t q es t₁ q₁ → Numbered M t es t₁
     raises-numbered Raises.none = Numbered.none
-    raises-numbered (Raises.one p h r) = Numbered.one (raises-numbered r)
+    raises-numbered (Raises.one p x h r) = Numbered.one (raises-numbered r)
 
-  module _ {Q : Type 0} (next : Q → Took (Raised M) Q) (activate : Raised M → Raised M → Q → Filed Q) where
+  module _ {Q : Type 0} (next : Q → Took (Raised M) Q) (activate : Raised M → When → Raised M → Q → Filed Q) where
     passes-numbered : {t t₁ s s₁ : ℕ} {q q₁ : Q} {us : List (Turn (numbered M))} → Passes (numbered M) next activate t q s us t₁ q₁ s₁ → Numbered M t (raised-by (numbered M) us) t₁
     passes-numbered broke = Numbered.none
     passes-numbered (done h) = Numbered.none
-    passes-numbered (turn {u = u} h k b j r) = numbered-append (raises-numbered (λ (p : Unit {0}). activate u) k) (passes-numbered r)
+    passes-numbered (turn {u = u} h k b j r) = numbered-append (raises-numbered (activate u) k) (passes-numbered r)
 
   pub tick-numbered : {c : List (Raised M)} {t₀ : ℕ} {k : Played M} → Ticked (numbered M) c t₀ k → Numbered M t₀ (raised (numbered M) k) (k .next)
   tick-numbered T =

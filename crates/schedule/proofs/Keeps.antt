@@ -4,7 +4,7 @@ use mathlib.Core.Path.{_≡_, refl, sym, subst}
 use mathlib.Core.List.{List, [], _∷_}
 use Prim.Native.Nat.{ℕ, zero, suc}
 use lib.Dec.{eqb}
-use Rattle.schedule.specs.Schedule.{Raise, Outcome, Machine, Setup, Took, empty, took, Filed, full, filed, Activation, raise-on, raise-all, Turn, Passed, turning, no-turn, pass-on, pass, push-all, activate-open, next-late, activate-late, next-main, activate-main, most-units, MainQ, OpenQ, late-pass, main-pass, outcome, Tick, tick, go-on, run-on, run, list-full}
+use Rattle.schedule.specs.Schedule.{Raise, When, Outcome, Machine, Setup, Took, empty, took, Filed, full, filed, Activation, raise-on, raise-all, Turn, Passed, turning, no-turn, pass-on, pass, push-all, activate-open, next-late, activate-late, next-main, activate-main, most-units, MainQ, OpenQ, late-pass, main-pass, outcome, Tick, tick, go-on, run-on, run, list-full}
 use Rattle.schedule.specs.Promise.{All, [·], _∷·_}
 use Rattle.schedule.specs.Keeping.{Did-keep, Tick-keeps}
 
@@ -48,12 +48,12 @@ module _ (S : Setup) where
   -- P n holds while n units may still begin, each of which uses up one; B is what it says where one begins
   module _ (B : W → Type 0) (P : ℕ → W → Type 0) (begun : (n : ℕ) (w : W) → P (suc n) w → B w)
       (ran : (n : ℕ) (w : W) (a : Act) → P (suc n) w → Did-keep (P n) (runs w a)) where
-    module _ {Q : Type 0} (next : Q → Took (Activation S) Q) (activate : Activation S → Activation S → Q → Filed Q) where
+    module _ {Q : Type 0} (next : Q → Took (Activation S) Q) (activate : Activation S → When → Activation S → Q → Filed Q) where
       -- one unit, and the pass after it
       turn : ℕ → Tag → W → Activation S → Q → Passed S Q
       turn n t w u q =
           let d = runs w (u .act) in
-          let k = raise-all S (λ (p : Unit {0}). activate u) (d .raises) t q (d .world) (d .stop) in
+          let k = raise-all S (activate u) (d .raises) t q (d .world) (d .stop) in
           turning S u w (k .raised) (eqb (d .stop) 0) (pass S next activate n (k .next) (k .queue) (k .world) (k .stop))
 
       pass-keeps : (n : ℕ) (t : Tag) (q : Q) (w : W) (s : ℕ) → P n w → Pass-keeps B P (pass S next activate n t q w s)
@@ -73,7 +73,7 @@ module _ (S : Setup) where
           go empty rec = record { turns = [·]; world = p }
           go (took u q′) rec =
               let d = ran n w (u .act) p in
-              let r = rec _ _ _ _ (raise-all-keeps (P n) (λ (p : Unit {0}). activate u) _ t q′ _ _ (d .world) (d .raises)) in
+              let r = rec _ _ _ _ (raise-all-keeps (P n) (activate u) _ t q′ _ _ (d .world) (d .raises)) in
               record { turns = _∷·_ (begun n w p) (r .turns); world = r .world }
       pass-keeps (suc n) t q w (suc s) p = record { turns = [·]; world = p }
 

@@ -8,18 +8,17 @@ use native.Mathlib.Omega.{arith}
 use lib.Dec.{leb, eqb}
 use lib.ListN.{length, length-append}
 use borrow.Author.Tests.{eq-eqb}
-use Rattle.schedule.specs.Schedule.{numbered, Machine, took, filed, most-waiting, most-delivered, LateQ, OpenQ, Place, to-late, to-delivered, to-pending, push, push-all, activate-late, activate-main, activate-open, next-late, next-late′, next-main, Turn}
-use Rattle.schedule.specs.Promise.{All, Raised, Played, Before, Sorted, Numbered, times, units, not-above, raised-not-above}
+use Rattle.schedule.specs.Schedule.{numbered, Machine, Raise, When, took, filed, most-waiting, most-delivered, LateQ, MainQ, OpenQ, Place, to-late, to-delivered, to-pending, push, push-all, activate-late, activate-main, activate-open, next-late, next-late′, next-main, Turn}
+use Rattle.schedule.specs.Promise.{All, Raised, Played, Before, Sorted, times, units, is-carried, carried-of, raised-to-carry}
 use Rattle.schedule.proofs.Members.{all-map}
 use Rattle.schedule.proofs.Steps.{room-is, Raises, none, one, Passes, broke, done, turn}
 use Rattle.schedule.proofs.Weigh.{total-append}
 use Rattle.schedule.proofs.Ticks.{Ticked}
 use Rattle.schedule.proofs.Ranked.{Good, good-le, good-push, good-tail, good-head}
-use Rattle.schedule.proofs.Fresh.{raises-numbered}
 use Rattle.schedule.proofs.Carry.{tick-carry}
 
 module _ (M : Machine) where
-  open Machine M using (rank)
+  open Machine M using (W, Act, rank)
 
   -- ---- what is carried was raised in its order
 
@@ -39,20 +38,24 @@ module _ (M : Machine) where
   rising-append (no-more h) s = rising-from h s
   rising-append (rise h r) s = rise h (rising-append r s)
 
-  numbered-rising : (u : Raised M) {t n : ℕ} {es : List (Raised M)} → Numbered M t es n → Rising t (not-above (numbered M) u es) n
-  numbered-rising u Numbered.none = none-rises _
-  numbered-rising u (Numbered.one {n = n} {e = e} {l = l} r) = go (leb (rank (e .act)) (rank (u .act))) (numbered-rising u r)
+  raises-rising :
+      (u : Raised M) {rs : List (Raise W Act When)} {t t₁ : ℕ} {q q₁ : MainQ (Raised M)} {es : List (Raised M)} → Raises (numbered M) (activate-main (numbered M) u) rs t q es t₁ q₁ →
+      Rising t (carried-of (numbered M) u es rs) t₁
+  raises-rising u none = none-rises _
+  raises-rising u (one {rs = rs} {t₂ = n} {e = e} {es = es} p x h r) = go (is-carried (numbered M) u (p .place) e) (raises-rising u r)
     where
-      go : (b : Bool) → Rising (suc (e .tag)) (not-above (numbered M) u l) n → Rising (e .tag) (cond b (e ∷ not-above (numbered M) u l) (not-above (numbered M) u l)) n
+      go :
+          (b : Bool) → Rising (suc (e .tag)) (carried-of (numbered M) u es rs) n →
+          Rising (e .tag) (cond b (e ∷ carried-of (numbered M) u es rs) (carried-of (numbered M) u es rs)) n
       go true r = let z : e .tag ≤ e .tag = omega arith in rise z r
       go false r = rising-from (omega arith) r
 
   main-rising :
       {t t₁ s s₁ : ℕ} {q q₁ : _} {us : List (Turn (numbered M))} → Passes (numbered M) (next-main (numbered M)) (activate-main (numbered M)) t q s us t₁ q₁ s₁ →
-      Rising t (raised-not-above (numbered M) us) t₁
+      Rising t (raised-to-carry (numbered M) us) t₁
   main-rising broke = none-rises _
   main-rising (done h) = none-rises _
-  main-rising (turn {u = u} h k b j r) = rising-append (numbered-rising u (raises-numbered M (λ (p : Unit {0}). activate-main (numbered M) u) k)) (main-rising r)
+  main-rising (turn {u = u} h k b j r) = rising-append (raises-rising u k) (main-rising r)
 
   -- of a tick
   pub tick-rising : {c : List (Raised M)} {t₀ : ℕ} {k : Played M} → Ticked (numbered M) c t₀ k → Rising 0 (k .carried) (k .next)
@@ -140,18 +143,18 @@ module _ (M : Machine) where
     open-waits b to-pending e q q₁ h a = rw (room-is (q .pending) most-waiting h .0) (waits-later (omega arith) a)
 
     opened-waits :
-        {b : List (Raised M)} {t t₁ : ℕ} {q q₁ : OpenQ (Raised M)} {es : List (Raised M)} → Raises (numbered M) (activate-open (numbered M)) t q es t₁ q₁ →
+        {b : List (Raised M)} {rs : List (Raise W Act Place)} {t t₁ : ℕ} {q q₁ : OpenQ (Raised M)} {es : List (Raised M)} → Raises (numbered M) (activate-open (numbered M)) rs t q es t₁ q₁ →
         Waits b t (q .lateq .late) → Waits b t₁ (q₁ .lateq .late)
-    opened-waits Raises.none a = a
-    opened-waits {b} (Raises.one {q = q} {q₁ = q₁} {e = e} p h r) a = opened-waits r (open-waits b p e q q₁ h a)
+    opened-waits none a = a
+    opened-waits {b} (one {q = q} {q₁ = q₁} {e = e} p x h r) a = opened-waits r (open-waits b (p .place) e q q₁ h a)
 
     -- so does what a unit of the late pass raises
     raised-waits :
-        (u : Raised M) {b : List (Raised M)} {t t₁ : ℕ} {q q₁ : LateQ (Raised M)} {es : List (Raised M)} → Raises (numbered M) (λ (p : Unit {0}). activate-late (numbered M) u) t q es t₁ q₁ →
+        (u : Raised M) {b : List (Raised M)} {rs : List (Raise W Act When)} {t t₁ : ℕ} {q q₁ : LateQ (Raised M)} {es : List (Raised M)} → Raises (numbered M) (activate-late (numbered M) u) rs t q es t₁ q₁ →
         Waits b t (q .late) → Waits b t₁ (q₁ .late)
     unfolding activate-late
-    raised-waits u Raises.none a = a
-    raised-waits u {b} (Raises.one {q = q} {q₁ = q₁} {e = e} p h r) a =
+    raised-waits u none a = a
+    raised-waits u {b} (one {q = q} {q₁ = q₁} {e = e} p x h r) a =
         let k : q₁ .late ≡ push (numbered M) e (q .late) = ap (λ (q : LateQ (Raised M)). q .late) (room-is (q .late) most-waiting h .0) in
         let z : Waits b (suc (e .tag)) (q₁ .late) = rw k (waits-pushed e a) in
         raised-waits u r z

@@ -5,7 +5,7 @@ use mathlib.Core.Logic.{_⊎_, inl, inr}
 use Prim.Native.Nat.{ℕ, suc, _≤_, _<_}
 use native.Mathlib.Omega.{arith}
 use lib.ListN.{length, length-append}
-use Rattle.schedule.specs.Schedule.{Setup, Machine, Took, took, Filed, filed, most-waiting, MainQ, OpenQ, Place, Activation, push, activate-main, activate-open, next-main, Turn, Tick, run}
+use Rattle.schedule.specs.Schedule.{Setup, Machine, Raise, Took, took, Filed, filed, most-waiting, MainQ, OpenQ, Place, When, Activation, push, activate-main, activate-open, next-main, Turn, Tick, run}
 use Rattle.schedule.specs.Promise.{All}
 use Rattle.schedule.specs.Limits.{Few-units}
 use Rattle.schedule.proofs.Steps.{next-main-is, To-main, at-carried, at-pending, activate-main-is, activate-open-is, Raises, none, one, Passes, broke, done, turn}
@@ -15,20 +15,20 @@ use Rattle.schedule.proofs.Every.{every}
 
 module _ (S : Setup) where
   open Setup S using (Tag)
-  open Machine (S .machine) using (W, In)
+  open Machine (S .machine) using (W, In, Act)
 
   -- ---- what holds of a queue through raising, and through a pass
   module _ {P Q : Type 0} (activate : P → Activation S → Q → Filed Q) (I : Q → Type 0) (ha : (p : P) (e : Activation S) (q q₁ : Q) → activate p e q ≡ filed q₁ → I q → I q₁) where
-    raises-keep : {t t₁ : Tag} {q q₁ : Q} {es : List (Activation S)} → Raises S activate t q es t₁ q₁ → I q → I q₁
+    raises-keep : {rs : List (Raise W Act P)} {t t₁ : Tag} {q q₁ : Q} {es : List (Activation S)} → Raises S activate rs t q es t₁ q₁ → I q → I q₁
     raises-keep none i = i
-    raises-keep (one {q = q} {q₁ = q₁} {e = e} p h r) i = raises-keep r (ha p e q q₁ h i)
+    raises-keep (one {q = q} {q₁ = q₁} {e = e} p x h r) i = raises-keep r (ha (p .place) e q q₁ h i)
 
-  module _ {Q : Type 0} (next : Q → Took (Activation S) Q) (activate : Activation S → Activation S → Q → Filed Q) (I : Q → Type 0)
-      (hn : (q : Q) (u : Activation S) (q₁ : Q) → next q ≡ took u q₁ → I q → I q₁) (ha : (u e : Activation S) (q q₁ : Q) → activate u e q ≡ filed q₁ → I q → I q₁) where
+  module _ {Q : Type 0} (next : Q → Took (Activation S) Q) (activate : Activation S → When → Activation S → Q → Filed Q) (I : Q → Type 0)
+      (hn : (q : Q) (u : Activation S) (q₁ : Q) → next q ≡ took u q₁ → I q → I q₁) (ha : (u : Activation S) (p : When) (e : Activation S) (q q₁ : Q) → activate u p e q ≡ filed q₁ → I q → I q₁) where
     passes-keep : {t t₁ : Tag} {q q₁ : Q} {s s₁ : ℕ} {us : List (Turn S)} → Passes S next activate t q s us t₁ q₁ s₁ → I q → I q₁
     passes-keep broke i = i
     passes-keep (done h) i = i
-    passes-keep (turn {q = q} {q₁ = q₁} {u = u} h k b j r) i = passes-keep r (raises-keep (λ (p : Unit {0}). activate u) I (λ p. ha u) k (hn q u q₁ h i))
+    passes-keep (turn {q = q} {q₁ = q₁} {u = u} h k b j r) i = passes-keep r (raises-keep (activate u) I (ha u) k (hn q u q₁ h i))
 
   push-length : (e : Activation S) (l : List (Activation S)) → length (push S e l) ≡ suc (length l)
   push-length e l = omega (arith, push-weigh S (λ _. 1) e l, total-one l, total-one (push S e l))
@@ -40,10 +40,10 @@ module _ (S : Setup) where
   next-fits : (q : MainQ (Activation S)) (u : Activation S) (q₁ : MainQ (Activation S)) → next-main S q ≡ took u q₁ → Fits q → Fits q₁
   next-fits q u q₁ h i = let n = next-main-is S q u q₁ h in omega (arith, ap length (n .0), ap length (n .1))
 
-  activate-fits : (u e : Activation S) (q q₁ : MainQ (Activation S)) → activate-main S u e q ≡ filed q₁ → Fits q → Fits q₁
-  activate-fits u e q q₁ h i = go (activate-main-is S u e q q₁ h)
+  activate-fits : (u : Activation S) (p : When) (e : Activation S) (q q₁ : MainQ (Activation S)) → activate-main S u p e q ≡ filed q₁ → Fits q → Fits q₁
+  activate-fits u p e q q₁ h i = go (activate-main-is S u p e q q₁ h)
     where
-      go : To-main S u e q q₁ → Fits q₁
+      go : To-main S u p e q q₁ → Fits q₁
       go (at-carried b n hp hc) = omega (arith, ap length hp, ap length hc, length-append (q .carried) (e ∷ []))
       go (at-pending b n hp hc) = omega (arith, ap length hp, ap length hc, push-length e (q .pending))
 

@@ -4,9 +4,8 @@ use mathlib.Core.List.{List, [], _∷_}
 use mathlib.Core.Bool.{Bool, true, false, cond}
 use Prim.Native.Nat.{ℕ, _+_, _≤_}
 use native.Mathlib.Omega.{arith}
-use lib.Dec.{leb}
-use Rattle.schedule.specs.Schedule.{Raise, Place, to-late, to-delivered, to-pending, Setup, Machine, Filed, full, filed, OpenQ, list-full, most-units, Activation, push-all, activate-open, raise-on, raise-all, next-late, activate-late, next-main, activate-main, late-pass, main-pass, Turn, acts, outcome, tick}
-use Rattle.schedule.specs.Promise.{total, units, raised-by, not-above, raised-not-above}
+use Rattle.schedule.specs.Schedule.{Raise, When, Place, to-late, to-delivered, to-pending, Setup, Machine, Filed, full, filed, OpenQ, list-full, most-units, Activation, push-all, activate-open, raise-on, raise-all, next-late, activate-late, next-main, activate-main, late-pass, main-pass, Turn, acts, outcome, tick}
+use Rattle.schedule.specs.Promise.{total, units, raised-by, is-carried, carried-of, raised-to-carry}
 use Rattle.schedule.specs.Pending.{pends, for-main, Begins-pending}
 use Rattle.schedule.proofs.Steps.{room-is, pass-steps}
 use Rattle.schedule.proofs.Weigh.{total-append, push-weigh, main-passes-weigh}
@@ -15,7 +14,7 @@ use Rattle.schedule.proofs.Carry.{tick-carry}
 
 module _ (S : Setup) (m : S .machine .Act → ℕ) where
   open Setup S using (Tag, after)
-  open Machine (S .machine) using (W, In, Act, rank, opening)
+  open Machine (S .machine) using (W, In, Act, opening, body)
 
   -- an activation counts for what it runs
   abbrev μ : Activation S → ℕ
@@ -54,22 +53,23 @@ module _ (S : Setup) (m : S .machine .Act → ℕ) where
       go (filed q₁) k h rec = omega (arith, rec q₁ h, activate-pends (r .place) e q q₁ k, one-more (pends (r .place)) (r .act) (for-main S rs))
 
   -- what is carried was raised in the pass
-  not-above-few : (u : Activation S) (es : List (Activation S)) → total μ (not-above S u es) ≤ total μ es
-  not-above-few u [] = omega arith
-  not-above-few u (e ∷ es) = go (leb (rank (e .act)) (rank (u .act))) (not-above-few u es)
+  carried-of-few : (u : Activation S) (es : List (Activation S)) (rs : List (Raise W Act When)) → total μ (carried-of S u es rs) ≤ total μ es
+  carried-of-few u [] rs = omega arith
+  carried-of-few u (e ∷ es) [] = omega arith
+  carried-of-few u (e ∷ es) (r ∷ rs) = go (is-carried S u (r .place) e) (carried-of-few u es rs)
     where
-      go : (b : Bool) → total μ (not-above S u es) ≤ total μ es → total μ (cond b (e ∷ not-above S u es) (not-above S u es)) ≤ μ e + total μ es
+      go : (b : Bool) → total μ (carried-of S u es rs) ≤ total μ es → total μ (cond b (e ∷ carried-of S u es rs) (carried-of S u es rs)) ≤ μ e + total μ es
       go true h = omega arith
       go false h = omega arith
 
-  carried-few : (us : List (Turn S)) → total μ (raised-not-above S us) ≤ total μ (raised-by S us)
+  carried-few : (us : List (Turn S)) → total μ (raised-to-carry S us) ≤ total μ (raised-by S us)
   carried-few [] = omega arith
   carried-few (u ∷ us) =
       omega (
         arith,
-        not-above-few (u .unit) (u .raised),
+        carried-of-few (u .unit) (u .raised) (body (u .from) (u .unit .act) .raises),
         carried-few us,
-        total-append μ (not-above S (u .unit) (u .raised)) (raised-not-above S us),
+        total-append μ (carried-of S (u .unit) (u .raised) (body (u .from) (u .unit .act) .raises)) (raised-to-carry S us),
         total-append μ (u .raised) (raised-by S us),
       )
 

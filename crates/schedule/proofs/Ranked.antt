@@ -8,14 +8,14 @@ use native.Mathlib.Omega.{arith}
 use lib.ListN.{length}
 use lib.Dec.{leb}
 use borrow.Author.Tests.{leb-true, leb-false}
-use Rattle.schedule.specs.Schedule.{numbered, Machine, Took, Filed, most-waiting, MainQ, OpenQ, push, activate-late, activate-main, activate-open, next-late, next-main, Turn}
+use Rattle.schedule.specs.Schedule.{numbered, Machine, Raise, Took, Filed, most-waiting, MainQ, OpenQ, Place, When, push, activate-late, activate-main, activate-open, next-late, next-main, Turn}
 use Rattle.schedule.specs.Promise.{All, [·], _∷·_, Raised, Played, Before, Sorted, units}
 use Rattle.schedule.proofs.Members.{all-map}
-use Rattle.schedule.proofs.Steps.{next-main-is, To-main, at-carried, at-pending, activate-main-is, activate-open-is, Raises, none, one, Passes, broke, done, turn}
+use Rattle.schedule.proofs.Steps.{next-main-is, To-main, at-carried, at-pending, above, activate-main-is, activate-open-is, Raises, none, one, Passes, broke, done, turn}
 use Rattle.schedule.proofs.Ticks.{Ticked}
 
 module _ (M : Machine) where
-  open Machine M using (rank)
+  open Machine M using (W, Act, rank)
 
   before-trans : (d e f : Raised M) → Before M d e → Before M e f → Before M d f
   before-trans d e f (inl h) (inl k) = inl (omega arith)
@@ -75,10 +75,10 @@ module _ (M : Machine) where
 
   -- the opening keeps the pending list in order
   raises-good :
-      {t t₁ : ℕ} {q q₁ : OpenQ (Raised M)} {es : List (Raised M)} → Raises (numbered M) (activate-open (numbered M)) t q es t₁ q₁ →
+      {rs : List (Raise W Act Place)} {t t₁ : ℕ} {q q₁ : OpenQ (Raised M)} {es : List (Raised M)} → Raises (numbered M) (activate-open (numbered M)) rs t q es t₁ q₁ →
       Good t (q .pending) → Good t₁ (q₁ .pending)
   raises-good none g = g
-  raises-good (one {q = q} {q₁ = q₁} {e = e} p h r) g = raises-good r (step (activate-open-is (numbered M) p e q q₁ h))
+  raises-good (one {q = q} {q₁ = q₁} {e = e} p x h r) g = raises-good r (step (activate-open-is (numbered M) (p .place) e q q₁ h))
     where
       step : (q₁ .pending ≡ q .pending) ⊎ ((q₁ .pending ≡ push (numbered M) e (q .pending)) × (length (q .pending) < most-waiting)) → Good (suc (e .tag)) (q₁ .pending)
       step (inl i) = rw i (good-le (omega arith) g)
@@ -86,14 +86,14 @@ module _ (M : Machine) where
 
   -- so does what a unit of the main pass raises, and all that is pending comes after the unit
   raises-main-good :
-      (u : Raised M) {t t₁ : ℕ} {q q₁ : MainQ (Raised M)} {es : List (Raised M)} → Raises (numbered M) (λ (p : Unit {0}). activate-main (numbered M) u) t q es t₁ q₁ →
+      (u : Raised M) {rs : List (Raise W Act When)} {t t₁ : ℕ} {q q₁ : MainQ (Raised M)} {es : List (Raised M)} → Raises (numbered M) (activate-main (numbered M) u) rs t q es t₁ q₁ →
       Good t (q .pending) → All (Before M u) (q .pending) → Good t₁ (q₁ .pending) × All (Before M u) (q₁ .pending)
   raises-main-good u none g a = (g, a)
-  raises-main-good u (one {q = q} {q₁ = q₁} {e = e} p h r) g a = let s = step (activate-main-is (numbered M) u e q q₁ h) in raises-main-good u r (s .0) (s .1)
+  raises-main-good u (one {q = q} {q₁ = q₁} {e = e} p x h r) g a = let s = step (activate-main-is (numbered M) u (p .place) e q q₁ h) in raises-main-good u r (s .0) (s .1)
     where
-      step : To-main (numbered M) u e q q₁ → Good (suc (e .tag)) (q₁ .pending) × All (Before M u) (q₁ .pending)
+      step : To-main (numbered M) u (p .place) e q q₁ → Good (suc (e .tag)) (q₁ .pending) × All (Before M u) (q₁ .pending)
       step (at-carried b n hp hc) = (rw hp (good-le (omega arith) g), rw hp a)
-      step (at-pending b n hp hc) = (rw hp (good-push e g), rw hp (push-all-of e (q .pending) (inl (leb-false _ _ b)) a))
+      step (at-pending b n hp hc) = (rw hp (good-push e g), rw hp (push-all-of e (q .pending) (inl (leb-false _ _ (above (numbered M) u (p .place) e b))) a))
 
   -- the whole pass
   passes-sorted :
@@ -115,15 +115,15 @@ module _ (M : Machine) where
 
   -- numbers only rise
   module _ {P Q : Type 0} (activate : P → Raised M → Q → Filed Q) where
-    raises-le : {t t₁ : ℕ} {q q₁ : Q} {es : List (Raised M)} → Raises (numbered M) activate t q es t₁ q₁ → t ≤ t₁
+    raises-le : {rs : List (Raise W Act P)} {t t₁ : ℕ} {q q₁ : Q} {es : List (Raised M)} → Raises (numbered M) activate rs t q es t₁ q₁ → t ≤ t₁
     raises-le none = omega arith
-    raises-le (one p h r) = omega (arith, raises-le r)
+    raises-le (one p x h r) = omega (arith, raises-le r)
 
-  module _ {Q : Type 0} (next : Q → Took (Raised M) Q) (activate : Raised M → Raised M → Q → Filed Q) where
+  module _ {Q : Type 0} (next : Q → Took (Raised M) Q) (activate : Raised M → When → Raised M → Q → Filed Q) where
     passes-le : {t t₁ s s₁ : ℕ} {q q₁ : Q} {us : List (Turn (numbered M))} → Passes (numbered M) next activate t q s us t₁ q₁ s₁ → t ≤ t₁
     passes-le broke = omega arith
     passes-le (done h) = omega arith
-    passes-le (turn {u = u} h k b j r) = omega (arith, raises-le (λ (p : Unit {0}). activate u) k, passes-le r)
+    passes-le (turn {u = u} h k b j r) = omega (arith, raises-le (activate u) k, passes-le r)
 
   pub tick-sorted : {c : List (Raised M)} {t₀ : ℕ} {k : Played M} → Ticked (numbered M) c t₀ k → Sorted M (units (numbered M) (k .main) ++ k .waiting)
   tick-sorted T =

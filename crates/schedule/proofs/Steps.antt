@@ -8,8 +8,8 @@ use native.Mathlib.Omega.{arith}
 use lib.ListN.{length}
 use lib.Dec.{leb, ltb, eqb}
 use borrow.Author.Tests.{ltb-true, eq-eqb}
-use Rattle.schedule.specs.Schedule.{Setup, Machine, Raise, Took, empty, took, Filed, full, filed, room, most-waiting, list-full, MainQ, OpenQ, Place, to-late, to-delivered, to-pending, Activation, rank-of, push, carries, activate-main, activate-open, next-main, next-main′, Raising, raise-on, raise-all, Turn, Passed, turning, no-turn, pass-on, pass}
-use Rattle.schedule.specs.Promise.{Of-told, Ran-as-told, Raised-as-told}
+use Rattle.schedule.specs.Schedule.{Setup, Machine, Raise, Took, empty, took, Filed, full, filed, room, most-waiting, list-full, MainQ, OpenQ, Place, to-late, to-delivered, to-pending, When, by-rank, put-off, Activation, rank-of, push, carries, activate-main, activate-open, next-main, next-main′, Raising, raise-on, raise-all, Turn, Passed, turning, no-turn, pass-on, pass}
+use Rattle.schedule.specs.Promise.{Of-told, Ran-as-told, Raised-as-told, is-carried}
 
 -- a queue that was filed is the one that there was room for
 pub room-is : {E Q : Type 0} (l : List E) (most : ℕ) {q q₁ : Q} → room l most q ≡ filed q₁ → (q₁ ≡ q) × (length l < most)
@@ -25,10 +25,16 @@ module _ (S : Setup) where
 
   -- ---- taking and putting
 
-  -- the reason for carrying, in the promise's words
-  pub carries-is : (cursor : ℕ) (e : Activation S) → carries S cursor e ≡ leb (rank (e .act)) cursor
+  -- the reasons for carrying, in the promise's words
+  pub carries-is : (u : Activation S) (p : When) (e : Activation S) → carries S (rank-of S u) p e ≡ is-carried S u p e
   unfolding carries
-  carries-is cursor e = refl
+  carries-is u by-rank e = refl
+  carries-is u put-off e = refl
+
+  -- what is not carried is above the rank reached
+  pub above : (u : Activation S) (p : When) (e : Activation S) → is-carried S u p e ≡ false → leb (rank (e .act)) (rank (u .act)) ≡ false
+  above u by-rank e h = h
+  above u put-off e h = cc
 
   -- what the main pass begins was the first pending one
   pub next-main-is : (q : MainQ (Activation S)) (u : Activation S) (q₁ : MainQ (Activation S)) → next-main S q ≡ took u q₁ → (q .pending ≡ u ∷ q₁ .pending) × (q .carried ≡ q₁ .carried)
@@ -44,25 +50,25 @@ module _ (S : Setup) where
           (cc, ap (λ (q : MainQ (Activation S)). q .carried) hq)
 
   -- where the main pass puts what the unit u raised
-  pub data To-main (u e : Activation S) (q q₁ : MainQ (Activation S)) : Type 0 where
+  pub data To-main (u : Activation S) (p : When) (e : Activation S) (q q₁ : MainQ (Activation S)) : Type 0 where
     at-carried :
-        leb (rank (e .act)) (rank (u .act)) ≡ true → length (q .carried) < most-waiting → q₁ .pending ≡ q .pending → q₁ .carried ≡ q .carried ++ (e ∷ []) →
-        To-main u e q q₁
+        is-carried S u p e ≡ true → length (q .carried) < most-waiting → q₁ .pending ≡ q .pending → q₁ .carried ≡ q .carried ++ (e ∷ []) →
+        To-main u p e q q₁
     at-pending :
-        leb (rank (e .act)) (rank (u .act)) ≡ false → length (q .pending) < most-waiting → q₁ .pending ≡ push S e (q .pending) → q₁ .carried ≡ q .carried →
-        To-main u e q q₁
+        is-carried S u p e ≡ false → length (q .pending) < most-waiting → q₁ .pending ≡ push S e (q .pending) → q₁ .carried ≡ q .carried →
+        To-main u p e q q₁
 
-  pub activate-main-is : (u e : Activation S) (q q₁ : MainQ (Activation S)) → activate-main S u e q ≡ filed q₁ → To-main u e q q₁
+  pub activate-main-is : (u : Activation S) (p : When) (e : Activation S) (q q₁ : MainQ (Activation S)) → activate-main S u p e q ≡ filed q₁ → To-main u p e q q₁
   unfolding activate-main
-  activate-main-is u e q q₁ h = go (carries S (rank-of S u) e) (sym (carries-is (rank-of S u) e)) h
+  activate-main-is u p e q q₁ h = go (carries S (rank-of S u) p e) (sym (carries-is u p e)) h
     where
       go :
-          (b : Bool) → leb (rank (e .act)) (rank (u .act)) ≡ b →
+          (b : Bool) → is-carried S u p e ≡ b →
           cond b
           (room (q .carried) most-waiting (record { pending = q .pending; carried = q .carried ++ (e ∷ []) }))
           (room (q .pending) most-waiting (record { pending = push S e (q .pending); carried = q .carried }))
           ≡ filed q₁ →
-          To-main u e q q₁
+          To-main u p e q q₁
       go true k h =
           let r = room-is (q .carried) most-waiting h in
           at-carried k (r .1) (ap (λ (q : MainQ (Activation S)). q .pending) (r .0)) (ap (λ (q : MainQ (Activation S)). q .carried) (r .0))
@@ -81,18 +87,18 @@ module _ (S : Setup) where
 
   -- ---- raising
   module _ {P Q : Type 0} (activate : P → Activation S → Q → Filed Q) where
-    -- from the identity t and the queue q, raising the list led to the identity and the queue at the end
-    pub data Raises : Tag → Q → List (Activation S) → Tag → Q → Type 0 where
-      none : {t : Tag} {q : Q} → Raises t q [] t q
+    -- what was to be raised, and from the identity t and the queue q what was, up to the identity and the queue at the end
+    pub data Raises : List (Raise W Act P) → Tag → Q → List (Activation S) → Tag → Q → Type 0 where
+      none : {rs : List (Raise W Act P)} {t : Tag} {q : Q} → Raises rs t q [] t q
       one :
-          {q q₁ q₂ : Q} {t₂ : Tag} {e : Activation S} {es : List (Activation S)} (p : P) →
-          activate p e q ≡ filed q₁ →
-          Raises (after (e .tag)) q₁ es t₂ q₂ →
-          Raises (e .tag) q (e ∷ es) t₂ q₂
+          {rs : List (Raise W Act P)} {q q₁ q₂ : Q} {t₂ : Tag} {e : Activation S} {es : List (Activation S)} (r : Raise W Act P) → r .act ≡ e .act →
+          activate (r .place) e q ≡ filed q₁ →
+          Raises rs (after (e .tag)) q₁ es t₂ q₂ →
+          Raises (r ∷ rs) (e .tag) q (e ∷ es) t₂ q₂
 
     -- What raising rs in the world w came to, where what raised had the stop s: without a stop in the end there was none before, all was raised, and the world is w.
     pub record Did-raise (rs : List (Raise W Act P)) (t : Tag) (q : Q) (w : W) (s : ℕ) (k : Raising S Q) : Type 0 where
-      pub steps : Raises t q (k .raised) (k .next) (k .queue)
+      pub steps : Raises rs t q (k .raised) (k .next) (k .queue)
       pub stopped : k .stop ≡ 0 → s ≡ 0
       pub told : Of-told S (k .stop) rs (k .raised)
       pub world : k .stop ≡ 0 → k .world ≡ w
@@ -113,14 +119,14 @@ module _ (S : Setup) where
         go rec (filed q₁) h =
             let k = rec q₁ in
             record {
-              steps = one (r .place) h (k .steps);
+              steps = one r refl h (k .steps);
               stopped = k .stopped;
               told = (k .told .0, ap (λ (l : List Act). r .act ∷ l) (k .told .1), k .told .2);
               world = k .world;
             }
 
   -- ---- a pass
-  module _ {Q : Type 0} (next : Q → Took (Activation S) Q) (activate : Activation S → Activation S → Q → Filed Q) where
+  module _ {Q : Type 0} (next : Q → Took (Activation S) Q) (activate : Activation S → When → Activation S → Q → Filed Q) where
     -- from the stop s to the stop at the end; a unit after which there is no stop has run; what is told of each unit
     pub data Passes : Tag → Q → ℕ → List (Turn S) → Tag → Q → ℕ → Type 0 where
       broke : {t : Tag} {q : Q} {s s₁ : ℕ} → Passes t q s [] t q (suc s₁)
@@ -128,7 +134,7 @@ module _ (S : Setup) where
       turn :
           {t t₁ t₂ : Tag} {q q₁ q₂ q₃ : Q} {s s₁ : ℕ} {u : Activation S} {w : W} {es : List (Activation S)} {b : Bool} {us : List (Turn S)} →
           next q ≡ took u q₁ →
-          Raises (λ (p : Unit {0}). activate u) t q₁ es t₁ q₂ →
+          Raises (activate u) (body w (u .act) .raises) t q₁ es t₁ q₂ →
           (s ≡ 0 → b ≡ true) →
           Ran-as-told S (record { unit = u; from = w; raised = es; ran = b }) × Raised-as-told S s (record { unit = u; from = w; raised = es; ran = b }) →
           Passes t₁ q₂ s us t₂ q₃ s₁ →
@@ -155,13 +161,13 @@ module _ (S : Setup) where
             next q ≡ x →
             Did-pass (suc n) t q 0 (pass-on S x (no-turn S (suc n) t q w 0) (λ u q′.
             let d = body w (u .act) in
-            let k = raise-all S (λ p. activate u) (d .raises) t q′ (d .world) (d .stop) in
+            let k = raise-all S (activate u) (d .raises) t q′ (d .world) (d .stop) in
             turning S u w (k .raised) (eqb (d .stop) 0) (pass S next activate n (k .next) (k .queue) (k .world) (k .stop))))
         go rec empty h = record { steps = done h; units = omega arith }
         go rec (took u q₁) h =
             let d = body w (u .act) in
-            let k = raise-all S (λ (p : Unit {0}). activate u) (d .raises) t q₁ (d .world) (d .stop) in
-            let r = raise-steps (λ (p : Unit {0}). activate u) (d .raises) t q₁ (d .world) (d .stop) in
+            let k = raise-all S (activate u) (d .raises) t q₁ (d .world) (d .stop) in
+            let r = raise-steps (activate u) (d .raises) t q₁ (d .world) (d .stop) in
             let rest = rec (k .next) (k .queue) (k .world) (k .stop) in
             record { steps = turn h (r .steps) (λ z. eq-eqb _ _ (r .stopped z)) (refl, r .told) (rest .steps); units = omega (arith, rest .units) }
     pass-steps (suc n) t q w (suc s) = record { steps = broke; units = omega arith }

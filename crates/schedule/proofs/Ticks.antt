@@ -6,7 +6,7 @@ use mathlib.Core.Logic.{_⊎_, inl, inr}
 use Prim.Native.Nat.{ℕ, _+_, _≤_, _<_}
 use native.Mathlib.Omega.{arith}
 use lib.ListN.{length}
-use Rattle.schedule.specs.Schedule.{Setup, Machine, Took, empty, Filed, most-units, most-waiting, log-full, LateQ, MainQ, OpenQ, Activation, push, push-all, activate-late, activate-main, activate-open, raise-all, next-late, next-late′, next-main, next-main′, late-pass, main-pass, Turn, Tick, outcome, tick}
+use Rattle.schedule.specs.Schedule.{Setup, Machine, Raise, Took, empty, Filed, most-units, most-waiting, log-full, LateQ, MainQ, OpenQ, Place, When, Activation, push, push-all, activate-late, activate-main, activate-open, raise-all, next-late, next-late′, next-main, next-main′, late-pass, main-pass, Turn, Tick, outcome, tick}
 use Rattle.schedule.specs.Promise.{total, units, ended, raised-by, begun, has-run, raised}
 use Rattle.schedule.proofs.Steps.{activate-open-is, Raises, none, one, Passes, broke, done, turn, raise-steps, pass-steps}
 use Rattle.schedule.proofs.Weigh.{total-append, push-weigh, push-all-weigh, late-weigh, open-weigh, raises-weigh, activate-open-weigh, late-passes-weigh, main-passes-weigh}
@@ -17,7 +17,7 @@ fitted false s h = omega arith
 
 module _ (S : Setup) where
   open Setup S using (Tag)
-  open Machine (S .machine) using (W, In, opening, closing)
+  open Machine (S .machine) using (W, In, Act, opening, closing)
 
   -- a tick k into which c was carried and which gives identities from t₀ on: its parts, with the queues, identities and stops in between
   pub record Ticked (c : List (Activation S)) (t₀ : Tag) (k : Tick S) : Type 0 where
@@ -29,7 +29,8 @@ module _ (S : Setup) where
     pub s₁ : ℕ
     pub s₂ : ℕ
     pub s₃ : ℕ
-    pub opened : Raises S (activate-open S) t₀ (record { lateq = record { late = push-all S c []; delivered = [] }; pending = [] }) (k .opened) t₁ o
+    pub rs : List (Raise W Act Place)
+    pub opened : Raises S (activate-open S) rs t₀ (record { lateq = record { late = push-all S c []; delivered = [] }; pending = [] }) (k .opened) t₁ o
     pub late : Passes S (next-late S) (activate-late S) t₁ (o .lateq) s₁ (k .late) t₂ l s₂
     pub main : Passes S (next-main S) (activate-main S) t₂ (record { pending = o .pending; carried = [] }) s₂ (k .main) (k .next) m s₃
     pub came : k .came ≡ c
@@ -56,6 +57,7 @@ module _ (S : Setup) where
         s₁ = o .stop;
         s₂ = l .stop;
         s₃ = m .stop;
+        rs = d .raises;
         opened = raise-steps S (activate-open S) (d .raises) t _ (d .world) (d .stop) .steps;
         late = late .steps;
         main = main .steps;
@@ -67,7 +69,7 @@ module _ (S : Setup) where
       }
 
   -- ---- a pass that ended without a stop began without one, nothing waits, and its units have run
-  module _ {Q : Type 0} (next : Q → Took (Activation S) Q) (activate : Activation S → Activation S → Q → Filed Q) where
+  module _ {Q : Type 0} (next : Q → Took (Activation S) Q) (activate : Activation S → When → Activation S → Q → Filed Q) where
     pub passes-from : {t t₁ : Tag} {q q₁ : Q} {s s₁ : ℕ} {us : List (Turn S)} → Passes S next activate t q s us t₁ q₁ s₁ → s₁ ≡ 0 → s ≡ 0
     passes-from broke h = omega arith
     passes-from (done k) h = refl
@@ -110,10 +112,10 @@ module _ (S : Setup) where
 
     -- what is pending after the opening was raised in it
     raises-pending :
-        {t t₁ : Tag} {q q₁ : OpenQ (Activation S)} {es : List (Activation S)} → Raises S (activate-open S) t q es t₁ q₁ →
+        {rs : List (Raise W Act Place)} {t t₁ : Tag} {q q₁ : OpenQ (Activation S)} {es : List (Activation S)} → Raises S (activate-open S) rs t q es t₁ q₁ →
         total m (q₁ .pending) ≤ total m (q .pending) + total m es
     raises-pending none = omega arith
-    raises-pending (one {q = q} {q₁ = q₁} {e = e} p h r) = omega (arith, step (activate-open-is S p e q q₁ h), raises-pending r)
+    raises-pending (one {q = q} {q₁ = q₁} {e = e} p x h r) = omega (arith, step (activate-open-is S (p .place) e q q₁ h), raises-pending r)
       where
         step : (q₁ .pending ≡ q .pending) ⊎ ((q₁ .pending ≡ push S e (q .pending)) × (length (q .pending) < most-waiting)) → total m (q₁ .pending) ≤ total m (q .pending) + m e
         step (inl h) = omega (arith, ap (total m) h)

@@ -5,7 +5,7 @@ use mathlib.Core.Bool.{Bool}
 use Prim.Native.Nat.{ℕ, zero, suc}
 use native.Mathlib.Omega.{arith}
 use lib.Dec.{eqb}
-use Rattle.schedule.specs.Schedule.{list-full, most-units, Setup, Machine, Took, empty, took, Filed, LateQ, MainQ, OpenQ, Activation, push-all, activate-open, activate-late, activate-main, next-late, next-main, Raising, raise-all, pass-on, pass, no-turn, turning, Turn, Passed, late-pass, main-pass, Tick, outcome, tick, go-on, run-on, run}
+use Rattle.schedule.specs.Schedule.{When, list-full, most-units, Setup, Machine, Took, empty, took, Filed, LateQ, MainQ, OpenQ, Activation, push-all, activate-open, activate-late, activate-main, next-late, next-main, Raising, raise-all, pass-on, pass, no-turn, turning, Turn, Passed, late-pass, main-pass, Tick, outcome, tick, go-on, run-on, run}
 use Rattle.schedule.specs.Promise.{All, [·], _∷·_, Raised-as-told, Follow, left-by, Opens, Follows, script-over, stopped, next}
 use Rattle.schedule.proofs.Members.{all-append}
 use Rattle.schedule.proofs.Steps.{Passes, broke, done, turn, raise-steps, pass-steps}
@@ -18,7 +18,7 @@ module _ (S : Setup) where
   -- ---- raised as told
 
   -- of a pass in a tick that has no stop where the pass has none
-  module _ {Q : Type 0} (next-of : Q → Took (Activation S) Q) (activate : Activation S → Activation S → Q → Filed Q) (x : ℕ) where
+  module _ {Q : Type 0} (next-of : Q → Took (Activation S) Q) (activate : Activation S → When → Activation S → Q → Filed Q) (x : ℕ) where
     passes-told : {t t₁ : Tag} {q q₁ : Q} {s s₁ : ℕ} {us : List (Turn S)} → Passes S next-of activate t q s us t₁ q₁ s₁ → (x ≡ 0 → s₁ ≡ 0) → All (Raised-as-told S x) us
     passes-told broke h = [·]
     passes-told (done e) h = [·]
@@ -37,12 +37,12 @@ module _ (S : Setup) where
     units : Follow S v (k .turns)
     world : k .stop ≡ 0 → k .world ≡ left-by S v (k .turns)
 
-  module _ {Q : Type 0} (next-of : Q → Took (Activation S) Q) (activate : Activation S → Activation S → Q → Filed Q) where
+  module _ {Q : Type 0} (next-of : Q → Took (Activation S) Q) (activate : Activation S → When → Activation S → Q → Filed Q) where
     -- one unit, and the pass after it
     turn-on : ℕ → Tag → W → Activation S → Q → Passed S Q
     turn-on n t w u q =
         let d = body w (u .act) in
-        let k = raise-all S (λ (p : Unit {0}). activate u) (d .raises) t q (d .world) (d .stop) in
+        let k = raise-all S (activate u) (d .raises) t q (d .world) (d .stop) in
         turning S u w (k .raised) (eqb (d .stop) 0) (pass S next-of activate n (k .next) (k .queue) (k .world) (k .stop))
 
     -- a pass that begins in the world v, unless there was a stop before
@@ -63,7 +63,7 @@ module _ (S : Setup) where
         go empty rec = record { units = tt; world = e }
         go (took u q′) rec =
             let d = body w (u .act) in
-            let k = raise-steps S (λ (p : Unit {0}). activate u) (d .raises) t q′ (d .world) (d .stop) in
+            let k = raise-steps S (activate u) (d .raises) t q′ (d .world) (d .stop) in
             let r = rec _ _ _ _ (body v (u .act) .world) (λ z. k .world z ∙ ap (λ (w : W). body w (u .act) .world) (e refl)) in
             record { units = (e refl, r .units); world = r .world }
     pass-follows (suc n) t q w (suc s) v e = record { units = tt; world = e }

@@ -7,7 +7,7 @@ use native.Mathlib.Omega.{arith}
 use lib.ListN.{length, take, drop, getD}
 use lib.Dec.{leb, eqb}
 use borrow.Author.Tests.{leb-true, leb-false}
-use Rattle.schedule.specs.Schedule.{Setup, Machine, Raise, list-full, Took, empty, took, Filed, full, filed, Activation, push, raising, raise-all, turning, no-turn, pass}
+use Rattle.schedule.specs.Schedule.{Setup, Machine, Raise, When, list-full, Took, empty, took, Filed, full, filed, Activation, push, raising, raise-all, turning, no-turn, pass}
 
 module _ (S : Setup) where
   open Setup S using (Tag, after)
@@ -28,7 +28,7 @@ module _ (S : Setup) where
     raise-full h = rw h
 
   -- ---- a pass
-  module _ {Q : Type 0} (next : Q → Took (Activation S) Q) (activate : Activation S → Activation S → Q → Filed Q) (t : Tag) (q : Q) (w : W) where
+  module _ {Q : Type 0} (next : Q → Took (Activation S) Q) (activate : Activation S → When → Activation S → Q → Filed Q) (t : Tag) (q : Q) (w : W) where
     pub pass-stopped : (n s : ℕ) → pass S next activate n t q w (suc s) ≡ no-turn S n t q w (suc s)
     unfolding pass
     pass-stopped zero s = refl
@@ -47,7 +47,7 @@ module _ (S : Setup) where
         (n : ℕ) {u : Activation S} {q′ : Q} → next q ≡ took u q′ →
         pass S next activate (suc n) t q w 0
         ≡ (let d = body w (u .act) in
-        let k = raise-all S (λ p. activate u) (d .raises) t q′ (d .world) (d .stop) in
+        let k = raise-all S (activate u) (d .raises) t q′ (d .world) (d .stop) in
         turning S u w (k .raised) (eqb (d .stop) 0) (pass S next activate n (k .next) (k .queue) (k .world) (k .stop)))
     unfolding pass
     pass-turn n h = rw h

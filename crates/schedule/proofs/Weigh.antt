@@ -6,7 +6,7 @@ use Prim.Native.Nat.{ℕ, _+_}
 use native.Mathlib.Omega.{arith}
 use lib.ListN.{length}
 use lib.Dec.{leb}
-use Rattle.schedule.specs.Schedule.{Setup, Machine, Took, took, Filed, filed, LateQ, MainQ, OpenQ, Place, to-late, to-delivered, to-pending, Activation, push, push-all, activate-late, activate-main, activate-open, next-late, next-late′, next-main, Turn}
+use Rattle.schedule.specs.Schedule.{Setup, Machine, Raise, Took, took, Filed, filed, LateQ, MainQ, OpenQ, Place, to-late, to-delivered, to-pending, When, Activation, push, push-all, activate-late, activate-main, activate-open, next-late, next-late′, next-main, Turn}
 use Rattle.schedule.specs.Promise.{total, units, raised-by}
 use Rattle.schedule.proofs.Steps.{room-is, next-main-is, To-main, at-carried, at-pending, activate-main-is, Raises, none, one, Passes, broke, done, turn}
 
@@ -20,24 +20,24 @@ total-one (a ∷ l) = omega (arith, total-one l)
 
 module _ (S : Setup) (m : Activation S → ℕ) where
   open Setup S using (Tag)
-  open Machine (S .machine) using (rank)
+  open Machine (S .machine) using (W, Act, rank)
 
   module _ {P Q : Type 0} (activate : P → Activation S → Q → Filed Q) (weigh : Q → ℕ)
       (ha : (p : P) (e : Activation S) (q q₁ : Q) → activate p e q ≡ filed q₁ → weigh q₁ ≡ weigh q + m e) where
-    pub raises-weigh : {t t₁ : Tag} {q q₁ : Q} {es : List (Activation S)} → Raises S activate t q es t₁ q₁ → weigh q₁ ≡ weigh q + total m es
+    pub raises-weigh : {rs : List (Raise W Act P)} {t t₁ : Tag} {q q₁ : Q} {es : List (Activation S)} → Raises S activate rs t q es t₁ q₁ → weigh q₁ ≡ weigh q + total m es
     raises-weigh none = omega arith
-    raises-weigh (one {q = q} {q₁ = q₁} {e = e} p h r) = omega (arith, ha p e q q₁ h, raises-weigh r)
+    raises-weigh (one {q = q} {q₁ = q₁} {e = e} p x h r) = omega (arith, ha (p .place) e q q₁ h, raises-weigh r)
 
-  module _ {Q : Type 0} (next : Q → Took (Activation S) Q) (activate : Activation S → Activation S → Q → Filed Q) (weigh : Q → ℕ)
+  module _ {Q : Type 0} (next : Q → Took (Activation S) Q) (activate : Activation S → When → Activation S → Q → Filed Q) (weigh : Q → ℕ)
       (hn : (q : Q) (u : Activation S) (q₁ : Q) → next q ≡ took u q₁ → weigh q ≡ m u + weigh q₁)
-      (ha : (u e : Activation S) (q q₁ : Q) → activate u e q ≡ filed q₁ → weigh q₁ ≡ weigh q + m e) where
+      (ha : (u : Activation S) (p : When) (e : Activation S) (q q₁ : Q) → activate u p e q ≡ filed q₁ → weigh q₁ ≡ weigh q + m e) where
     passes-weigh :
         {t t₁ : Tag} {q q₁ : Q} {s s₁ : ℕ} {us : List (Turn S)} → Passes S next activate t q s us t₁ q₁ s₁ →
         total m (units S us) + weigh q₁ ≡ weigh q + total m (raised-by S us)
     passes-weigh broke = omega arith
     passes-weigh (done h) = omega arith
     passes-weigh (turn {q = q} {q₁ = q₁} {u = u} {es = es} {us = us} h k b j r) =
-        omega (arith, hn q u q₁ h, raises-weigh (λ (p : Unit {0}). activate u) weigh (λ p. ha u) k, passes-weigh r, total-append m es (raised-by S us))
+        omega (arith, hn q u q₁ h, raises-weigh (activate u) weigh (ha u) k, passes-weigh r, total-append m es (raised-by S us))
 
   -- ---- the lists
   pub push-weigh : (e : Activation S) (l : List (Activation S)) → total m (push S e l) ≡ m e + total m l
@@ -79,17 +79,17 @@ module _ (S : Setup) (m : Activation S → ℕ) where
           let hq : record { late = l; delivered = d } ≡ q₁ = cc in
           omega (arith, ap m hu, ap late-weigh hq)
 
-  activate-late-weigh : (u e : Activation S) (q q₁ : LateQ (Activation S)) → activate-late S u e q ≡ filed q₁ → late-weigh q₁ ≡ late-weigh q + m e
+  activate-late-weigh : (u : Activation S) (p : When) (e : Activation S) (q q₁ : LateQ (Activation S)) → activate-late S u p e q ≡ filed q₁ → late-weigh q₁ ≡ late-weigh q + m e
   unfolding activate-late
-  activate-late-weigh u e q q₁ h = omega (arith, ap late-weigh (room-is (q .late) _ h .0), push-weigh e (q .late))
+  activate-late-weigh u p e q q₁ h = omega (arith, ap late-weigh (room-is (q .late) _ h .0), push-weigh e (q .late))
 
   next-main-weigh : (q : MainQ (Activation S)) (u : Activation S) (q₁ : MainQ (Activation S)) → next-main S q ≡ took u q₁ → main-weigh q ≡ m u + main-weigh q₁
   next-main-weigh q u q₁ h = let i = next-main-is S q u q₁ h in omega (arith, ap (total m) (i .0), ap (total m) (i .1))
 
-  activate-main-weigh : (u e : Activation S) (q q₁ : MainQ (Activation S)) → activate-main S u e q ≡ filed q₁ → main-weigh q₁ ≡ main-weigh q + m e
-  activate-main-weigh u e q q₁ h = go (activate-main-is S u e q q₁ h)
+  activate-main-weigh : (u : Activation S) (p : When) (e : Activation S) (q q₁ : MainQ (Activation S)) → activate-main S u p e q ≡ filed q₁ → main-weigh q₁ ≡ main-weigh q + m e
+  activate-main-weigh u p e q q₁ h = go (activate-main-is S u p e q q₁ h)
     where
-      go : To-main S u e q q₁ → main-weigh q₁ ≡ main-weigh q + m e
+      go : To-main S u p e q q₁ → main-weigh q₁ ≡ main-weigh q + m e
       go (at-carried b r hp hc) = omega (arith, ap (total m) hp, ap (total m) hc, total-append m (q .carried) (e ∷ []))
       go (at-pending b r hp hc) = omega (arith, ap (total m) hp, ap (total m) hc, push-weigh e (q .pending))
 

@@ -5,14 +5,14 @@ use mathlib.Core.Bool.{cond}
 use Prim.Native.Nat.{ℕ, zero, suc, _+_, _*_, _/_}
 use lib.ListN.{length, replicate}
 use lib.Dec.{ltb, eqb}
-use Rattle.schedule.specs.Schedule.{Did, Outcome, Place, to-late, to-delivered, to-pending, Machine, Setup, numbered, Activation, Tick, acts, run, schedule-opened}
+use Rattle.schedule.specs.Schedule.{Did, Outcome, Place, to-late, to-delivered, to-pending, When, by-rank, put-off, Machine, Setup, numbered, Activation, Tick, acts, run, schedule-opened}
 use Rattle.schedule.specs.Promise.{begun, has-run}
 
 -- ---- the machines
 
--- what each unit raises, its own stop, and how many records the log takes
+-- what each unit raises and how, its own stop, and how many records the log takes
 record Play : Type 0 where
-  raises : ℕ → List ℕ
+  raises : ℕ → List (ℕ × When)
   stops : ℕ → ℕ
   records : ℕ
 
@@ -36,20 +36,28 @@ machine p =
       Act = ℕ;
       rank = λ a. a / 10;
       opening = λ w i. did w i 0;
-      body = λ w a. did w (map (λ (b : ℕ). (b, tt)) (p .raises a)) (p .stops a);
+      body = λ w a. did w (p .raises a) (p .stops a);
       closing =
           λ w i o.
           let fits = ltb (length (w .log)) (p .records) in
           record { world = record { count = w .count; log = cond fits (w .log ++ (o ∷ [])) (w .log) }; fits = fits };
     }
 
+-- these by their rank
+abbrev by-ranks : List ℕ → List (ℕ × When)
+by-ranks = map (λ (a : ℕ). (a, by-rank))
+
 -- the unit a raises l
 abbrev on : ℕ → List ℕ → ℕ → List ℕ
 on a l b = cond (eqb a b) l []
 
--- units that raise, with no stop of their own
+-- units that raise by rank, with no stop of their own
 abbrev raising : (ℕ → List ℕ) → Play
-raising f = record { raises = f; stops = λ a. 0; records = 99 }
+raising f = record { raises = λ a. by-ranks (f a); stops = λ a. 0; records = 99 }
+
+-- the unit 40 raises l, each as it says
+abbrev raising-as : List (ℕ × When) → Play
+raising-as l = record { raises = λ a. cond (eqb a 40) l []; stops = λ a. 0; records = 99 }
 
 -- what an opening raises
 abbrev late : List ℕ → List (ℕ × Place)
@@ -151,6 +159,24 @@ carried-first :
 unfolding schedule-opened
 carried-first = refl
 
+-- In a main pass what is put off is carried whatever its rank, in the order raised: 70 and 50 above the rank reached, 30 below it. 60 is not.
+put-off-carried :
+    played (raising-as ((70, put-off) ∷ (60, by-rank) ∷ (30, by-rank) ∷ (50, put-off) ∷ [])) (pending (40 ∷ []) ∷ late (30 ∷ []) ∷ [])
+    ≡ ([], 40 ∷ 60 ∷ [], 70 ∷ 30 ∷ 50 ∷ [], 0)
+    ∷ (30 ∷ 30 ∷ 50 ∷ 70 ∷ [], [], [], 0)
+    ∷ []
+unfolding schedule-opened
+put-off-carried = refl
+
+-- In the late pass it is not: it runs in this tick.
+put-off-late :
+    played (raising-as ((70, put-off) ∷ (30, put-off) ∷ [])) (late (40 ∷ []) ∷ [] ∷ [])
+    ≡ (40 ∷ 30 ∷ 70 ∷ [], [], [], 0)
+    ∷ ([], [], [], 0)
+    ∷ []
+unfolding schedule-opened
+put-off-late = refl
+
 -- Each raising takes the next number, and a carried one keeps its own: of unit 41 two begin in the second tick, 2 and 4.
 identities :
     numbers (raising (on 40 (41 ∷ 50 ∷ []))) (pending (60 ∷ 40 ∷ []) ∷ (late (41 ∷ []) ++ pending (60 ∷ [])) ∷ [])
@@ -180,7 +206,7 @@ full-stop = refl
 
 -- The record gets what the tick began and carries, and is written after a stop too.
 record-written :
-    records (record { raises = on 40 (41 ∷ []); stops = λ a. cond (eqb a 41) 11 0; records = 99 }) (pending (40 ∷ 50 ∷ []) ∷ [] ∷ [])
+    records (record { raises = λ a. by-ranks (on 40 (41 ∷ []) a); stops = λ a. cond (eqb a 41) 11 0; records = 99 }) (pending (40 ∷ 50 ∷ []) ∷ [] ∷ [])
     ≡ (record { late = []; main = 40 ∷ 50 ∷ []; carried = 41 ∷ []; stop = 0 } ∷ [], 0)
     ∷ (record { late = []; main = 40 ∷ 50 ∷ []; carried = 41 ∷ []; stop = 0 } ∷ record { late = 41 ∷ []; main = []; carried = []; stop = 11 } ∷ [], 11)
     ∷ []
@@ -189,7 +215,7 @@ record-written = refl
 
 -- In a tick that stops, too, it gets what is carried, in the order raised, and not what is pending (60).
 record-of-stopped :
-    records (record { raises = on 40 (41 ∷ 30 ∷ []); stops = λ a. cond (eqb a 50) 11 0; records = 99 }) (pending (60 ∷ 50 ∷ 40 ∷ []) ∷ [] ∷ [])
+    records (record { raises = λ a. by-ranks (on 40 (41 ∷ 30 ∷ []) a); stops = λ a. cond (eqb a 50) 11 0; records = 99 }) (pending (60 ∷ 50 ∷ 40 ∷ []) ∷ [] ∷ [])
     ≡ (record { late = []; main = 40 ∷ 50 ∷ []; carried = 41 ∷ 30 ∷ []; stop = 11 } ∷ [], 11)
     ∷ []
 unfolding schedule-opened

@@ -1,12 +1,12 @@
 -- The order promise: what holds of every run, whole, from its start. Activations are told apart by the number that their raising gave them.
 use mathlib.Core.Path.{_≡_}
 use mathlib.Core.List.{List, [], _∷_, _++_, map}
-use mathlib.Core.Bool.{cond}
+use mathlib.Core.Bool.{Bool, true, cond}
 use mathlib.Core.Logic.{_⊎_}
 use Prim.Native.Nat.{ℕ, suc, _+_, _≤_, _<_}
 use lib.ListN.{length}
 use lib.Dec.{leb, eqb}
-use Rattle.schedule.specs.Schedule.{Raise, Setup, numbered, Activation, Machine, Turn, Tick, outcome}
+use Rattle.schedule.specs.Schedule.{Raise, When, by-rank, put-off, Setup, numbered, Activation, Machine, Turn, Tick, outcome}
 
 -- a number for each, added up over a list
 abbrev pub total : {A : Type 0} → (A → ℕ) → List A → ℕ
@@ -56,15 +56,21 @@ module _ (S : Setup) where
   raised-by [] = []
   raised-by (u ∷ us) = u .raised ++ raised-by us
 
-  -- of those that the unit u raised, the ones at or below the rank reached, which is u's
-  abbrev pub not-above : Activation S → List (Activation S) → List (Activation S)
-  not-above u [] = []
-  not-above u (e ∷ es) = cond (leb (rank (e .act)) (rank (u .act))) (e ∷ not-above u es) (not-above u es)
+  -- what is carried of what the unit u raised: what stands at or below the rank reached, which is u's, and what was put off, whatever its rank
+  abbrev pub is-carried : Activation S → When → Activation S → Bool
+  is-carried u by-rank e = leb (rank (e .act)) (rank (u .act))
+  is-carried u put-off e = true
 
-  -- what a pass raised at or below the rank that it had reached
-  abbrev pub raised-not-above : List (Turn S) → List (Activation S)
-  raised-not-above [] = []
-  raised-not-above (u ∷ us) = not-above (u .unit) (u .raised) ++ raised-not-above us
+  -- those of them, where the body of u says how it raised each (`told`: the two lists go together)
+  abbrev pub carried-of : Activation S → List (Activation S) → List (Raise W Act When) → List (Activation S)
+  carried-of u [] rs = []
+  carried-of u (e ∷ es) [] = []
+  carried-of u (e ∷ es) (r ∷ rs) = cond (is-carried u (r .place) e) (e ∷ carried-of u es rs) (carried-of u es rs)
+
+  -- those that a pass raised
+  abbrev pub raised-to-carry : List (Turn S) → List (Activation S)
+  raised-to-carry [] = []
+  raised-to-carry (u ∷ us) = carried-of (u .unit) (u .raised) (body (u .from) (u .unit .act) .raises) ++ raised-to-carry us
 
   -- all that a tick began
   abbrev pub begun : Tick S → List (Activation S)
@@ -142,9 +148,9 @@ module _ (M : Machine) where
     pub by-rank : Sorted (units (numbered M) (t .main) ++ t .waiting)
     -- (b) Only what was raised in the tick or carried into it begins: whatever number each activation counts for, those begun come to no more than those.
     pub only : (m : Raised → ℕ) → total m (begun (numbered M) t) ≤ total m (raised (numbered M) t) + total m c
-    -- (c) Carried is exactly what the main pass raised at or below the rank that it had reached, in that order; and what the tick before carried is what comes
-    -- into this one.
-    pub carries : t .carried ≡ raised-not-above (numbered M) (t .main)
+    -- (c) Carried is exactly what the main pass raised at or below the rank that it had reached, or put off, in that order; and what the tick before carried is
+    -- what comes into this one.
+    pub carries : t .carried ≡ raised-to-carry (numbered M) (t .main)
     pub came : t .came ≡ c
     -- They are put into the late list first: whatever begins in the late pass is of a lower rank than each of them that has not begun by then, or of the same and raised
     -- before it, up to a stop as well.

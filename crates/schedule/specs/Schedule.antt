@@ -1,7 +1,7 @@
 -- The scheduler of a tick, whatever its units do: which waiting activation begins next, and where one that is raised goes.
 -- Document 01's own terms (activation, raised, rank reached, carried, late pass, main pass) are defined here, begun and has run in Promise; names are the source's.
 use mathlib.Core.List.{List, [], _∷_, _++_, map}
-use mathlib.Core.Bool.{Bool, cond}
+use mathlib.Core.Bool.{Bool, true, cond}
 use Prim.Native.Nat.{ℕ, zero, suc}
 use lib.ListN.{length}
 use lib.Dec.{leb, ltb, eqb}
@@ -30,7 +30,7 @@ log-full = 13
 
 -- ---- the machine that is scheduled: parameters
 
--- One raising: what is raised, the list that it is meant for, and the world at that moment, which stays as it is if the list is full.
+-- One raising: what is raised, the list that it is meant for (or, of a unit, how it raises it), and the world at that moment, which stays as it is if the list is full.
 pub record Raise (W Act P : Type 0) : Type 0 where
   pub at : W
   pub act : Act
@@ -58,6 +58,10 @@ pub record Closed (W : Type 0) : Type 0 where
 pub data Place : Type 0 where
   to-late to-delivered to-pending : Place
 
+-- how a unit raises: by rank, or put off, which in the main pass is to the next tick, whatever the rank
+pub data When : Type 0 where
+  by-rank put-off : When
+
 -- What is scheduled.
 pub record Machine : Type 1 where
   -- all that a tick leaves to the next but the lists, and what a script gives to a tick
@@ -69,7 +73,7 @@ pub record Machine : Type 1 where
   -- what a tick does before its passes
   pub opening : W → In → Did W Act Place
   -- What a unit does. It has run where its own stop is 0.
-  pub body : W → Act → Did W Act (Unit {0})
+  pub body : W → Act → Did W Act When
   -- the record of the tick is written, which got this
   pub closing : W → In → Outcome Act → Closed W
 
@@ -146,19 +150,20 @@ module _ (S : Setup) where
 
   -- ---- `activate`: where a raised one goes
 
-  -- in the late pass: to late, whatever its rank
-  unfoldable pub activate-late : Activation → Activation → LateQ Activation → Filed (LateQ Activation)
-  activate-late u e q = room (q .late) most-waiting (record { late = push e (q .late); delivered = q .delivered })
+  -- in the late pass: to late, whatever its rank and however it is raised
+  unfoldable pub activate-late : Activation → When → Activation → LateQ Activation → Filed (LateQ Activation)
+  activate-late u p e q = room (q .late) most-waiting (record { late = push e (q .late); delivered = q .delivered })
 
-  -- The reason for carrying, the only one: the main pass has reached its rank. The rank reached is `cursor`, that of the unit begun last.
-  unfoldable pub carries : ℕ → Activation → Bool
-  carries cursor e = leb (rank-of e) cursor
+  -- The reasons for carrying, the only two: the main pass has reached its rank, or it is put off. The rank reached is `cursor`, that of the unit begun last.
+  unfoldable pub carries : ℕ → When → Activation → Bool
+  carries cursor by-rank e = leb (rank-of e) cursor
+  carries cursor put-off e = true
 
   -- in the main pass, after the unit u: carried if there is reason to, else pending
-  unfoldable pub activate-main : Activation → Activation → MainQ Activation → Filed (MainQ Activation)
-  activate-main u e q =
+  unfoldable pub activate-main : Activation → When → Activation → MainQ Activation → Filed (MainQ Activation)
+  activate-main u p e q =
       cond
-      (carries (rank-of u) e)
+      (carries (rank-of u) p e)
       (room (q .carried) most-waiting (record { pending = q .pending; carried = q .carried ++ (e ∷ []) }))
       (room (q .pending) most-waiting (record { pending = push e (q .pending); carried = q .carried }))
 
@@ -232,13 +237,13 @@ module _ (S : Setup) where
   pass-on (took u q) z k = k u q
 
   -- It stops where one waits and none may begin any more.
-  unfoldable pub pass : {Q : Type 0} → (Q → Took Activation Q) → (Activation → Activation → Q → Filed Q) → ℕ → Tag → Q → W → ℕ → Passed Q
+  unfoldable pub pass : {Q : Type 0} → (Q → Took Activation Q) → (Activation → When → Activation → Q → Filed Q) → ℕ → Tag → Q → W → ℕ → Passed Q
   pass next activate zero t q w zero = pass-on (next q) (no-turn zero t q w 0) (λ u q′. no-turn zero t q w list-full)
   pass next activate zero t q w (suc s) = no-turn zero t q w (suc s)
   pass next activate (suc n) t q w zero =
       pass-on (next q) (no-turn (suc n) t q w 0) λ u q′.
       let d = body w (u .act) in
-      let k = raise-all (λ p. activate u) (d .raises) t q′ (d .world) (d .stop) in
+      let k = raise-all (activate u) (d .raises) t q′ (d .world) (d .stop) in
       turning u w (k .raised) (eqb (d .stop) 0) (pass next activate n (k .next) (k .queue) (k .world) (k .stop))
   pass next activate (suc n) t q w (suc s) = no-turn (suc n) t q w (suc s)
 
