@@ -9,7 +9,7 @@ use lib.Dec.{eqb}
 use lib.ListN.{getD, set}
 use lib.Seq.{getD-set-other}
 use borrow.Author.Tests.{eqb-true}
-use Rattle.schedule.specs.Schedule.{Raise}
+use Rattle.schedule.specs.Schedule.{Raise, When}
 use Rattle.schedule.specs.Promise.{All, [·], _∷·_}
 use Rattle.schedule.proofs.Members.{all-append}
 use Rattle.model.specs.declared.Value.{Value}
@@ -112,15 +112,15 @@ module _ (c : Circuit) (W : Wired c) where
 
     pub record Settled-sound (z : Settled) : Type 0 where
       pub state : Sound c t late (z .state)
-      pub raises : All (λ (r : Raise State Act (Unit {0})). Brings c (r .act)) (z .raises)
+      pub raises : All (λ (r : Raise State Act When). Brings c (r .act)) (z .raises)
 
     calm-sound : {s : State} → Sound c t late s → Settled-sound (calm s)
     unfolding calm
     calm-sound z = record { state = z; raises = [·] }
 
-    raise-sound : {s : State} (g form : ℕ) → Sound c t late s → Settled-sound (raise s g form)
+    raise-sound : {s : State} (when : When) (g form : ℕ) → Sound c t late s → Settled-sound (raise when s g form)
     unfolding raise
-    raise-sound g form z = record { state = z; raises = _∷·_ (brings-none c g form) [·] }
+    raise-sound when g form z = record { state = z; raises = _∷·_ (brings-none c g form) [·] }
 
     edge-sound : {s : State} (was now : Value) (hit : State → ℕ → Settled) → Sound c t late s → Settled-sound (hit s 0) → Settled-sound (hit s 1) → Settled-sound (edge c s was now hit)
     unfolding edge
@@ -133,16 +133,16 @@ module _ (c : Circuit) (W : Wired c) where
     unfolding detect kinds-opened
     detect-sound s g p was now r z =
         let k = kind-of-gate c g in
-        if-both Settled-sound _ (raise-sound g 0 z)
+        if-both Settled-sound _ (raise-sound _ g 0 z)
         (if-by Settled-sound (eqb k 7)
         (λ e. edge-sound was now _ z
         (pulsed-sound _ (other-output c (W .laid) g 7 0 (eqb-true k 7 e) refl (omega arith)) z)
         (pulsed-sound _ (other-output c (W .laid) g 7 1 (eqb-true k 7 e) refl (omega arith)) z))
         λ _. if-by Settled-sound (eqb k 8)
         (λ e. pulsed-sound _ (other-output c (W .laid) g 8 0 (eqb-true k 8 e) refl (omega arith)) z)
-        λ _. if-both Settled-sound _ (edge-sound was now _ z (raise-sound g _ z) (raise-sound g _ z))
+        λ _. if-both Settled-sound _ (edge-sound was now _ z (raise-sound _ g _ z) (raise-sound _ g _ z))
         (if-both Settled-sound _ (calm-sound (count-sound c _ (delay-sound c g _ (buffer-fine _ now _ r (delay-of c s z g)) z)))
-        (if-both Settled-sound _ (raise-sound g _ z) (calm-sound z))))
+        (if-both Settled-sound _ (raise-sound _ g _ z) (calm-sound z))))
 
     -- of an input that was taken
     check-sound : (s : State) (i : ℕ) → Sound c (taking i t) late s → Settled-sound (check c s i)

@@ -6,6 +6,7 @@ use native.Mathlib.Omega.{arith}
 use lib.Dec.{leb, eqb}
 use lib.ListN.{length}
 use borrow.Author.Tests.{leb-true, eqb-true}
+use Rattle.schedule.specs.Schedule.{When, by-rank}
 use Rattle.model.specs.declared.Value.{Value}
 use Rattle.model.specs.Kinds.{kind-at, pure, kinds-opened}
 use Rattle.model.specs.Circuit.{Circuit, kind-of-gate, output}
@@ -42,7 +43,7 @@ outs-8 = refl
 
 -- ---- what is kept by each thing that a check may do is kept by the check
 
-module _ (c : Circuit) (P : Settled → Type 0) (s : State) (g : ℕ) (calmed : P (calm s)) (raised : (form : ℕ) → P (raise s g form))
+module _ (c : Circuit) (P : Settled → Type 0) (s : State) (g : ℕ) (calmed : P (calm s)) (raised : (when : When) (form : ℕ) → P (raise when s g form))
     (pulsed : (o k : ℕ) → kind-of-gate c g ≡ k → pulses-up k ≡ true → o < length (kind-at k .outs) → P (calm (wires≔ s (pulse c (s .wires) (output c g o)))))
     (delayed : (d : Delay) (changed : Bool) → P (calm (count-changed (delay≔ c s g d) changed))) where
   edge-keeps : (was now : Value) (hit : State → ℕ → Settled) → P (hit s 0) → P (hit s 1) → P (edge c s was now hit)
@@ -52,10 +53,10 @@ module _ (c : Circuit) (P : Settled → Type 0) (s : State) (g : ℕ) (calmed : 
   pub detect-keeps : (p : ℕ) (was now : Value) → P (detect c (kind-of-gate c g) s g p was now)
   unfolding detect pulses-up
   detect-keeps p was now =
-      if-both P _ (raised 0)
+      if-both P _ (raised by-rank 0)
       (if-by P (eqb (kind-of-gate c g) 7)
       (λ e. let k = eqb-true (kind-of-gate c g) 7 e in
       edge-keeps was now _ (pulsed 0 7 k refl (omega (arith, outs-7))) (pulsed 1 7 k refl (omega (arith, outs-7))))
       λ _. if-by P (eqb (kind-of-gate c g) 8)
       (λ e. pulsed 0 8 (eqb-true (kind-of-gate c g) 8 e) refl (omega (arith, outs-8)))
-      λ _. if-both P _ (edge-keeps was now _ (raised _) (raised _)) (if-both P _ (delayed _ _) (if-both P _ (raised _) calmed)))
+      λ _. if-both P _ (edge-keeps was now _ (raised by-rank _) (raised by-rank _)) (if-both P _ (delayed _ _) (if-both P _ (raised by-rank _) calmed)))

@@ -10,7 +10,7 @@ use lib.Dec.{ltb, eqb}
 use lib.ListN.{length, getD}
 use borrow.Author.Tests.{ltb-false}
 use Rattle.words.specs.Words.{words}
-use Rattle.schedule.specs.Schedule.{most-units, Raise, Outcome, Closed, Setup, numbered, plain, Activation, Turn, Tick, tick}
+use Rattle.schedule.specs.Schedule.{most-units, Raise, When, Outcome, Closed, Setup, numbered, plain, Activation, Turn, Tick, tick}
 use Rattle.schedule.specs.Promise.{All, [·], _∷·_, Along}
 use Rattle.schedule.specs.Keeping.{Did-keep}
 use Rattle.schedule.specs.Erasure.{bare-tick}
@@ -116,7 +116,7 @@ module _ (c : Circuit) (b : ℕ) where
   -- so after what was settled, and where something was raised
   record Settled-counts (n : ℕ) (z : Settled) : Type 0 where
     state : Counts n (z .state)
-    raises : All (λ (r : Raise State Act (Unit {0})). Counts 0 (r .at)) (z .raises)
+    raises : All (λ (r : Raise State Act When). Counts 0 (r .at)) (z .raises)
 
   none-left : (n : ℕ) (s : State) → Counts n s → Counts 0 s
   none-left n s z = record { few = omega (arith, z .few) }
@@ -125,9 +125,9 @@ module _ (c : Circuit) (b : ℕ) where
   unfolding calm
   calm-counts z = record { state = z; raises = [·] }
 
-  raise-counts : {n : ℕ} {s : State} (g form : ℕ) → Counts n s → Settled-counts n (raise s g form)
+  raise-counts : {n : ℕ} {s : State} (when : When) (g form : ℕ) → Counts n s → Settled-counts n (raise when s g form)
   unfolding raise
-  raise-counts {n} {s} g form z = record { state = z; raises = _∷·_ (none-left n s z) [·] }
+  raise-counts {n} {s} when g form z = record { state = z; raises = _∷·_ (none-left n s z) [·] }
 
   check-counts : (n : ℕ) (s : State) (i : ℕ) → Counts (suc n) s → Settled-counts n (check c s i)
   unfolding check compared
@@ -135,7 +135,7 @@ module _ (c : Circuit) (b : ℕ) where
       let x = put _ (put _ z) in
       let y = fewer x in
       if-both (Settled-counts n) _ (calm-counts y)
-      (detect-keeps c (Settled-counts n) _ (gate-at-input c i) (calm-counts y) (λ form. raise-counts _ form y) (λ o k e u l. calm-counts (put _ y))
+      (detect-keeps c (Settled-counts n) _ (gate-at-input c i) (calm-counts y) (λ when form. raise-counts when _ form y) (λ o k e u l. calm-counts (put _ y))
       (λ d changed. calm-counts (count changed (put-delay _ d x))) _ _ _)
 
   -- n checks

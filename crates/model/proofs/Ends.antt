@@ -7,7 +7,7 @@ use Prim.Native.Nat.{ℕ, zero, suc, _≤_}
 use native.Mathlib.Omega.{arith}
 use lib.Dec.{eqb}
 use Rattle.words.specs.Words.{words}
-use Rattle.schedule.specs.Schedule.{list-full, log-full, most-units, Raise, Setup, plain, Took, empty, took, Filed, full, filed, Activation, push-all, activate-open, activate-late, activate-main, next-late, next-main, raise-on, raise-all, pass-on, pass, no-turn, turning, late-pass, main-pass, Tick, outcome, tick}
+use Rattle.schedule.specs.Schedule.{list-full, log-full, most-units, Raise, When, Setup, plain, Took, empty, took, Filed, full, filed, Activation, push-all, activate-open, activate-late, activate-main, next-late, next-main, raise-on, raise-all, pass-on, pass, no-turn, turning, late-pass, main-pass, Tick, outcome, tick}
 use Rattle.schedule.specs.Promise.{All, _∷·_}
 use Rattle.schedule.proofs.Every.{every}
 use Rattle.model.specs.Base.{among}
@@ -77,7 +77,7 @@ module _ (Q : ℕ → Type 0) (z : Q 0) (r : Q runaway) (f : Q list-full) (l : Q
         go rec (filed q₁) = rec q₁
 
     pass-stop :
-        {T : Type 0} (next : T → Took (Activation S) T) (activate : Activation S → Activation S → T → Filed T) (n : ℕ) (t : Unit {0}) (q : T) (w : World) (s : ℕ) → Q s →
+        {T : Type 0} (next : T → Took (Activation S) T) (activate : Activation S → When → Activation S → T → Filed T) (n : ℕ) (t : Unit {0}) (q : T) (w : World) (s : ℕ) → Q s →
         Q (pass S next activate n t q w s .stop)
     unfolding pass
     pass-stop {T} next activate zero t q w zero k = go (next q)
@@ -93,10 +93,10 @@ module _ (Q : ℕ → Type 0) (z : Q 0) (r : Q runaway) (f : Q list-full) (l : Q
             (x : Took (Activation S) T) →
             Q (pass-on S x (no-turn S (suc n) t q w 0) (λ u q′.
             let d = body c w (u .act) in
-            let k = raise-all S (λ p. activate u) (d .raises) t q′ (d .world) (d .stop) in
+            let k = raise-all S (activate u) (d .raises) t q′ (d .world) (d .stop) in
             turning S u w (k .raised) (eqb (d .stop) 0) (pass S next activate n (k .next) (k .queue) (k .world) (k .stop))) .stop)
         go rec empty = z
-        go rec (took u q₁) = rec _ _ _ _ (raise-stop (λ (p : Unit {0}). activate u) _ _ _ _ _ (body-stop w (u .act)))
+        go rec (took u q₁) = rec _ _ _ _ (raise-stop (activate u) _ _ _ _ _ (body-stop w (u .act)))
     pass-stop next activate (suc n) t q w (suc s) k = k
 
     closed-stop : (b : Bool) (s : ℕ) → Q s → Q (cond b s log-full)

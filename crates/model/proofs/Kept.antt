@@ -9,7 +9,7 @@ use native.Mathlib.Omega.{arith}
 use lib.Dec.{leb, ltb, eqb}
 use lib.ListN.{length, set, length-set, length-map, length-replicate, List·getD-map, List·getD-eq-default}
 use borrow.Author.Tests.{ltb-true, ltb-false, eqb-true, ne-eqb}
-use Rattle.schedule.specs.Schedule.{Raise}
+use Rattle.schedule.specs.Schedule.{Raise, When}
 use Rattle.schedule.specs.Promise.{All, [·], _∷·_}
 use Rattle.schedule.proofs.Members.{all-append}
 use Rattle.model.specs.declared.Value.{Value}
@@ -201,9 +201,9 @@ module _ (c : Circuit) where
   unfolding calm
   calm-sized z = record { state = z; raises = [·] }
 
-  raise-sized : {s : State} (g form : ℕ) → Sized c s → Settled-sized (raise s g form)
+  raise-sized : {s : State} (when : When) (g form : ℕ) → Sized c s → Settled-sized (raise when s g form)
   unfolding raise
-  raise-sized g form z = record { state = z; raises = _∷·_ z [·] }
+  raise-sized when g form z = record { state = z; raises = _∷·_ z [·] }
 
   pulse-sized : {w : Wires} (o : ℕ) → Sized-wires c w → Sized-wires c (pulse c w o)
   unfolding pulse
@@ -214,7 +214,7 @@ module _ (c : Circuit) where
   check-sized s i z =
       let y = wires-sized (wires-sized z (ready-sized c (s .wires) i (z .wires))) (last-sized i _ (ready-sized c (s .wires) i (z .wires))) in
       if-both Settled-sized _ (calm-sized y)
-      (detect-keeps c Settled-sized _ (gate-at-input c i) (calm-sized y) (λ form. raise-sized _ form y)
+      (detect-keeps c Settled-sized _ (gate-at-input c i) (calm-sized y) (λ when form. raise-sized when _ form y)
       (λ o k e u l. calm-sized (wires-sized y (pulse-sized _ (y .wires)))) (λ d b. calm-sized (count-sized b (delay-sized _ d y))) _ _ _)
 
   check-on-sized : (n : ℕ) (z : Settled) → Settled-sized z → Settled-sized (check-on c n z)

@@ -12,7 +12,7 @@ use lib.ListN.{length, getD, set, replicate, length-replicate}
 use lib.Seq.{getD-set-other}
 use borrow.Author.Tests.{eq-eqb}
 use Rattle.words.specs.Words.{words}
-use Rattle.schedule.specs.Schedule.{Raise, Place, Setup, numbered, Activation, acts, tick, run-on, run}
+use Rattle.schedule.specs.Schedule.{Raise, Place, When, Setup, numbered, Activation, acts, tick, run-on, run}
 use Rattle.schedule.specs.Promise.{All, [·], _∷·_, total}
 use Rattle.schedule.specs.Pending.{pends, for-main}
 use Rattle.schedule.proofs.Erase.{map-append}
@@ -161,15 +161,15 @@ module _ (c : Circuit) (m : Act → ℕ) where
       go false h = h
 
   -- all that settling raised is
-  pending-all : (w : World) (n : ℕ) (rs : List (Raise State Act (Unit {0}))) → for-main S (raises-in w n (pending rs)) ≡ map (λ (r : Raise State Act (Unit {0})). r .act) rs
+  pending-all : (w : World) (n : ℕ) (rs : List (Raise State Act When)) → for-main S (raises-in w n (pending rs)) ≡ map (λ (r : Raise State Act When). r .act) rs
   unfolding raises-in
   pending-all w n [] = refl
   pending-all w n (r ∷ rs) = ap (λ (l : List Act). r .act ∷ l) (pending-all w n rs)
 
   raised-begins :
-      (w : World) (i : Allowed) (came : List (Activation S)) (t : ℕ) (before : List (Raise State Act Place)) (rs : List (Raise State Act (Unit {0}))) (after : List (Raise State Act Place)) →
+      (w : World) (i : Allowed) (came : List (Activation S)) (t : ℕ) (before : List (Raise State Act Place)) (rs : List (Raise State Act When)) (after : List (Raise State Act Place)) →
       open-tick c (w .state) (i .given) .raises ≡ before ++ (pending rs ++ after) → tick S w i came t .stop ≡ 0 →
-      total m (map (λ (r : Raise State Act (Unit {0})). r .act) rs) ≤ total m (acts S (tick S w i came t .main))
+      total m (map (λ (r : Raise State Act When). r .act) rs) ≤ total m (acts S (tick S w i came t .main))
   unfolding opening raises-in
   raised-begins w i came t before rs after q h =
       let f : Raise State Act Place → Raise World Act Place = λ r. record { at = state≔ w (i .limit) (r .at); act = r .act; place = r .place } in
@@ -198,7 +198,7 @@ module _ (c : Circuit) (s : State) (i : ℕ) (e : getD (s .wires .last) i none �
   as-change = rw e refl
 
   -- so a ChangeDetector fires, though it reads nothing
-  detector-fires : kind-of-gate c (gate-at-input c i) ≡ 6 → map (λ (r : Raise State Act (Unit {0})). r .act) (check c s i .raises) ≡ fire 1 (gate-at-input c i)
+  detector-fires : kind-of-gate c (gate-at-input c i) ≡ 6 → map (λ (r : Raise State Act When). r .act) (check c s i .raises) ≡ fire 1 (gate-at-input c i)
   unfolding detect raise fire if_then_else_
   detector-fires k = rw (as-change, k) refl
 

@@ -130,7 +130,7 @@ module _ (c : Circuit) where
 
     detect-within : (s : State) (g p : ℕ) (was now : Value) → Within n (s .wires) → Fine (detect c (kind-of-gate c g) s g p was now)
     unfolding calm raise delay≔ delays≔ wires≔ count-changed changed≔
-    detect-within s g p was now z = detect-keeps c Fine s g z (λ _. z) (λ o k e u l. pulse-within (s .wires) g o k e u l z) (λ _ _. z) p was now
+    detect-within s g p was now z = detect-keeps c Fine s g z (λ _ _. z) (λ o k e u l. pulse-within (s .wires) g o k e u l z) (λ _ _. z) p was now
 
     check-within : (s : State) (i : ℕ) → Within n (s .wires) → Fine (check c s i)
     unfolding check compared wires≔ calm

@@ -10,7 +10,7 @@ use lib.Dec.{ltb, eqb}
 use lib.ListN.{length, getD, set, length-append, length-set}
 use lib.Seq.{getD-set-same, getD-set-other, set-out as set-past}
 use borrow.Author.Tests.{ltb-true, ltb-false, eqb-true, eqb-false}
-use Rattle.schedule.specs.Schedule.{Raise}
+use Rattle.schedule.specs.Schedule.{Raise, When}
 use Rattle.schedule.specs.Promise.{All, _∷·_}
 use Rattle.model.specs.declared.Value.{Value}
 use Rattle.model.specs.Base.{snoc}
@@ -122,7 +122,7 @@ module _ (c : Circuit) (i : ℕ) (pre : List ℕ) where
         unread = getD-set-other (ready c (s .wires) j .last) j i _ none n ∙ v .unread;
       } in
       if-both Still-waiting _ y
-      (detect-keeps c Still-waiting _ (gate-at-input c j) y (λ form. y) (λ o k e p l. pulse-unread _ _ y) (λ d b. count-waiting _ b (delay-waiting _ _ d y)) _ _ _)
+      (detect-keeps c Still-waiting _ (gate-at-input c j) y (λ _ _. y) (λ o k e p l. pulse-unread _ _ y) (λ d b. count-waiting _ b (delay-waiting _ _ d y)) _ _ _)
 
   -- ---- the opening up to its settling
 
@@ -159,7 +159,7 @@ module _ (c : Circuit) (i : ℕ) where
       let now = set (s .wires .last) j v in
       let e : set (ready c (s .wires) j .last) j v ≡ now = ap (λ ls. set ls j v) (ready-last (s .wires) j) in
       if-both (λ (z : Settled). z .state .wires .last ≡ now) _ e
-      (detect-keeps c (λ (z : Settled). z .state .wires .last ≡ now) _ (gate-at-input c j) e (λ form. e) (λ o k x p l. pulse-last _ _ ∙ e) (λ d b. e) _ _ _)
+      (detect-keeps c (λ (z : Settled). z .state .wires .last ≡ now) _ (gate-at-input c j) e (λ _ _. e) (λ o k x p l. pulse-last _ _ ∙ e) (λ d b. e) _ _ _)
 
   -- input i has been read
   abbrev pub Read : List (Option Value) → Type 0
@@ -183,9 +183,9 @@ module _ (c : Circuit) (i : ℕ) where
       subst Read (sym (check-last (wires≔ (z .state) (taken c (z .state .wires) j is)) j)) (read-kept (z .state .wires .last) j _ r)
 
   -- settling raises more and more
-  raises-on : (y : Settled) (n : ℕ) → (after : List (Raise State Act (Unit {0}))) × (check-on c n y .raises ≡ y .raises ++ after)
+  raises-on : (y : Settled) (n : ℕ) → (after : List (Raise State Act When)) × (check-on c n y .raises ≡ y .raises ++ after)
   raises-on y n =
-      check-on-keeps c (λ (z : Settled). (after : List (Raise State Act (Unit {0}))) × (z .raises ≡ y .raises ++ after))
+      check-on-keeps c (λ (z : Settled). (after : List (Raise State Act When)) × (z .raises ≡ y .raises ++ after))
       (λ z j is e k.
       let r = check c (wires≔ (z .state) (taken c (z .state .wires) j is)) j .raises in
       (k .0 ++ r, ap (λ rs. rs ++ r) (k .1) ∙ append-assoc (y .raises) (k .0) r)) n y ([], sym (append-nil (y .raises)))
@@ -199,7 +199,7 @@ module _ (c : Circuit) (i : ℕ) where
     pub rest : List ℕ
     pub turn : a .state .wires .to-check ≡ i ∷ rest
     pub unread : getD (a .state .wires .last) i none ≡ none
-    pub after : List (Raise State Act (Unit {0}))
+    pub after : List (Raise State Act When)
     pub raised : b .raises ≡ a .raises ++ (check c (due a rest) i .raises ++ after)
     pub read : Read (b .state .wires .last)
 

@@ -6,7 +6,7 @@ use mathlib.Core.List.{List, [], _∷_, _++_}
 use mathlib.Core.Option.{Option, none, some}
 use Prim.Native.Nat.{ℕ, zero, suc, _+_}
 use lib.ListN.{length, set}
-use Rattle.schedule.specs.Schedule.{list-full, Raise, Place, to-late, to-delivered}
+use Rattle.schedule.specs.Schedule.{list-full, Raise, Place, When, to-late, to-delivered}
 use Rattle.schedule.specs.Promise.{All}
 use Rattle.schedule.proofs.Members.{all-map, all-append}
 use Rattle.model.specs.declared.Value.{Value}
@@ -167,7 +167,7 @@ module _ (c : Circuit) where
     -- then settling, up to which P goes by n, and after which R holds
     pub open-tick-spends :
         (R : State → Type 0) (n : ℕ) → ((s : State) → P n s → R s) →
-        ((s : State) → P n s → R (settle c s .state) × All (λ (r : Raise State Act (Unit {0})). R (r .at)) (settle c s .raises)) →
+        ((s : State) → P n s → R (settle c s .state) × All (λ (r : Raise State Act When). R (r .at)) (settle c s .raises)) →
         (s : State) (given : Given) → P (moving n) (begin-tick s (given .dt)) → Opened-keeps R (open-tick c s given)
     unfolding open-tick
     open-tick-spends R n before settles s given z =
@@ -205,6 +205,6 @@ module _ (c : Circuit) where
     before-settling-keeps = before-settling-spends spends-none times 0
 
     pub open-tick-keeps :
-        ((s : State) → P s → P (settle c s .state) × All (λ (r : Raise State Act (Unit {0})). P (r .at)) (settle c s .raises)) →
+        ((s : State) → P s → P (settle c s .state) × All (λ (r : Raise State Act When). P (r .at)) (settle c s .raises)) →
         (s : State) (given : Given) → P (begin-tick s (given .dt)) → Opened-keeps P (open-tick c s given)
     open-tick-keeps = open-tick-spends spends-none times P 0 (λ s z. z)

@@ -7,7 +7,7 @@ use mathlib.Core.Option.{none, some}
 use Prim.Native.Nat.{ℕ, _≤_, _<_}
 use lib.Dec.{eqb}
 use lib.ListN.{length, getD, set, replicate}
-use Rattle.schedule.specs.Schedule.{Raise, Place, numbered, acts, tick}
+use Rattle.schedule.specs.Schedule.{Raise, Place, When, numbered, acts, tick}
 use Rattle.schedule.specs.Promise.{total}
 use Rattle.model.specs.declared.Value.{Value}
 use Rattle.model.specs.Base.{if_then_else_, keep, from}
@@ -68,7 +68,7 @@ module _ (c : Circuit) where
     -- and begins there, unless the tick is stopped: whatever number each act counts for, it comes to no more than what the main pass of tick 1 began
     pub begins :
         tick-1 room i .stop ≡ 0 → (m : Act → ℕ) →
-        total m (map (λ (r : Raise State Act (Unit {0})). r .act) (checked-first i j rest .raises)) ≤ total m (acts (numbered (machine c)) (tick-1 room i .main))
+        total m (map (λ (r : Raise State Act When). r .act) (checked-first i j rest .raises)) ≤ total m (acts (numbered (machine c)) (tick-1 room i .main))
     -- when tick 1 has opened, the input has been read
     pub read : (v : Value) × (getD (opening-1 i .state .wires .last) j none ≡ some v)
 

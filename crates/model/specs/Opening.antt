@@ -5,7 +5,7 @@ use mathlib.Core.List.{List, [], _++_, map}
 use mathlib.Core.Option.{none}
 use lib.Dec.{leb, ltb, eqb}
 use lib.ListN.{length, getD, set, replicate}
-use Rattle.schedule.specs.Schedule.{Raise, Place, to-late, to-delivered, to-pending}
+use Rattle.schedule.specs.Schedule.{Raise, Place, When, to-late, to-delivered, to-pending}
 use Rattle.model.specs.declared.Value.{Value}
 use Rattle.model.specs.declared.Value.the-variants.{Nothing, Int, Float, Bool as Truth}
 use Rattle.model.specs.Base.{if_then_else_, each, keep, joined, from}
@@ -61,8 +61,8 @@ pub record Opened : Type 0 where
 unfoldable pub raised-to : Place → State → List Act → List (Raise State Act Place)
 raised-to p s acts = map (λ a. record { at = s; act = a; place = p }) acts
 
--- what settling raises waits for the main pass
-abbrev pub pending : List (Raise State Act (Unit {0})) → List (Raise State Act Place)
+-- what settling raises here waits for the main pass, however it is raised
+abbrev pub pending : List (Raise State Act When) → List (Raise State Act Place)
 pending rs = map (λ r. record { at = r .at; act = r .act; place = to-pending }) rs
 
 -- n Fires of gate g

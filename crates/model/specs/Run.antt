@@ -3,7 +3,7 @@ use Prim.Native.Nat.{ℕ}
 use mathlib.Core.List.{List, [], _∷_, map}
 use lib.Dec.{eqb}
 use lib.ListN.{length}
-use Rattle.schedule.specs.Schedule.{Did, Outcome, Closed, Place, Machine, plain, Tick, run}
+use Rattle.schedule.specs.Schedule.{Did, Outcome, Closed, Place, When, Machine, plain, Tick, run}
 use Rattle.model.specs.Base.{if_then_else_, keep, joined}
 use Rattle.model.specs.Circuit.{Circuit, rank-of-gate}
 use Rattle.model.specs.Script.{Given, script}
@@ -50,7 +50,7 @@ module _ (c : Circuit) where
       record { world = state≔ w (i .limit) (z .state); raises = raises-in w (i .limit) (z .raises); stop = 0 }
 
   -- what a unit does
-  unfoldable pub body : World → Act → Did World Act (Unit {0})
+  unfoldable pub body : World → Act → Did World Act When
   body w a = finish-chain c w (run-unit c w a)
 
   -- after the passes: the outputs are read, the record is written

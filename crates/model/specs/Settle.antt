@@ -6,7 +6,7 @@ use mathlib.Core.List.{List, [], _∷_, _++_}
 use mathlib.Core.Option.{Option, none, some}
 use lib.Dec.{eqb}
 use lib.ListN.{length, getD, set}
-use Rattle.schedule.specs.Schedule.{Raise}
+use Rattle.schedule.specs.Schedule.{Raise, When, by-rank}
 use Rattle.model.specs.declared.Value.{Value}
 use Rattle.model.specs.declared.Value.the-variants.{Nothing, Bool as Truth}
 use Rattle.model.specs.Base.{if_then_else_, each}
@@ -20,15 +20,15 @@ use Rattle.model.specs.Exec.{with-countdown, countdown}
 -- a state, and what was raised on the way to it, in order, each with the state at that moment
 pub record Settled : Type 0 where
   pub state : State
-  pub raises : List (Raise State Act (Unit {0}))
+  pub raises : List (Raise State Act When)
 
 -- nothing was raised
 unfoldable pub calm : State → Settled
 calm s = record { state = s; raises = [] }
 
--- gate g is raised, in a form that brings no values
-unfoldable pub raise : State → ℕ → ℕ → Settled
-raise s g form = record { state = s; raises = record { at = s; act = record { gate = g; form = form; row = [] }; place = tt } ∷ [] }
+-- gate g is raised, by rank or put off, in a form that brings no values
+unfoldable pub raise : When → State → ℕ → ℕ → Settled
+raise when s g form = record { state = s; raises = record { at = s; act = record { gate = g; form = form; row = [] }; place = when } ∷ [] }
 
 -- what the last check read, nothing where there was none
 unfoldable pub last-value : Option Value → Value
@@ -57,12 +57,12 @@ module _ (c : Circuit) where
   -- watched input p of gate g changed: a detector, a value buffer, or an exec pin, which raises where the value is true
   unfoldable pub detect : ℕ → State → ℕ → ℕ → Value → Value → Settled
   detect k s g p was now =
-      if eqb k 6 then raise s g 0
+      if eqb k 6 then raise by-rank s g 0
       else if eqb k 7 then edge s was now (λ t o. calm (wires≔ t (pulse (t .wires) (output c g o))))
       else if eqb k 8 then calm (wires≔ s (pulse (s .wires) (output c g 0)))
-      else if eqb k 9 then edge s was now (λ t o. raise t g (32 + o))
+      else if eqb k 9 then edge s was now (λ t o. raise by-rank t g (32 + o))
       else if eqb k 10 || eqb k 12 then calm (with-countdown c s g (λ d left. buffer-input d now left) (countdown c g (truthy now)))
-      else if truthy now then raise s g (16 + p)
+      else if truthy now then raise by-rank s g (16 + p)
       else calm s
 
   -- `last` is replaced at every check, and acted on is only a change

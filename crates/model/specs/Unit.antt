@@ -4,7 +4,7 @@ use mathlib.Core.Bool.{_&&_}
 use mathlib.Core.List.{List, [], _∷_, map}
 use mathlib.Core.Option.{some}
 use lib.Dec.{leb, ltb, eqb}
-use Rattle.schedule.specs.Schedule.{Raise, Did}
+use Rattle.schedule.specs.Schedule.{Raise, When, Did}
 use Rattle.model.specs.Base.{if_then_else_}
 use Rattle.model.specs.Circuit.{Circuit, kind-of-gate, input, output}
 use Rattle.model.specs.State.{Act, State, wires≔}
@@ -48,7 +48,7 @@ module _ (c : Circuit) where
   run-unit w a = run-chain c (w .left) (begin a) (enter (w .state) a)
 
   -- when the chain and its forks have ended, the Vars written are published, and what changed is settled; only then a unit raises
-  unfoldable pub finish-chain : World → Chained → Did World Act (Unit {0})
+  unfoldable pub finish-chain : World → Chained → Did World Act When
   finish-chain w r =
       if eqb (r .stop) 0 then
       (let z = settle c (wires≔ (r .state) (publish-writes c (r .state .wires))) in
