@@ -42,7 +42,7 @@ use Rattle.model.proofs.Chains.{chain-ended, unit-ended, finish-stop}
 pub circuit-laid : (ws : List ℕ) → Laid (circuit ws)
 circuit-laid = laid
 
--- and where questions 1 and 3 are answered yes, so have sources, stored values, watches and ranks
+-- and where questions 1 and 3 are answered yes, so have sources, stored values, watches, ranks, bodies and entries
 pub circuit-filled : (bytes ws : List ℕ) → question-1 bytes ws ≡ true → question-3 ws (circuit ws) ≡ true → Full (circuit ws)
 circuit-filled = filled
 

@@ -1,14 +1,14 @@
 -- A circuit, as it is read from its words, with what is worked out of it once. A word is held as its 64 bits, so a negative one is 2^63 or more.
 use Prim.Native.Nat.{ℕ, _+_, _*_, _/_, _%_, _^_, _-_}
-use mathlib.Core.Bool.{Bool, true, false}
+use mathlib.Core.Bool.{Bool, true, false, _&&_}
 use mathlib.Core.List.{List, [], _∷_, map}
 use mathlib.Core.Option.{Option, none, some}
 use lib.Dec.{eqb}
 use lib.ListN.{length, getD, take, drop}
 use Rattle.model.specs.declared.Value.{Value}
-use Rattle.model.specs.declared.Value.the-variants.{Nothing}
+use Rattle.model.specs.declared.Value.the-variants.{Nothing, Int}
 use Rattle.model.specs.Base.{if_then_else_, keep, joined, both, from, starts, owners}
-use Rattle.model.specs.Value.{value-of}
+use Rattle.model.specs.Value.{value-of, same}
 use Rattle.model.specs.Kinds.{In, never, if-driven, always, Out, kind-at, time-source, buffering, receiving}
 
 -- the gates that a circuit has at the most
@@ -28,9 +28,11 @@ pub record Call : Type 0 where
 pub record Circuit : Type 0 where
   -- by name: constant k is named k + 1, and 0 is nothing
   pub constants : List Value
-  -- of each gate
+  -- of each gate: its kind, its rank, the body that it lies in, 0 outside and else 1 + the Loop's gate, and, if it is a Loop, the entry of its body
   pub kinds : List ℕ
   pub ranks : List ℕ
+  pub bodies : List ℕ
+  pub entries : List ℕ
   pub first-input : List ℕ
   pub first-output : List ℕ
   -- of each input: what it is, its gate, the output that it reads, the value stored in it, whether a change of what it reads is acted on
@@ -95,6 +97,14 @@ listed-call o t = record { out = o; call = record { to = t / 2; remote = eqb (t 
 unfoldable pub calls-from : ℕ → List Listed → List Call
 calls-from o ls = map (λ l. l .call) (keep (λ l. eqb (l .out) o) ls)
 
+-- the word of a gate is rank + 65,536 × body
+abbrev pub rank-size : ℕ
+rank-size = 65536
+
+-- whether gate e is an entry that names gate g
+unfoldable pub names : List ℕ → List Value → List ℕ → ℕ → ℕ → Bool
+names kinds stored first-input g e = eqb (getD kinds e 0) 30 && same (getD stored (getD first-input e 0) Nothing) (Int g)
+
 -- the gates whose kind passes the test, ascending
 unfoldable pub gates-such : (ℕ → Bool) → List ℕ → List ℕ
 gates-such p kinds = keep (λ g. p (getD kinds g 0)) (from 0 (length kinds))
@@ -117,16 +127,21 @@ circuit ws =
     let outputs = joined (map (λ k. kind-at k .outs) kinds) in
     let sources = map source-of (part ws inputs I) in
     let listed = both listed-call (part ws calls C) (part ws (calls + C) C) in
+    let places = part ws (gates + G) G in
+    let first-input = starts 0 in-counts in
+    let stored = map (λ k. getD constants k Nothing) (part ws (inputs + I) I) in
     record {
       constants = constants;
       kinds = kinds;
-      ranks = part ws (gates + G) G;
-      first-input = starts 0 in-counts;
+      ranks = map (λ w. w % rank-size) places;
+      bodies = map (λ w. w / rank-size) places;
+      entries = map (λ g. getD (keep (names kinds stored first-input g) (from 0 G)) 0 0) (from 0 G);
+      first-input = first-input;
       first-output = starts 0 out-counts;
       pins = pins;
       gate-of-input = owners 0 in-counts;
       sources = sources;
-      stored = map (λ k. getD constants k Nothing) (part ws (inputs + I) I);
+      stored = stored;
       watched = both is-watched pins sources;
       outputs = outputs;
       gate-of-output = owners 0 out-counts;
@@ -149,6 +164,14 @@ module _ (c : Circuit) where
   -- the rank of gate g, which is that of its units
   unfoldable pub rank-of-gate : ℕ → ℕ
   rank-of-gate g = getD (c .ranks) g 0
+
+  -- the body that gate g lies in
+  unfoldable pub body-of-gate : ℕ → ℕ
+  body-of-gate g = getD (c .bodies) g 0
+
+  -- the entry of Loop g's body
+  unfoldable pub entry-of-loop : ℕ → ℕ
+  entry-of-loop g = getD (c .entries) g 0
 
   -- input p of gate g
   unfoldable pub input : ℕ → ℕ → ℕ
@@ -203,5 +226,5 @@ module _ (c : Circuit) where
   gates-of p = gates-such p (c .kinds)
 
   unfoldable pub circuit-opened : ℕ
-  unfolding part word-at source-of has-source is-watched reads listed-call calls-from gates-such circuit kind-of-gate rank-of-gate input output inputs-of gate-at-input source stored-in setting gate-at-output readers-of calls-of watching gates gates-of
+  unfolding part word-at source-of has-source is-watched reads listed-call calls-from names gates-such circuit kind-of-gate rank-of-gate body-of-gate entry-of-loop input output inputs-of gate-at-input source stored-in setting gate-at-output readers-of calls-of watching gates gates-of
   circuit-opened = 0

@@ -1,4 +1,4 @@
--- The 28 kinds of gates: what each input and each output is.
+-- The 31 kinds of gates: what each input and each output is.
 use Prim.Native.Nat.{ℕ, zero, suc}
 use mathlib.Core.Bool.{Bool, true, false, _&&_, _||_}
 use mathlib.Core.List.{List, [], _∷_}
@@ -7,7 +7,7 @@ use lib.ListN.{getD, replicate}
 
 -- what the constant of a setting has to be
 pub data Setting : Type 0 where
-  anything ticks seconds variable channel : Setting
+  anything ticks seconds variable channel loop : Setting
 
 -- whether a change of what an input reads is acted on: never, if it has a source, or always
 pub data Watch : Type 0 where
@@ -58,7 +58,7 @@ pub record Kind : Type 0 where
 unfoldable pub kind : List In → List Out → Kind
 kind i o = record { ins = i; outs = o }
 
--- kinds 1 to 28
+-- kinds 1 to 31
 unfoldable pub table : List Kind
 table =
     kind (value ∷ value ∷ value ∷ []) (shows ∷ [])  -- 1 Select: bSelectB InputA InputB
@@ -89,6 +89,9 @@ table =
     ∷ kind (set-to channel ∷ []) (fires ∷ replicate 8 shows)  -- 26 EventCustom: channel / ExecOut DataOut1 to 8
     ∷ kind (set-to channel ∷ []) (fires ∷ replicate 8 shows)  -- 27 global
     ∷ kind [] (fires ∷ shows ∷ [])  -- 28 WorldEvent: / ExecOut Value
+    ∷ kind (exec ∷ replicate 3 value) (fires ∷ replicate 3 shows)  -- 29 Loop: E, Count FirstIndex Step / Completed IterationsExecuted bAborted bRunning
+    ∷ kind (set-to loop ∷ []) (fires ∷ shows ∷ [])  -- 30 entry of a Loop's body: loop / Body Index
+    ∷ kind (exec ∷ []) (fires ∷ [])  -- 31 Break: E / ExecOut
     ∷ []
 
 -- kinds count from 1; no other number is a kind's

@@ -11,7 +11,7 @@ use Rattle.model.specs.declared.Value.{Value}
 use Rattle.model.specs.declared.Value.the-variants.{Nothing, Int, Float, Bool as Truth}
 use Rattle.model.specs.Base.{if_then_else_, all, both, from, sum}
 use Rattle.model.specs.Value.{le64}
-use Rattle.model.specs.Kinds.{In, value, Setting, anything, ticks, seconds, variable, channel, fires, shows, passes, kind-at, pure}
+use Rattle.model.specs.Kinds.{In, value, Setting, anything, ticks, seconds, variable, channel, loop, fires, shows, passes, kind-at, pure}
 use Rattle.model.specs.Circuit.{Circuit, circuit, part, word-at, minus-one, kind-of-gate, inputs-of, source, stored-in, gate-at-output, gates, gates-of}
 
 -- low to high
@@ -41,10 +41,10 @@ good-constant k b = if eqb k 1 then true else if eqb k 2 then finite b else if e
 unfoldable pub question-2 : List ℕ → Bool
 question-2 ws = yes-all (both good-constant (part ws 4 (word-at ws 1)) (part ws (4 + word-at ws 1) (word-at ws 1)))
 
--- 3. Are kinds 1 to 28, ranks 0 to 65,535, and is I their sum of inputs?
+-- 3. Are kinds 1 to 28, the words of their ranks 0 to 65,535, so that no gate lies in a body, and is I their sum of inputs?
 unfoldable pub question-3 : List ℕ → Circuit → Bool
 question-3 ws c =
-    all (within 1 28) (c .kinds) && all (within 0 65535) (c .ranks) && eqb (sum (map (λ k. length (kind-at k .ins)) (c .kinds))) (word-at ws 2)
+    all (within 1 28) (c .kinds) && all (within 0 0) (c .bodies) && eqb (sum (map (λ k. length (kind-at k .ins)) (c .kinds))) (word-at ws 2)
 
 -- 4. Is each source -1 or a value output, each stored 0 to K, at most one of the two given, no constant on an E, no source on an S or a kind 11 or 13 Input,
 -- each setting as it has to be?
@@ -72,13 +72,15 @@ float-or-nothing (Int b) = false
 float-or-nothing (Float b) = true
 float-or-nothing (Truth t) = false
 
--- initial anything; tick waits Int or nothing; seconds Float or nothing; variable the Int number of a kind-5 gate; channel an Int 0 to 255
+-- initial anything; tick waits Int or nothing; seconds Float or nothing; variable the Int number of a kind-5 gate; channel an Int 0 to 255; loop the Int number
+-- of a kind-29 gate
 unfoldable pub good-setting : Circuit → Setting → Value → Bool
 good-setting c anything v = true
 good-setting c ticks v = int-or-nothing v
 good-setting c seconds v = float-or-nothing v
 good-setting c variable v = int-such-that (λ g. eqb (kind-of-gate c g) 5) v
 good-setting c channel v = int-such-that (within 0 255) v
+good-setting c loop v = int-such-that (λ g. eqb (kind-of-gate c g) 29) v
 
 -- 0 to K: the constants are named 1 to K, and 0 is nothing
 unfoldable pub names-constant : Circuit → ℕ → Bool
