@@ -17,18 +17,18 @@ use Rattle.model.specs.declared.Value.the-variants.{Nothing, Float, Bool
 use Rattle.model.specs.Base.{each}
 use Rattle.model.specs.Kinds.{kinds-opened}
 use Rattle.model.specs.Circuit.{Circuit, kind-of-gate, gate-at-input}
-use Rattle.model.specs.State.{Wires, State, Act, to-check≔, last≔, pulses≔, written≔, wires≔}
-use Rattle.model.specs.Wires.{shown, look, ready, refresh-all, mark-readers, set-out}
-use Rattle.model.specs.Settle.{Settled, calm, raise, publish-writes, pulse, edge, detect, compared, check, check-on, settle}
+use Rattle.model.specs.State.{Wires, State, Act, to-check≔, late-checks≔, last≔, pulses≔, written≔, written-outside≔, wires≔}
+use Rattle.model.specs.Wires.{shown, look, ready, refresh-all, set-out}
+use Rattle.model.specs.Settle.{Settled, calm, raise, taken, none-written, publish-write, publish-writes, pulse, edge, detect, compared, check, check-on, settle}
 use Rattle.model.specs.Questions.{finite}
 use Rattle.model.proofs.Lists.{places-set, if-both, if-by, each-keeps, among-neither}
-use Rattle.model.proofs.Sized.{Sized-wires, mark-readers-sized, taken-sized}
+use Rattle.model.proofs.Sized.{Sized-wires, mark-readers-for-sized, taken-sized}
 use Rattle.model.proofs.Walks.{check-on-keeps}
 use Rattle.model.proofs.Kept.{last-sized, pulses-sized, publish-writes-sized}
 use Rattle.model.proofs.Reals.{Real, truth-real}
 use Rattle.model.proofs.Wired.{Wired}
-use Rattle.model.proofs.Right.{Except, taking, all-fresh, Other, All-right, alike-but, alike, to-mark, mark-readers-right}
-use Rattle.model.proofs.Fine.{Fine, Alike, alike-itself, alike-again, marked-alike, set-out-fine, refresh-all-fine, refreshed-clean, clean-fine, read-fine, read-real}
+use Rattle.model.proofs.Right.{Except, taking, all-fresh, Other, All-right, alike-but, alike, to-mark, mark-readers-for-right}
+use Rattle.model.proofs.Fine.{Fine, Alike, alike-itself, alike-again, marked-for-alike, set-out-fine, refresh-all-fine, refreshed-clean, clean-fine, read-fine, read-real}
 use Rattle.model.proofs.Sound.{buffer-fine, Sound, Brings, brings-none, other-output, wires-sound, delay-sound, count-sound, delay-of}
 use Rattle.model.proofs.Stepping.{Going}
 
@@ -39,18 +39,17 @@ set-pulses P ps i n q k = places-set (λ o m. 0 < m → P o) ps i n 0 q k
 module _ (c : Circuit) (W : Wired c) where
   -- ---- publishing
 
-  publish-right : (t : Except) (os : List ℕ) (w : Wires) → Sized-wires c w → All-right c t os [] w → All-right c t [] [] (each (mark-readers c) w os)
-  unfolding each
+  publish-right : (t : Except) (os : List ℕ) (w : Wires) → Sized-wires c w → All-right c t os [] w → All-right c t [] [] (each (publish-write c) w os)
+  unfolding each publish-write
   publish-right t [] w z r = r
   publish-right t (o ∷ os) w z r =
-      publish-right t os (mark-readers c w o) (mark-readers-sized c w o z) (mark-readers-right c W t os w o z (to-mark c t os o r))
+      publish-right t os (publish-write c w o) (mark-readers-for-sized c _ w o z) (mark-readers-for-right c W t os _ w o z (to-mark c t os o r))
 
   pub publish-fine : (t : Except) (late : List ℕ) (w : Wires) → Fine c t late w → Fine c t [] (publish-writes c w)
-  unfolding publish-writes written≔ shown
+  unfolding publish-writes publish-write none-written written≔ written-outside≔ shown
   publish-fine t late w f =
-      let v = each (mark-readers c) w (w .written) in
-      let a = each-keeps (Alike w) (mark-readers c) (λ u o b. alike-again b (marked-alike c u o)) w (w .written)
-      (alike-itself w) in
+      let v = each (publish-write c) w (w .written) in
+      let a = each-keeps (Alike w) (publish-write c) (λ u o b. alike-again b (marked-for-alike c _ u o)) w (w .written) (alike-itself w) in
       let r = publish-right t (w .written) w (f .sized) (subst (λ l. All-right c t l [] w) (sym (f .written)) (f .right)) in
       record {
         sized = publish-writes-sized c w (f .sized);
@@ -59,7 +58,7 @@ module _ (c : Circuit) (W : Wired c) where
         real = λ o. subst (λ (vs : List Value). Real (getD vs o Nothing)) (sym (a .outs)) (f .real o);
         length-finite = ap finite (a .apart .dt) ∙ f .length-finite;
         uptime-real = subst (λ x. Real (Float x)) (sym (a .apart .uptime)) (f .uptime-real);
-        right = alike c t [] [] v (written≔ v []) refl refl refl refl refl r;
+        right = alike c t [] [] v (none-written v) refl refl refl refl refl r;
       }
 
   module _ (t : Except) (late : List ℕ) where
@@ -93,8 +92,8 @@ module _ (c : Circuit) (W : Wired c) where
           right = alike c t late [] w (last≔ w (set (w .last) i v)) refl refl refl refl refl (f .right);
         }
 
-    taken-fine : (w : Wires) (i : ℕ) (is : List ℕ) → w .to-check ≡ i ∷ is → Fine c t late w → Fine c (taking i t) late (to-check≔ w is (set (w .queued) i false))
-    unfolding to-check≔ shown
+    taken-fine : (w : Wires) (i : ℕ) (is : List ℕ) → w .to-check ≡ i ∷ is → Fine c t late w → Fine c (taking i t) late (taken w i is)
+    unfolding taken to-check≔ late-checks≔ shown
     taken-fine w i is e f =
         record {
           sized = taken-sized c w i is e (f .sized);
@@ -104,7 +103,7 @@ module _ (c : Circuit) (W : Wired c) where
           length-finite = f .length-finite;
           uptime-real = f .uptime-real;
           right =
-              alike-but c t (taking i t) late [] w (to-check≔ w is (set (w .queued) i false)) refl refl refl refl refl refl
+              alike-but c t (taking i t) late [] w (taken w i is) refl refl refl refl refl refl
               (λ j n. let a = among-neither j i (t .taken) n in (a .1, λ e. getD-set-other (w .queued) i j false true (a .0) ∙ e)) (f .right);
         }
 

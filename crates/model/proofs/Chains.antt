@@ -44,13 +44,13 @@ chain-ended c (suc left) q s = go (pop (q .stack) (q .forks)) refl (λ r t. chai
         Ended (elim x as (λ _. Chained) [
           | none ↦ chained s (suc left) 0 q
           | some t ↦
-              let d = exec-gate c s (t .input) in
+              let d = exec-gate c false s (t .input) in
               let r = push-calls c (d .next) (t .rest) in
               elim (fit r && not (d .full)) [ true ↦ run-chain c left r (d .state) | false ↦ chained (d .state) left list-full r ]
         ])
     go none e rec = λ h. pop-none q e
     go (some t) e rec =
-        let d = exec-gate c s (t .input) in
+        let d = exec-gate c false s (t .input) in
         let r = push-calls c (d .next) (t .rest) in
         fits (fit r && not (d .full)) d r rec
       where

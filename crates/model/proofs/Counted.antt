@@ -93,9 +93,9 @@ module _ (c : Circuit) (b : ℕ) where
   abbrev Stepped-counts : ℕ → Stepped → Type 0
   Stepped-counts n d = Counts n (d .state)
 
-  step : (n : ℕ) (s : State) (i : ℕ) → Counts (suc n) s → Stepped-counts n (exec-gate c s i)
+  step : (inside : Bool) (n : ℕ) (s : State) (i : ℕ) → Counts (suc n) s → Stepped-counts n (exec-gate c inside s i)
   unfolding exec-gate exec-kind fires-next ends set-output readied exec-Buffer exec-Stopwatch exec-Queue exec-VarGet exec-VarSet exec-Branch exec-Union exec-Toggle exec-Cycle exec-SendEvent
-  step n s i z =
+  step inside n s i z =
       let y = fewer z in
       let P = Stepped-counts n in
       if-both P _ y

@@ -39,13 +39,13 @@ module _ (Q : ℕ → Type 0) (z : Q 0) (r : Q runaway) (f : Q list-full) (l : Q
           Q ((elim x as (λ _. Chained) [
             | none ↦ chained s (suc left) 0 q
             | some t ↦
-                let d = exec-gate c s (t .input) in
+                let d = exec-gate c false s (t .input) in
                 let r = push-calls c (d .next) (t .rest) in
                 elim (fit r && not (d .full)) [ true ↦ run-chain c left r (d .state) | false ↦ chained (d .state) left list-full r ]
           ]) .stop)
       go none rec = z
       go (some t) rec =
-          let d = exec-gate c s (t .input) in
+          let d = exec-gate c false s (t .input) in
           let r = push-calls c (d .next) (t .rest) in
           fits (fit r && not (d .full)) d r rec
         where

@@ -16,11 +16,11 @@ use Rattle.model.specs.declared.Value.the-variants.{Nothing, Float}
 use Rattle.model.specs.Base.{if_then_else_}
 use Rattle.model.specs.Value.{same}
 use Rattle.model.specs.Circuit.{Circuit, input, output, source, stored-in, gate-at-output, watching, gates}
-use Rattle.model.specs.State.{Wires, outs≔, dirty≔, to-check≔}
-use Rattle.model.specs.Wires.{shown, show, is-dirty, soil, clean, watch, look, compute, recompute, behind, refresh, refresh-all, ready, mark-readers, set-out, set-outs}
+use Rattle.model.specs.State.{Wires, outs≔, dirty≔, to-check≔, late-checks≔}
+use Rattle.model.specs.Wires.{shown, show, is-dirty, soil, clean, watch, look, compute, recompute, behind, refresh, refresh-all, ready, mark-readers-for, mark-readers, set-out, set-outs}
 use Rattle.model.specs.Questions.{finite}
 use Rattle.model.proofs.Lists.{places-set, if-both, each-keeps, not-so, clash, neither-among}
-use Rattle.model.proofs.Sized.{Sized-wires, watch-sized, recompute-sized, behind-keeps, mark-readers-keeps, set-out-sized}
+use Rattle.model.proofs.Sized.{Sized-wires, watch-sized, recompute-sized, behind-keeps, mark-readers-for-keeps, set-out-sized}
 use Rattle.model.proofs.Stale.{Due, Refreshed, done, next, refresh-to-refreshed, all-clean}
 use Rattle.model.proofs.Reals.{Real, finite-real}
 use Rattle.model.proofs.Wired.{Wired}
@@ -30,7 +30,7 @@ use Rattle.model.proofs.Right.{Except, taking, all-fresh, Other, All-ri
 pub set-real : (vs : List Value) (i : ℕ) (v : Value) → Real v → ((o : ℕ) → Real (getD vs o Nothing)) → (o : ℕ) → Real (getD (set vs i v) o Nothing)
 set-real vs i v r k = places-set (λ _ (v : Value). Real v) vs i v Nothing r k
 
--- wires that differ at most in what outputs show, in which gates are stale and in which inputs wait
+-- wires that differ at most in what outputs show, in which gates are stale and in which inputs wait, for a late check or not
 pub record Apart (w v : Wires) : Type 0 where
   pub tick : v .tick ≡ w .tick
   pub dt : v .dt ≡ w .dt
@@ -38,10 +38,13 @@ pub record Apart (w v : Wires) : Type 0 where
   pub last : v .last ≡ w .last
   pub pulses : v .pulses ≡ w .pulses
   pub written : v .written ≡ w .written
+  pub outside : v .written-outside ≡ w .written-outside
   pub passed : v .unions-passed ≡ w .unions-passed
+  pub breaking : v .breaking ≡ w .breaking
+  pub runs : v .runs-left ≡ w .runs-left
 
 pub not-apart : (w : Wires) → Apart w w
-not-apart w = record { tick = refl; dt = refl; uptime = refl; last = refl; pulses = refl; written = refl; passed = refl }
+not-apart w = record { tick = refl; dt = refl; uptime = refl; last = refl; pulses = refl; written = refl; outside = refl; passed = refl; breaking = refl; runs = refl }
 
 pub apart-on : {w v u : Wires} → Apart w v → Apart v u → Apart w u
 apart-on a b =
@@ -52,7 +55,10 @@ apart-on a b =
       last = b .last ∙ a .last;
       pulses = b .pulses ∙ a .pulses;
       written = b .written ∙ a .written;
+      outside = b .outside ∙ a .outside;
       passed = b .passed ∙ a .passed;
+      breaking = b .breaking ∙ a .breaking;
+      runs = b .runs ∙ a .runs;
     }
 
 pub apart-back : {w v : Wires} → Apart w v → Apart v w
@@ -64,7 +70,10 @@ apart-back a =
       last = sym (a .last);
       pulses = sym (a .pulses);
       written = sym (a .written);
+      outside = sym (a .outside);
       passed = sym (a .passed);
+      breaking = sym (a .breaking);
+      runs = sym (a .runs);
     }
 
 -- and not in what outputs show
@@ -81,13 +90,18 @@ alike-again a b = record { apart = apart-on (a .apart) (b .apart); outs = b .out
 pub soil-alike : (w : Wires) (g : ℕ) → Alike w (soil w g)
 unfolding soil dirty≔
 soil-alike w g =
-    record { apart = record { tick = refl; dt = refl; uptime = refl; last = refl; pulses = refl; written = refl; passed = refl }; outs = refl }
+    record { apart = record { tick = refl; dt = refl; uptime = refl; last = refl; pulses = refl; written = refl; outside = refl; passed = refl; breaking = refl; runs = refl }; outs = refl }
 
 watch-alike : (w : Wires) (i : ℕ) → Alike w (watch w i)
 unfolding watch to-check≔
 watch-alike w i =
     if-both (Alike w) _ (alike-itself w)
-    (record { apart = record { tick = refl; dt = refl; uptime = refl; last = refl; pulses = refl; written = refl; passed = refl }; outs = refl })
+    (record { apart = record { tick = refl; dt = refl; uptime = refl; last = refl; pulses = refl; written = refl; outside = refl; passed = refl; breaking = refl; runs = refl }; outs = refl })
+
+late-alike : (w : Wires) (i : ℕ) → Alike w (late-checks≔ w (set (w .late-checks) i true))
+unfolding late-checks≔
+late-alike w i =
+    record { apart = record { tick = refl; dt = refl; uptime = refl; last = refl; pulses = refl; written = refl; outside = refl; passed = refl; breaking = refl; runs = refl }; outs = refl }
 
 module _ (c : Circuit) where
   pub record Fine (t : Except) (late : List ℕ) (w : Wires) : Type 0 where
@@ -117,8 +131,14 @@ module _ (c : Circuit) where
 
   -- ---- marking
 
+  pub marked-for-alike : (late : Bool) (w : Wires) (o : ℕ) → Alike w (mark-readers-for c late w o)
+  marked-for-alike late w o =
+      mark-readers-for-keeps c (Alike w) (λ v g p a. alike-again a (soil-alike v g)) (λ v i q a. alike-again a (watch-alike v i))
+      late (λ _ v i a. alike-again a (late-alike v i)) w o (alike-itself w)
+
   pub marked-alike : (w : Wires) (o : ℕ) → Alike w (mark-readers c w o)
-  marked-alike w o = mark-readers-keeps c (Alike w) (λ v g p a. alike-again a (soil-alike v g)) (λ v i q a. alike-again a (watch-alike v i)) w o (alike-itself w)
+  unfolding mark-readers
+  marked-alike = marked-for-alike false
 
   module _ (W : Wired c) (t : Except) (late : List ℕ) where
     pub watch-fine : (w : Wires) (i : ℕ) → watching c i ≡ true → Fine t late w → Fine t late (watch w i)

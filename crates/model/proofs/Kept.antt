@@ -14,16 +14,16 @@ use Rattle.schedule.specs.Promise.{All, [·], _∷·_}
 use Rattle.schedule.proofs.Members.{all-append}
 use Rattle.model.specs.declared.Value.{Value}
 use Rattle.model.specs.declared.Value.the-variants.{Nothing}
-use Rattle.model.specs.Base.{snoc, among, from}
+use Rattle.model.specs.Base.{each, snoc, among, from}
 use Rattle.model.specs.Kinds.{pure, time-source}
 use Rattle.model.specs.Circuit.{Circuit, most-gates, kind-of-gate, gate-at-input, watching, gates, gates-of}
 use Rattle.model.specs.Script.{Given}
-use Rattle.model.specs.State.{Wires, State, Delay, Act, Send, times≔, last≔, pulses≔, written≔, unions-passed≔, wires≔, delays≔, outbox≔, changed≔}
-use Rattle.model.specs.Wires.{is-dirty, watch, ready, mark-readers, invalidate}
+use Rattle.model.specs.State.{Wires, State, Delay, Act, Send, times≔, last≔, pulses≔, written≔, written-outside≔, unions-passed≔, runs-left≔, wires≔, delays≔, outbox≔, changed≔}
+use Rattle.model.specs.Wires.{is-dirty, watch, ready, invalidate}
 use Rattle.model.specs.Delays.{Started}
-use Rattle.model.specs.Exec.{Stepped, fires-next, ends, count-changed, delay≔, set-output, readied, var, record-write, exec-Buffer, exec-Stopwatch, exec-Queue, exec-VarGet, exec-VarSet, exec-Branch, exec-Union, exec-Toggle, exec-Cycle, exec-SendEvent, exec-kind, exec-gate}
+use Rattle.model.specs.Exec.{Stepped, fires-next, ends, count-changed, delay≔, set-output, readied, var, write-once, record-write, exec-Buffer, exec-Stopwatch, exec-Queue, exec-VarGet, exec-VarSet, exec-Branch, exec-Union, exec-Toggle, exec-Cycle, exec-SendEvent, exec-kind, exec-gate}
 use Rattle.model.specs.Chain.{Calls, run-chain}
-use Rattle.model.specs.Settle.{Settled, calm, raise, publish-writes, pulse, compared, check, check-on, settle}
+use Rattle.model.specs.Settle.{Settled, calm, raise, none-written, publish-write, publish-writes, pulse, compared, check, check-on, settle}
 use Rattle.model.specs.Opening.{wires-stale, wires-fresh, wires-at-start, start, Opened, next-tick, begin-tick, lower, before-settling, open-tick}
 use Rattle.model.specs.Unit.{World, enter, run-unit}
 use Rattle.model.specs.Closing.{read-outputs}
@@ -32,7 +32,7 @@ use Rattle.model.proofs.Walks.{run-chain-keeps, check-on-keeps, Opened-
 use Rattle.model.proofs.Checks.{detect-keeps}
 use Rattle.model.proofs.Laid.{Laid}
 use Rattle.model.proofs.Once.{Once, empty, added, among-map}
-use Rattle.model.proofs.Sized.{Sized-memory, Sized-wires, Sized, show-sized, soil-sized, watch-sized, refresh-all-sized, ready-sized, mark-readers-sized, set-out-sized, set-outs-sized, taken-sized}
+use Rattle.model.proofs.Sized.{Sized-memory, Sized-wires, Sized, show-sized, soil-sized, watch-sized, refresh-all-sized, ready-sized, mark-readers-for-sized, mark-readers-sized, set-out-sized, set-outs-sized, taken-sized}
 
 map-snoc : {A B : Type 0} (f : A → B) (xs : List A) (x : A) → map f (snoc xs x) ≡ snoc (map f xs) (f x)
 unfolding snoc
@@ -60,30 +60,40 @@ module _ (c : Circuit) where
 
   -- what is remembered is changed
   memory-sized :
-      {w : Wires} {last : List (Option Value)} {pulses written : List ℕ} {passed : List Bool} → Sized-wires c w → Sized-memory c last pulses written passed →
-      Sized-wires c (unions-passed≔ (written≔ (pulses≔ (last≔ w last) pulses) written) passed)
-  unfolding unions-passed≔ written≔ pulses≔ last≔ is-dirty
-  memory-sized z m = record { outs = z .outs; dirty = z .dirty; queued = z .queued; stale = z .stale; waiting = z .waiting; asked = z .asked; memory = m }
+      {w : Wires} {last : List (Option Value)} {pulses written : List ℕ} {outside passed : List Bool} → Sized-wires c w → Sized-memory c last pulses written outside passed →
+      Sized-wires c (unions-passed≔ (written-outside≔ (written≔ (pulses≔ (last≔ w last) pulses) written) outside) passed)
+  unfolding unions-passed≔ written-outside≔ written≔ pulses≔ last≔ is-dirty
+  memory-sized z m = record { outs = z .outs; dirty = z .dirty; queued = z .queued; late = z .late; stale = z .stale; waiting = z .waiting; asked = z .asked; memory = m }
 
   pub last-sized : {w : Wires} (i : ℕ) (v : Option Value) → Sized-wires c w → Sized-wires c (last≔ w (set (w .last) i v))
-  unfolding unions-passed≔ written≔ pulses≔ last≔
+  unfolding unions-passed≔ written-outside≔ written≔ pulses≔ last≔
   last-sized {w} i v z =
       let m = z .memory in
-      memory-sized z (record { last = length-set (w .last) i v ∙ m .last; pulses = m .pulses; written = m .written; passed = m .passed })
+      memory-sized z (record { last = length-set (w .last) i v ∙ m .last; pulses = m .pulses; written = m .written; outside = m .outside; passed = m .passed })
 
   pub pulses-sized : {w : Wires} (o t : ℕ) → Sized-wires c w → Sized-wires c (pulses≔ w (set (w .pulses) o t))
-  unfolding unions-passed≔ written≔ pulses≔ last≔
+  unfolding unions-passed≔ written-outside≔ written≔ pulses≔ last≔
   pulses-sized {w} o t z =
       let m = z .memory in
-      memory-sized z (record { last = m .last; pulses = length-set (w .pulses) o t ∙ m .pulses; written = m .written; passed = m .passed })
+      memory-sized z (record { last = m .last; pulses = length-set (w .pulses) o t ∙ m .pulses; written = m .written; outside = m .outside; passed = m .passed })
 
   written-sized : {w : Wires} (x : List ℕ) → Once (map (var c) (gates c)) x → Sized-wires c w → Sized-wires c (written≔ w x)
-  unfolding unions-passed≔ written≔ pulses≔ last≔
-  written-sized x o z = let m = z .memory in memory-sized z (record { last = m .last; pulses = m .pulses; written = o; passed = m .passed })
+  unfolding unions-passed≔ written-outside≔ written≔ pulses≔ last≔
+  written-sized x o z = let m = z .memory in memory-sized z (record { last = m .last; pulses = m .pulses; written = o; outside = m .outside; passed = m .passed })
+
+  pub outside-sized : {w : Wires} (x : List Bool) → length x ≡ length (w .written-outside) → Sized-wires c w → Sized-wires c (written-outside≔ w x)
+  unfolding unions-passed≔ written-outside≔ written≔ pulses≔ last≔
+  outside-sized x e z =
+      let m = z .memory in memory-sized z (record { last = m .last; pulses = m .pulses; written = m .written; outside = e ∙ m .outside; passed = m .passed })
 
   pub passed-sized : {w : Wires} (x : List Bool) → length x ≡ length (w .unions-passed) → Sized-wires c w → Sized-wires c (unions-passed≔ w x)
-  unfolding unions-passed≔ written≔ pulses≔ last≔
-  passed-sized x e z = let m = z .memory in memory-sized z (record { last = m .last; pulses = m .pulses; written = m .written; passed = e ∙ m .passed })
+  unfolding unions-passed≔ written-outside≔ written≔ pulses≔ last≔
+  passed-sized x e z = let m = z .memory in memory-sized z (record { last = m .last; pulses = m .pulses; written = m .written; outside = m .outside; passed = e ∙ m .passed })
+
+  pub runs-sized : {w : Wires} (n : ℕ) → Sized-wires c w → Sized-wires c (runs-left≔ w n)
+  unfolding runs-left≔ is-dirty
+  runs-sized n z =
+      record { outs = z .outs; dirty = z .dirty; queued = z .queued; late = z .late; stale = z .stale; waiting = z .waiting; asked = z .asked; memory = z .memory }
 
   outbox-sized : {s : State} (x : List Send) → Once (gates c) (map (λ (m : Send). m .gate) x) → Sized c s → Sized c (outbox≔ s x)
   unfolding outbox≔
@@ -123,17 +133,22 @@ module _ (c : Circuit) where
   unfolding exec-Queue ends
   Queue-sized s g k z = count-sized _ (delay-sized _ _ (readied-sized _ _ _ z))
 
-  pub record-write-sized : {w : Wires} (g : ℕ) → eqb (kind-of-gate c g) 0 ≡ false → Sized-wires c w → Sized-wires c (record-write c w (var c g))
-  unfolding record-write
-  record-write-sized {w} g h z =
+  pub write-once-sized : {w : Wires} (g : ℕ) → eqb (kind-of-gate c g) 0 ≡ false → Sized-wires c w → Sized-wires c (write-once c w (var c g))
+  unfolding write-once
+  write-once-sized {w} g h z =
       if-by (Sized-wires c) (among (var c g) (w .written) || leb most-gates (length (w .written))) (λ _. z)
       λ e. written-sized _ (added (var c g) (z .memory .written) (among-map (var c) g (gates c) (gate-in g h)) (either-false (among (var c g) (w .written)) _ e .0)) z
 
-  VarSet-sized : (s : State) (g : ℕ) → eqb (kind-of-gate c g) 0 ≡ false → Sized c s → Stepped-sized (exec-VarSet c s g)
+  record-write-sized :
+      {w : Wires} (inside : Bool) (g : ℕ) → eqb (kind-of-gate c g) 0 ≡ false → Sized-wires c w → Sized-wires c (record-write c inside w (var c g))
+  unfolding record-write
+  record-write-sized {w} inside g h z = write-once-sized g h (if-both (Sized-wires c) inside z (outside-sized _ (length-set (w .written-outside) _ true) z))
+
+  VarSet-sized : (inside : Bool) (s : State) (g : ℕ) → eqb (kind-of-gate c g) 0 ≡ false → Sized c s → Stepped-sized (exec-VarSet c inside s g)
   unfolding exec-VarSet fires-next
-  VarSet-sized s g h z =
+  VarSet-sized inside s g h z =
       let y = readied-sized _ _ _ z in
-      wires-sized y (record-write-sized g h (show-sized c _ _ _ (y .wires)))
+      wires-sized y (record-write-sized inside g h (show-sized c _ _ _ (y .wires)))
 
   Union-sized : (s : State) (g : ℕ) → Sized c s → Stepped-sized (exec-Union c s g)
   unfolding exec-Union fires-next ends
@@ -158,25 +173,25 @@ module _ (c : Circuit) where
       go true h e = named k 24 (omega arith) h
       go false h e = named k 25 (omega arith) e
 
-  exec-kind-sized : (s : State) (g p : ℕ) → Sized c s → Stepped-sized (exec-kind c (kind-of-gate c g) s g p)
+  exec-kind-sized : (inside : Bool) (s : State) (g p : ℕ) → Sized c s → Stepped-sized (exec-kind c inside (kind-of-gate c g) s g p)
   unfolding exec-kind fires-next ends exec-VarGet exec-Branch exec-Toggle exec-Cycle
-  exec-kind-sized s g p z =
+  exec-kind-sized inside s g p z =
       if-both Stepped-sized _ z
       (if-both Stepped-sized _ (Buffer-sized s g z)
       (if-both Stepped-sized _ (Stopwatch-sized s g p z)
       (if-both Stepped-sized _ (Queue-sized s g _ z)
       (if-both Stepped-sized _ (Queue-sized s g _ z)
       (if-both Stepped-sized _ (set-output-sized _ _ z)
-      (if-by Stepped-sized (eqb (kind-of-gate c g) 19) (λ e. VarSet-sized s g (named (kind-of-gate c g) 19 (omega arith) e) z) λ _.
+      (if-by Stepped-sized (eqb (kind-of-gate c g) 19) (λ e. VarSet-sized inside s g (named (kind-of-gate c g) 19 (omega arith) e) z) λ _.
       (if-both Stepped-sized _ (readied-sized _ _ _ z)
       (if-both Stepped-sized _ (Union-sized s g z)
       (if-both Stepped-sized _ (set-output-sized _ _ z)
       (if-both Stepped-sized _ (set-output-sized _ _ (readied-sized _ _ _ z))
       (if-by Stepped-sized (eqb (kind-of-gate c g) 24 || eqb (kind-of-gate c g) 25) (λ e. SendEvent-sized s g (sends (kind-of-gate c g) e) z) λ _. z)))))))))))
 
-  pub exec-gate-sized : (s : State) (i : ℕ) → Sized c s → Stepped-sized (exec-gate c s i)
+  pub exec-gate-sized : (inside : Bool) (s : State) (i : ℕ) → Sized c s → Stepped-sized (exec-gate c inside s i)
   unfolding exec-gate
-  exec-gate-sized s i z = exec-kind-sized s _ _ z
+  exec-gate-sized inside s i z = exec-kind-sized inside s _ _ z
 
   -- ---- a chain
 
@@ -186,8 +201,10 @@ module _ (c : Circuit) where
   -- ---- settling
 
   pub publish-writes-sized : (w : Wires) → Sized-wires c w → Sized-wires c (publish-writes c w)
-  unfolding publish-writes
-  publish-writes-sized w z = written-sized [] empty (each-keeps (Sized-wires c) (mark-readers c) (mark-readers-sized c) w (w .written) z)
+  unfolding publish-writes publish-write none-written written≔
+  publish-writes-sized w z =
+      let y = each-keeps (Sized-wires c) (publish-write c) (λ u o. mark-readers-for-sized c _ u o) w (w .written) z in
+      outside-sized _ (length-map (each (publish-write c) w (w .written) .written-outside) _) (written-sized [] empty y)
 
   -- each state in which something is raised
   abbrev pub Raises-sized : {P : Type 0} → List (Raise State Act P) → Type 0
@@ -238,6 +255,7 @@ module _ (c : Circuit) where
             (length-replicate (length (c .outputs)) Nothing);
         dirty = length-map (c .kinds) pure;
         queued = length-replicate (length (c .pins)) false;
+        late = length-replicate (length (c .pins)) false;
         stale = λ g e. sym (List·getD-map pure (c .kinds) g 0) ∙ e;
         waiting = omega arith;
         asked = [·];
@@ -246,6 +264,7 @@ module _ (c : Circuit) where
               last = length-replicate (length (c .pins)) none;
               pulses = length-replicate (length (c .outputs)) 0;
               written = empty;
+              outside = length-replicate (length (c .kinds)) false;
               passed = length-replicate (length (c .kinds)) false;
             };
       }
@@ -274,12 +293,12 @@ module _ (c : Circuit) where
 
   pub times-sized : (w : Wires) (t x y : ℕ) → Sized-wires c w → Sized-wires c (times≔ w t x y)
   unfolding times≔ is-dirty
-  times-sized w t x y z = record { outs = z .outs; dirty = z .dirty; queued = z .queued; stale = z .stale; waiting = z .waiting; asked = z .asked; memory = z .memory }
+  times-sized w t x y z = record { outs = z .outs; dirty = z .dirty; queued = z .queued; late = z .late; stale = z .stale; waiting = z .waiting; asked = z .asked; memory = z .memory }
 
   begin-tick-sized : (s : State) (dt : ℕ) → Sized c s → Sized c (begin-tick s dt)
   unfolding begin-tick next-tick times≔
   begin-tick-sized s dt z =
-      changed-sized _ (outbox-sized [] empty (wires-sized z (passed-sized _ (length-map (s .wires .unions-passed) _) (times-sized (s .wires) _ _ _ (z .wires)))))
+      changed-sized _ (outbox-sized [] empty (wires-sized z (runs-sized _ (passed-sized _ (length-map (s .wires .unions-passed) _) (times-sized (s .wires) _ _ _ (z .wires))))))
 
   lower-sized : (w : Wires) (o : ℕ) → Sized-wires c w → Sized-wires c (lower c w o)
   unfolding lower

@@ -22,9 +22,9 @@ use Rattle.model.specs.declared.Value.the-variants.{Nothing}
 use Rattle.model.specs.Base.{if_then_else_, each, keep, snoc, from}
 use Rattle.model.specs.Circuit.{Circuit, circuit, kind-of-gate, input, gate-at-input, watching}
 use Rattle.model.specs.Script.{Given}
-use Rattle.model.specs.State.{Wires, State, Act, outs≔, dirty≔, to-check≔, last≔, wires≔}
+use Rattle.model.specs.State.{Wires, State, Act, outs≔, dirty≔, to-check≔, late-checks≔, last≔, wires≔}
 use Rattle.model.specs.Wires.{show, clean, watch, look, recompute, ready}
-use Rattle.model.specs.Settle.{raise, last-value, unchanged, detect, compared, check, check-on, settle}
+use Rattle.model.specs.Settle.{raise, last-value, unchanged, taken, detect, compared, check, check-on, settle}
 use Rattle.model.specs.Opening.{wires-stale, wires-fresh, wires-at-start, start, pending, fire, before-settling, open-tick}
 use Rattle.model.specs.Unit.{World, state≔, raises-in}
 use Rattle.model.specs.Run.{Allowed, opening, machine, world-at-start}
@@ -243,7 +243,7 @@ pub begins-first :
     (areas : Option Areas) (circuit-bytes script-bytes : List ℕ) → refusal areas circuit-bytes script-bytes ≡ 0 →
     let c = circuit (words circuit-bytes) in
     (room : ℕ) (i : Allowed) (j : ℕ) → j < length (c .pins) → watching c j ≡ true → Begins-first c room i j
-unfolding fire-of fire if_then_else_ wires≔ to-check≔
+unfolding fire-of fire if_then_else_ wires≔ taken to-check≔ late-checks≔
 begins-first areas cb sb h room i j l q k e =
     let c = circuit (words cb) in
     let z = noticed areas cb sb h .in-tick-1 room i .each j l q in

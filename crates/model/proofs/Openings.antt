@@ -67,7 +67,7 @@ module _ (c : Circuit) (W : Wired c) where
   pub itself-near : (s : State) → State-near s s
   itself-near s =
       record {
-        wires = record { aside = record { apart = not-apart (s .wires); to-check = refl; queued = refl }; shown = λ o k. refl };
+        wires = record { aside = record { apart = not-apart (s .wires); to-check = refl; queued = refl; late = refl }; shown = λ o k. refl };
         delays = refl;
         outbox = refl;
         changed = refl;

@@ -29,12 +29,13 @@ pub record Aside (w v : Wires) : Type 0 where
   pub apart : Apart w v
   pub to-check : v .to-check ≡ w .to-check
   pub queued : v .queued ≡ w .queued
+  pub late : v .late-checks ≡ w .late-checks
 
 pub aside-on : {w v u : Wires} → Aside w v → Aside v u → Aside w u
-aside-on a b = record { apart = apart-on (a .apart) (b .apart); to-check = b .to-check ∙ a .to-check; queued = b .queued ∙ a .queued }
+aside-on a b = record { apart = apart-on (a .apart) (b .apart); to-check = b .to-check ∙ a .to-check; queued = b .queued ∙ a .queued; late = b .late ∙ a .late }
 
 pub aside-back : {w v : Wires} → Aside w v → Aside v w
-aside-back a = record { apart = apart-back (a .apart); to-check = sym (a .to-check); queued = sym (a .queued) }
+aside-back a = record { apart = apart-back (a .apart); to-check = sym (a .to-check); queued = sym (a .queued); late = sym (a .late) }
 
 module _ (c : Circuit) where
   -- no gate is stale
@@ -46,7 +47,7 @@ module _ (c : Circuit) where
   recompute-aside : (w : Wires) (g : ℕ) → Aside w (recompute c w g)
   unfolding recompute show clean outs≔ dirty≔
   recompute-aside w g =
-      record { apart = record { tick = refl; dt = refl; uptime = refl; last = refl; pulses = refl; written = refl; passed = refl }; to-check = refl; queued = refl }
+      record { apart = record { tick = refl; dt = refl; uptime = refl; last = refl; pulses = refl; written = refl; outside = refl; passed = refl; breaking = refl; runs = refl }; to-check = refl; queued = refl; late = refl }
 
   -- a gate that is not stale is left as it is
   refresh-to-clean : (n : ℕ) (w : Wires) (g : ℕ) → is-dirty w g ≡ false → refresh-to c n w g ≡ w
@@ -56,7 +57,7 @@ module _ (c : Circuit) where
 
   module _ (W : Wired c) where
     refreshed-aside : {m : ℕ} {w v : Wires} → Refreshed c (W .heights) m w v → Aside w v
-    refreshed-aside {w = w} done = record { apart = not-apart w; to-check = refl; queued = refl }
+    refreshed-aside {w = w} done = record { apart = not-apart w; to-check = refl; queued = refl; late = refl }
     refreshed-aside (next {w = w} g b d r) = aside-on (recompute-aside w g) (refreshed-aside r)
 
     -- an output whose gate was not stale shows what it showed
@@ -191,9 +192,9 @@ module _ (c : Circuit) where
               let q : length (w .outs) ≤ o = omega (arith, f .sized .outs, ltb-false o (length (c .outputs)) l) in
               List·getD-eq-default (v .outs) Nothing p ∙ sym (List·getD-eq-default (w .outs) Nothing q)
 
-      pub rests-same : v .to-check ≡ w .to-check → v .queued ≡ w .queued → v ≡ w
+      pub rests-same : v .to-check ≡ w .to-check → v .queued ≡ w .queued → v .late-checks ≡ w .late-checks → v ≡ w
       unfolding shown is-dirty
-      rests-same x y =
+      rests-same x y z =
           let outs = places-same (v .outs) (w .outs) Nothing (h .sized .outs ∙ sym (f .sized .outs)) all-same in
           let dirty = places-same (v .dirty) (w .dirty) false (h .sized .dirty ∙ sym (f .sized .dirty)) (λ g. k g ∙ sym (j g)) in
           λ i.
@@ -205,8 +206,12 @@ module _ (c : Circuit) where
             dirty = dirty i;
             to-check = x i;
             queued = y i;
+            late-checks = z i;
             last = a .last i;
             pulses = a .pulses i;
             written = a .written i;
+            written-outside = a .outside i;
             unions-passed = a .passed i;
+            breaking = a .breaking i;
+            runs-left = a .runs i;
           }

@@ -16,12 +16,12 @@ use Rattle.model.specs.declared.Value.the-variants.{Nothing}
 use Rattle.model.specs.Base.{if_then_else_, all, each, snoc, among}
 use Rattle.model.specs.Kinds.{kind-at, pure, time-source}
 use Rattle.model.specs.Circuit.{Circuit, kind-of-gate, input, output, inputs-of, gate-at-input, source, gate-at-output, readers-of, watching}
-use Rattle.model.specs.State.{Wires, outs≔, dirty≔, to-check≔}
-use Rattle.model.specs.Wires.{shown, show, is-dirty, is-clean, soil, clean, watch, Marking, look, compute, recompute, mark-reader, mark-on, mark-readers, invalidate, set-out}
+use Rattle.model.specs.State.{Wires, outs≔, dirty≔, to-check≔, late-checks≔}
+use Rattle.model.specs.Wires.{shown, show, is-dirty, is-clean, soil, clean, watch, watch-for, Marking, look, compute, recompute, mark-reader, mark-on, mark-readers-for, mark-readers, invalidate, set-out}
 use Rattle.model.proofs.Lists.{if-both, if-by, each-keeps-all, each-brings, among-all, count-most, not-so, clash, among-first, among-later, among-either, among-none, among-neither, neither-among, from-among, mark-kept, marked-here, mark-was, marked-in}
 use Rattle.model.proofs.Laid.{Laid}
 use Rattle.model.proofs.Checks.{pure-kind}
-use Rattle.model.proofs.Sized.{Sized-wires, show-sized, soil-sized, watch-sized}
+use Rattle.model.proofs.Sized.{Sized-wires, watch-for-keeps, show-sized, soil-sized, watch-sized, late-sized}
 use Rattle.model.proofs.Roomy.{few-roomy}
 use Rattle.model.proofs.Placing.{pure-in}
 use Rattle.model.proofs.Marking.{fresh, to-do, readers-to-do}
@@ -211,6 +211,18 @@ module _ (c : Circuit) where
         (alike-but t t late work w (to-check≔ w (snoc (w .to-check) i) (set (w .queued) i true)) refl refl refl refl refl refl
         (λ j n. (n, λ e. mark-kept true (w .queued) i j e)) r)
 
+    late-right : (w : Wires) (i : ℕ) (work : List ℕ) → All-right t late work w → All-right t late work (late-checks≔ w (set (w .late-checks) i true))
+    unfolding late-checks≔
+    late-right w i work r = alike t late work w (late-checks≔ w (set (w .late-checks) i true)) refl refl refl refl refl r
+
+    -- an input is queued, for a late check or not
+    watch-for-marks : (o : ℕ) (b : Bool) (w : Wires) (i : ℕ) (work : List ℕ) → watching c i ≡ true → Sized-wires c w → All-right t late (o ∷ work) w → Marks o (record { wires = watch-for b w i; work = work; late = b })
+    watch-for-marks o b w i work q z r =
+        record {
+          sized = watch-for-keeps (Sized-wires c) b w i (λ v. watch-sized c v i q) (λ _. late-sized c w i z) z;
+          right = watch-for-keeps (All-right t late (o ∷ work)) b w i (λ v. watch-right v i (o ∷ work)) (λ _. late-right w i (o ∷ work) r) r;
+        }
+
     -- a reader of o, whose gate has an input
     reader-marks : (o : ℕ) (m : Marking) (i : ℕ) → time-source (kind-of-gate c (gate-at-input c i)) ≡ false → Marks o m → Marks o (mark-reader c m i)
     unfolding mark-reader
@@ -224,7 +236,7 @@ module _ (c : Circuit) where
               (soil-right (m .wires) (gate-at-input c i) (o ∷ m .work) p (λ e. clash e u) (k .right));
         }) k)
         (λ _. if-by (Marks o) (watching c i)
-        (λ q. record { sized = watch-sized c (m .wires) i q (k .sized); right = watch-right (m .wires) i (o ∷ m .work) (k .right) }) (λ _. k))
+        (λ q. watch-for-marks o (m .late) (m .wires) i (m .work) q (k .sized) (k .right)) (λ _. k))
       where
         swap : (x q : ℕ) → among q (x ∷ o ∷ m .work) ≡ true → among q (o ∷ x ∷ m .work) ≡ true
         swap x q e = go (among-either q x (o ∷ m .work) e)
@@ -239,13 +251,16 @@ module _ (c : Circuit) where
 
     -- a stale gate stays stale
     reader-stale : (g : ℕ) (m : Marking) (i : ℕ) → is-dirty (m .wires) g ≡ true → is-dirty (mark-reader c m i .wires) g ≡ true
-    unfolding mark-reader soil watch dirty≔ to-check≔ is-dirty
+    unfolding mark-reader soil watch dirty≔ to-check≔ late-checks≔ is-dirty
     reader-stale g m i e =
         if-both Stale _ (if-both Stale _ (mark-kept false (m .wires .dirty) (gate-at-input c i) g e) e)
-        (if-both Stale _ (if-both (λ (w : Wires). getD (w .dirty) g false ≡ true) _ e e) e)
+        (if-both Stale _ (watch-for-keeps Dirty (m .late) (m .wires) i (λ w e. if-both Dirty _ e e) (λ _. e) e) e)
       where
         Stale : Marking → Type 0
         Stale r = getD (r .wires .dirty) g false ≡ true
+
+        Dirty : Wires → Type 0
+        Dirty w = getD (w .dirty) g false ≡ true
 
     -- the gate of a marked reader is stale
     reader-now :
@@ -262,21 +277,29 @@ module _ (c : Circuit) where
 
     -- an input that waits goes on waiting
     reader-waits : (j : ℕ) (m : Marking) (i : ℕ) → getD (m .wires .queued) j true ≡ true → getD (mark-reader c m i .wires .queued) j true ≡ true
-    unfolding mark-reader soil watch dirty≔ to-check≔
+    unfolding mark-reader soil watch dirty≔ to-check≔ late-checks≔
     reader-waits j m i e =
-        if-both Waiting _ (if-both Waiting _ e e) (if-both Waiting _ (if-both (λ (w : Wires). getD (w .queued) j true ≡ true) _ e (mark-kept true (m .wires .queued) i j e)) e)
+        if-both Waiting _ (if-both Waiting _ e e)
+        (if-both Waiting _ (watch-for-keeps Queued (m .late) (m .wires) i (λ w e. if-both Queued _ e (mark-kept true (w .queued) i j e)) (λ _. e) e) e)
       where
         Waiting : Marking → Type 0
         Waiting r = getD (r .wires .queued) j true ≡ true
+
+        Queued : Wires → Type 0
+        Queued w = getD (w .queued) j true ≡ true
+
+    watch-queued : (w : Wires) (i : ℕ) → Sized-wires c w → getD (watch w i .queued) i true ≡ true
+    unfolding to-check≔
+    watch-queued w i z =
+        rw (few-roomy c (W .few) .watching w i z)
+        (if-by (λ (v : Wires). getD (v .queued) i true ≡ true) (getD (w .queued) i true) (λ e. e) (λ _. marked-here (w .queued) i))
 
     -- a marked reader that is watched waits
     reader-queued :
         (m : Marking) (i : ℕ) → Sized-wires c (m .wires) → watching c i ≡ true → pure (kind-of-gate c (gate-at-input c i)) ≡ false →
         getD (mark-reader c m i .wires .queued) i true ≡ true
-    unfolding mark-reader to-check≔ if_then_else_
-    reader-queued m i z a b =
-        rw (b, a, few-roomy c (W .few) .watching (m .wires) i z)
-        (if-by (λ (w : Wires). getD (w .queued) i true ≡ true) (getD (m .wires .queued) i true) (λ e. e) (λ _. marked-here (m .wires .queued) i))
+    unfolding mark-reader watch-for if_then_else_
+    reader-queued m i z a b = rw (b, a) (watch-queued _ i (if-both (Sized-wires c) (m .late) (late-sized c (m .wires) i z) z))
 
     -- a gate that reads is no time source
     readers-fed : (o : ℕ) → all (λ i. not (time-source (kind-of-gate c (gate-at-input c i)))) (readers-of c o) ≡ true
@@ -289,15 +312,15 @@ module _ (c : Circuit) where
 
     -- when all readers of o are marked, o is no longer to be marked
     readers-right :
-        (o : ℕ) (w : Wires) (work : List ℕ) → Sized-wires c w → All-right t late (o ∷ work) w →
-        let m = each (mark-reader c) (record { wires = w; work = work }) (readers-of c o) in
+        (o : ℕ) (w : Wires) (work : List ℕ) (b : Bool) → Sized-wires c w → All-right t late (o ∷ work) w →
+        let m = each (mark-reader c) (record { wires = w; work = work; late = b }) (readers-of c o) in
         Sized-wires c (m .wires) × All-right t late (m .work) (m .wires)
-    readers-right o w work z r =
+    readers-right o w work b z r =
         let k : (m : Marking) (i : ℕ) → not (time-source (kind-of-gate c (gate-at-input c i))) ≡ true → Marks o m → Marks o (mark-reader c m i) =
         λ m i u. reader-marks o m i (not-true _ u) in
-        let first : Marks o (record { wires = w; work = work }) = record { sized = z; right = r } in
+        let first : Marks o (record { wires = w; work = work; late = b }) = record { sized = z; right = r } in
         let a = each-keeps-all (Marks o) _ (mark-reader c) k _ (readers-of c o) (readers-fed o) first in
-        let m = each (mark-reader c) (record { wires = w; work = work }) (readers-of c o) in
+        let m = each (mark-reader c) (record { wires = w; work = work; late = b }) (readers-of c o) in
         let marked : (i : ℕ) → among i (readers-of c o) ≡ true → Marked i m =
         each-brings (Marks o) Marked _ (mark-reader c) k
         (λ m i _ y. record { stale = reader-now m i (y .sized); waits = reader-queued m i (y .sized) })
@@ -331,20 +354,24 @@ module _ (c : Circuit) where
         waiting {m} i q k w p (inr e) = or-else q (m .work) (λ f. inl (k f .waits w p)) inr (among-either q o (m .work) e)
 
     mark-on-right :
-        (n : ℕ) (w : Wires) (work : List ℕ) → Sized-wires c w → All-right t late work w → fresh w + length work ≤ n →
-        All-right t late [] (mark-on c n (record { wires = w; work = work }))
+        (n : ℕ) (w : Wires) (work : List ℕ) (b : Bool) → Sized-wires c w → All-right t late work w → fresh w + length work ≤ n →
+        All-right t late [] (mark-on c n (record { wires = w; work = work; late = b }))
     unfolding mark-on to-do
-    mark-on-right zero w [] z r l = r
-    mark-on-right zero w (o ∷ work) z r l = absurd (omega arith)
-    mark-on-right (suc n) w [] z r l = r
-    mark-on-right (suc n) w (o ∷ work) z r l =
-        let a = readers-right o w work z r in
-        mark-on-right n _ _ (a .0) (a .1) (omega (arith, readers-to-do c (record { wires = w; work = work }) (readers-of c o)))
+    mark-on-right zero w [] b z r l = r
+    mark-on-right zero w (o ∷ work) b z r l = absurd (omega arith)
+    mark-on-right (suc n) w [] b z r l = r
+    mark-on-right (suc n) w (o ∷ work) b z r l =
+        let a = readers-right o w work b z r in
+        mark-on-right n _ _ _ (a .0) (a .1) (omega (arith, readers-to-do c (record { wires = w; work = work; late = b }) (readers-of c o)))
 
-    pub mark-readers-right : (w : Wires) (o : ℕ) → Sized-wires c w → All-right t late (o ∷ []) w → All-right t late [] (mark-readers c w o)
-    unfolding mark-readers fresh
-    mark-readers-right w o z r =
-        mark-on-right (suc (length (c .kinds))) w (o ∷ []) z r (omega (arith, count-most (λ _ b. not b) 0 (w .dirty), z .dirty))
+    pub mark-readers-for-right : (b : Bool) (w : Wires) (o : ℕ) → Sized-wires c w → All-right t late (o ∷ []) w → All-right t late [] (mark-readers-for c b w o)
+    unfolding mark-readers-for fresh
+    mark-readers-for-right b w o z r =
+        mark-on-right (suc (length (c .kinds))) w (o ∷ []) b z r (omega (arith, count-most (λ _ b. not b) 0 (w .dirty), z .dirty))
+
+    mark-readers-right : (w : Wires) (o : ℕ) → Sized-wires c w → All-right t late (o ∷ []) w → All-right t late [] (mark-readers c w o)
+    unfolding mark-readers
+    mark-readers-right = mark-readers-for-right false
 
     -- a time source that becomes stale, where that is excepted
     pub invalidate-right :

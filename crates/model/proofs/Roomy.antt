@@ -1,4 +1,4 @@
--- The tests of room in `watch`, `record-write` and `exec-SendEvent` are never met in a run: a circuit that is not refused has few enough gates and inputs, and
+-- The tests of room in `watch`, `write-once` and `exec-SendEvent` are never met in a run: a circuit that is not refused has few enough gates and inputs, and
 -- what waits, what was written and what was sent is listed once.
 use mathlib.Core.Path.{_≡_, refl, sym, _∙_}
 use mathlib.Core.Bool.{Bool, true, false, _||_}
@@ -13,7 +13,7 @@ use Rattle.model.specs.Kinds.{Kind, table, kind-at, kinds-opened}
 use Rattle.model.specs.Circuit.{Circuit, most-gates, most-inputs, circuit, word-at, kind-of-gate, gates}
 use Rattle.model.specs.State.{Wires, Send, State, to-check≔, written≔}
 use Rattle.model.specs.Wires.{watch}
-use Rattle.model.specs.Exec.{var, record-write}
+use Rattle.model.specs.Exec.{var, write-once}
 use Rattle.model.specs.Questions.{question-1, question-3}
 use Rattle.model.proofs.Lists.{all-places, count-most, from-length}
 use Rattle.model.proofs.Sizes.{sizes}
@@ -60,7 +60,7 @@ pub record Roomy (c : Circuit) : Type 0 where
       watch w i ≡ (if getD (w .queued) i true then w else to-check≔ w (snoc (w .to-check) i) (set (w .queued) i true))
   pub writing :
       (w : Wires) (g : ℕ) → eqb (kind-of-gate c g) 0 ≡ false → Sized-wires c w →
-      record-write c w (var c g) ≡ (if among (var c g) (w .written) then w else written≔ w (snoc (w .written) (var c g)))
+      write-once c w (var c g) ≡ (if among (var c g) (w .written) then w else written≔ w (snoc (w .written) (var c g)))
   -- a gate that has not sent in this tick finds room in the outbox
   pub sending :
       (s : State) (g : ℕ) → eqb (kind-of-gate c g) 0 ≡ false → Sized c s → among g (map (λ (m : Send). m .gate) (s .outbox)) ≡ false →
@@ -85,8 +85,8 @@ module _ (c : Circuit) (f : Few c) where
 
   write-room :
       (w : Wires) (g : ℕ) → eqb (kind-of-gate c g) 0 ≡ false → Sized-wires c w →
-      record-write c w (var c g) ≡ (if among (var c g) (w .written) then w else written≔ w (snoc (w .written) (var c g)))
-  unfolding record-write if_then_else_ gates
+      write-once c w (var c g) ≡ (if among (var c g) (w .written) then w else written≔ w (snoc (w .written) (var c g)))
+  unfolding write-once if_then_else_ gates
   write-room w g h z = go (among (var c g) (w .written)) refl
     where
       go :

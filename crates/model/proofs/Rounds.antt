@@ -2,7 +2,7 @@
 -- numbers always suffice, any number more gives the same: `bounds-suffice`, for every circuit that is not refused and every state that has its sizes. So
 -- has each world of a run in which a unit begins or a tick has ended: `run-has`. The proofs are in the files that the headings name.
 use mathlib.Core.Path.{_≡_}
-use mathlib.Core.Bool.{true}
+use mathlib.Core.Bool.{Bool, true}
 use mathlib.Core.List.{List, [], _∷_}
 use mathlib.Core.Option.{Option}
 use Prim.Native.Nat.{ℕ, suc, _+_}
@@ -15,7 +15,7 @@ use Rattle.model.specs.declared.Value.{Value}
 use Rattle.model.specs.Circuit.{Circuit, circuit}
 use Rattle.model.specs.Script.{Given}
 use Rattle.model.specs.State.{Wires, State, Act, wires≔}
-use Rattle.model.specs.Wires.{refresh-to, refresh, refresh-all, mark-on, mark-readers, set-out}
+use Rattle.model.specs.Wires.{refresh-to, refresh, refresh-all, mark-on, mark-readers-for, set-out}
 use Rattle.model.specs.Exec.{exec-gate}
 use Rattle.model.specs.Chain.{Calls, no-calls, Chained, run-chain}
 use Rattle.model.specs.Settle.{calm, check-on, most-checks, publish-writes, settle}
@@ -26,7 +26,7 @@ use Rattle.model.specs.Run.{Allowed, machine, ticks-of}
 use Rattle.model.specs.Questions.{Areas, question-1, question-3, question-6, refusal}
 use Rattle.model.proofs.Laid.{Laid, laid, Full, filled}
 use Rattle.model.proofs.Asked.{Accepted, accepted}
-use Rattle.model.proofs.Sized.{Sized-wires, Sized, refresh-sized, mark-readers-sized, set-out-sized}
+use Rattle.model.proofs.Sized.{Sized-wires, Sized, refresh-sized, mark-readers-for-sized, set-out-sized}
 use Rattle.model.proofs.Kept.{Settled-sized, Opened-sized, exec-gate-sized, run-chain-sized, publish-writes-sized, settle-sized, start-sized, open-tick-sized, read-outputs-sized}
 use Rattle.model.proofs.Roomy.{Roomy, few, few-roomy}
 use Rattle.model.proofs.Worlds.{finish-chain-sized, run-sized}
@@ -66,7 +66,8 @@ order-enough = order-suffices
 pub record Bounds-suffice (c : Circuit) : Type 0 where
   -- marking, in as many rounds as there are gates, and one
   pub marking :
-      (w : Wires) → Sized-wires c w → (o more : ℕ) → mark-on c (suc (length (c .kinds)) + more) (record { wires = w; work = o ∷ [] }) ≡ mark-readers c w o
+      (late : Bool) (w : Wires) → Sized-wires c w → (o more : ℕ) →
+      mark-on c (suc (length (c .kinds)) + more) (record { wires = w; work = o ∷ []; late = late }) ≡ mark-readers-for c late w o
   -- refreshing, as deep as there are gates
   pub refreshing : (w : Wires) → Sized-wires c w → (g more : ℕ) → refresh-to c (length (c .kinds) + more) w g ≡ refresh c w g
   -- settling, in rounds by the numbers of inputs and outputs; and at its end no input waits
@@ -88,7 +89,7 @@ pub bounds-suffice :
     (areas : Option Areas) (circuit-bytes script-bytes : List ℕ) → refusal areas circuit-bytes script-bytes ≡ 0 → Bounds-suffice (circuit (words circuit-bytes))
 bounds-suffice areas cb sb h = circuit-suffices (circuit (words cb)) (laid (words cb)) (accepted areas cb sb h .order)
 
--- ---- room (Once, Roomy): the tests of room in `watch`, `record-write` and `exec-SendEvent` are never met
+-- ---- room (Once, Roomy): the tests of room in `watch`, `write-once` and `exec-SendEvent` are never met
 
 pub roomy :
     (areas : Option Areas) (circuit-bytes script-bytes : List ℕ) → refusal areas circuit-bytes script-bytes ≡ 0 → Roomy (circuit (words circuit-bytes))
@@ -114,13 +115,13 @@ module _ (c : Circuit) where
   pub refresh-keeps : (w : Wires) (g : ℕ) → Sized-wires c w → Sized-wires c (refresh c w g)
   refresh-keeps = refresh-sized c
 
-  pub mark-readers-keeps : (w : Wires) (o : ℕ) → Sized-wires c w → Sized-wires c (mark-readers c w o)
-  mark-readers-keeps = mark-readers-sized c
+  pub mark-readers-keeps : (late : Bool) (w : Wires) (o : ℕ) → Sized-wires c w → Sized-wires c (mark-readers-for c late w o)
+  mark-readers-keeps = mark-readers-for-sized c
 
   pub set-out-keeps : (w : Wires) (o : ℕ) (v : Value) → Sized-wires c w → Sized-wires c (set-out c w o v)
   set-out-keeps = set-out-sized c
 
-  pub exec-gate-keeps : (s : State) (i : ℕ) → Sized c s → Sized c (exec-gate c s i .state)
+  pub exec-gate-keeps : (inside : Bool) (s : State) (i : ℕ) → Sized c s → Sized c (exec-gate c inside s i .state)
   exec-gate-keeps = exec-gate-sized c
 
   pub run-chain-keeps : (left : ℕ) (q : Calls) (s : State) → Sized c s → Sized c (run-chain c left q s .state)

@@ -12,13 +12,13 @@ use Rattle.model.specs.declared.Value.the-variants.{Nothing, Bool as Tru
 use Rattle.model.specs.Value.{bit, same}
 use Rattle.model.specs.Kinds.{kind-at, pure}
 use Rattle.model.specs.Circuit.{Circuit, kind-of-gate, output, gate-at-input, gate-at-output}
-use Rattle.model.specs.State.{Wires, State, outs≔, dirty≔, to-check≔, last≔, pulses≔, wires≔, delays≔, changed≔}
+use Rattle.model.specs.State.{Wires, State, outs≔, dirty≔, to-check≔, late-checks≔, last≔, pulses≔, wires≔, delays≔, changed≔}
 use Rattle.model.specs.Wires.{shown, show, soil, clean, watch, compute, recompute, ready, refresh-all, mark-readers, set-out}
 use Rattle.model.specs.Exec.{count-changed, delay≔}
-use Rattle.model.specs.Settle.{Settled, calm, raise, pulse, detect, compared, check, check-on, most-checks, settle}
+use Rattle.model.specs.Settle.{Settled, calm, raise, taken, pulse, detect, compared, check, check-on, most-checks, settle}
 use Rattle.model.proofs.Lists.{if-both, if-by, count, count-most, count-set, steady}
 use Rattle.model.proofs.Laid.{Laid}
-use Rattle.model.proofs.Walks.{taken, checked}
+use Rattle.model.proofs.Walks.{checked}
 use Rattle.model.proofs.Kept.{last-sized, pulses-sized}
 use Rattle.model.proofs.Checks.{pulses-up, pure-kind, detect-keeps}
 use Rattle.model.proofs.Sized.{Pure, taken-sized, Sized-wires, marks, show-sized, recompute-sized, ready-keeps, refresh-all-sized, mark-readers-keeps, mark-readers-sized}
@@ -138,8 +138,8 @@ module _ (c : Circuit) where
 
   -- ---- the rounds
 
-  taken-within : (n : ℕ) (w : Wires) (i : ℕ) (is : List ℕ) → w .to-check ≡ i ∷ is → Within (suc n) w → Within n (taken c w i is)
-  unfolding to-check≔ rounds
+  taken-within : (n : ℕ) (w : Wires) (i : ℕ) (is : List ℕ) → w .to-check ≡ i ∷ is → Within (suc n) w → Within n (taken w i is)
+  unfolding taken to-check≔ late-checks≔ rounds
   taken-within n w i is e z =
       record { sized = taken-sized c w i is e (z .sized); few = omega (arith, z .few, ap length e) }
 

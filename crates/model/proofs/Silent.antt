@@ -1,6 +1,6 @@
 -- Some gates have nothing more to tell: every pure gate that reads one of them is one of them, and every watched input that reads one of them waits already.
 -- Marking goes the same way whether or not these gates are stale besides.
-use mathlib.Core.Path.{_≡_, refl, sym, ap, _∙_}
+use mathlib.Core.Path.{_≡_, refl, sym, ap, subst, _∙_}
 use mathlib.Core.Bool.{Bool, true, false, not, _||_, or-true, or-false, or-assoc}
 use mathlib.Core.List.{List, [], _∷_}
 use Prim.Native.Nat.{ℕ, zero, suc, _+_, _≤_}
@@ -12,10 +12,10 @@ use borrow.Author.Tests.{eqb-true, eqb-false}
 use Rattle.model.specs.Base.{if_then_else_, each, snoc, among}
 use Rattle.model.specs.Kinds.{pure}
 use Rattle.model.specs.Circuit.{Circuit, most-inputs, kind-of-gate, output, gate-at-input, readers-of, watching}
-use Rattle.model.specs.State.{Wires, dirty≔, to-check≔}
-use Rattle.model.specs.Wires.{is-clean, soil, watch, Marking, mark-reader, mark-on, mark-readers}
-use Rattle.model.proofs.Lists.{if-both, if-by, if-alike, each-keeps-all, among-all, count-most, clash, marked-here, either-false}
-use Rattle.model.proofs.Sized.{Sized-wires, mark-readers-keeps}
+use Rattle.model.specs.State.{Wires, dirty≔, to-check≔, late-checks≔}
+use Rattle.model.specs.Wires.{is-clean, soil, watch, watch-for, Marking, mark-reader, mark-on, mark-readers-for, mark-readers}
+use Rattle.model.proofs.Lists.{if-both, if-by, if-alike, each-keeps-all, among-all, count-most, clash, marked-here}
+use Rattle.model.proofs.Sized.{Sized-wires, watch-for-keeps, mark-readers-keeps}
 use Rattle.model.proofs.Marking.{fresh, to-do, readers-to-do}
 
 -- ---- marks
@@ -63,6 +63,13 @@ module _ (c : Circuit) (D : ℕ → Bool) where
       if-both Silent _ s
       (record { gates = s .gates; inputs = λ g j d r p t. marked (w .queued) i j ∙ ap (λ (b : Bool). eqb j i || b) (s .inputs g j d r p t) ∙ or-true (eqb j i) })
 
+  late-silent : (w : Wires) (i : ℕ) → Silent w → Silent (late-checks≔ w (set (w .late-checks) i true))
+  unfolding late-checks≔
+  late-silent w i s = record { gates = s .gates; inputs = s .inputs }
+
+  watch-for-silent : (late : Bool) (w : Wires) (i : ℕ) → Silent w → Silent (watch-for late w i)
+  watch-for-silent late w i s = watch-for-keeps Silent late w i (λ v. watch-silent v i) (λ _. late-silent w i s) s
+
   pub soil-besides : (w v : Wires) (g : ℕ) → Besides w v → Besides (soil w g) (soil v g)
   unfolding soil dirty≔
   soil-besides w v g b =
@@ -87,6 +94,24 @@ module _ (c : Circuit) (D : ℕ → Bool) where
   watch-besides w v i b =
       if-alike Besides _ _ (λ j. getD (sym (b .queued) j) i true || leb most-inputs (length (sym (b .to-check) j))) (λ _. b)
       λ _. record { stale = b .stale; to-check = ap (λ (is : List ℕ). snoc is i) (b .to-check); queued = ap (λ (bs : List Bool). set bs i true) (b .queued) }
+
+  -- which inputs are marked for a late check is left open
+  late-first : (late : Bool) (w v : Wires) (i : ℕ) → Besides w v → Besides (if late then late-checks≔ w (set (w .late-checks) i true) else w) v
+  unfolding late-checks≔
+  late-first late w v i b = if-both (λ (u : Wires). Besides u v) late (record { stale = b .stale; to-check = b .to-check; queued = b .queued }) b
+
+  late-second : (late : Bool) (w v : Wires) (i : ℕ) → Besides w v → Besides w (if late then late-checks≔ v (set (v .late-checks) i true) else v)
+  unfolding late-checks≔
+  late-second late w v i b = if-both (Besides w) late (record { stale = b .stale; to-check = b .to-check; queued = b .queued }) b
+
+  watch-for-besides : (a b : Bool) (w v : Wires) (i : ℕ) → Besides w v → Besides (watch-for a w i) (watch-for b v i)
+  unfolding watch-for
+  watch-for-besides a b w v i k = watch-besides _ _ i (late-second b _ v i (late-first a w v i k))
+
+  -- an input that waits is not queued again
+  waits-already : (w : Wires) (i : ℕ) → getD (w .queued) i true ≡ true → watch w i ≡ w
+  unfolding watch if_then_else_
+  waits-already w i e = rw e refl
 
   -- ---- marking without and with them
 
@@ -113,7 +138,7 @@ module _ (c : Circuit) (D : ℕ → Bool) where
 
   -- a pure gate that is reached
   abbrev found : Marking → ℕ → Marking
-  found m g = if is-clean (m .wires) g then record { wires = soil (m .wires) g; work = output c g 0 ∷ m .work } else m
+  found m g = if is-clean (m .wires) g then record { wires = soil (m .wires) g; work = output c g 0 ∷ m .work; late = m .late } else m
 
   -- one of D, by the first alone
   found-known : (m n : Marking) (g : ℕ) → D g ≡ true → Beside m n → Beside (found m g) n
@@ -136,7 +161,7 @@ module _ (c : Circuit) (D : ℕ → Bool) where
   reader-both m n i k =
       if-alike Beside (pure (kind-of-gate c (gate-at-input c i))) _ refl (λ _. found-both m n (gate-at-input c i) k)
       λ _. if-alike Beside (watching c i) _ refl
-      (λ _. record { silent = watch-silent (m .wires) i (k .silent); wires = watch-besides (m .wires) (n .wires) i (k .wires); work = k .work }) λ _. k
+      (λ _. record { silent = watch-for-silent (m .late) (m .wires) i (k .silent); wires = watch-for-besides (m .late) (n .late) (m .wires) (n .wires) i (k .wires); work = k .work }) λ _. k
 
   readers-both : (m n : Marking) (is : List ℕ) → Beside m n → Beside (each (mark-reader c) m is) (each (mark-reader c) n is)
   unfolding each
@@ -146,12 +171,15 @@ module _ (c : Circuit) (D : ℕ → Bool) where
   -- readers of an output of a gate of D, which the first alone is at
   reader-only :
       (n : Marking) (g : ℕ) → D g ≡ true → (m : Marking) (i : ℕ) → among i (readers-of c (output c g 0)) ≡ true → Beside m n → Beside (mark-reader c m i) n
-  unfolding mark-reader watch
+  unfolding mark-reader watch-for
   reader-only n g d m i r k =
       if-by Is (pure (kind-of-gate c (gate-at-input c i))) (λ p. found-known m n (gate-at-input c i) (k .silent .gates g i d r p) k)
       λ p. if-by Is (watching c i)
-      (λ t. if-by (λ (w : Wires). Is (record { wires = w; work = m .work })) _ (λ _. k)
-      λ f. clash (k .silent .inputs g i d r p t) (either-false (getD (m .wires .queued) i true) _ f .0)) λ _. k
+      (λ t.
+      let s = if-both Silent (m .late) (late-silent (m .wires) i (k .silent)) (k .silent) in
+      let w = if m .late then late-checks≔ (m .wires) (set (m .wires .late-checks) i true) else m .wires in
+      subst (λ u. Is (record { wires = u; work = m .work; late = m .late })) (sym (waits-already w i (s .inputs g i d r p t)))
+      (record { silent = s; wires = late-first (m .late) (m .wires) (n .wires) i (k .wires); work = k .work })) λ _. k
     where
       Is : Marking → Type 0
       Is r = Beside r n
@@ -163,34 +191,34 @@ module _ (c : Circuit) (D : ℕ → Bool) where
 
   -- ---- to the end
 
-  nothing-left : (n : ℕ) (w : Wires) → mark-on c n (record { wires = w; work = [] }) ≡ w
+  nothing-left : (n : ℕ) (w : Wires) (late : Bool) → mark-on c n (record { wires = w; work = []; late = late }) ≡ w
   unfolding mark-on
-  nothing-left zero w = refl
-  nothing-left (suc n) w = refl
+  nothing-left zero w late = refl
+  nothing-left (suc n) w late = refl
 
   -- each with rounds enough for what it has to do
   mark-on-besides :
-      (n k : ℕ) (w v : Wires) (work fewer : List ℕ) → Silent w → Besides w v → Extra work fewer → fresh w + length work ≤ n → fresh v + length fewer ≤ k →
-      Besides (mark-on c n (record { wires = w; work = work })) (mark-on c k (record { wires = v; work = fewer }))
+      (n k : ℕ) (w v : Wires) (work fewer : List ℕ) (x y : Bool) → Silent w → Besides w v → Extra work fewer → fresh w + length work ≤ n → fresh v + length fewer ≤ k →
+      Besides (mark-on c n (record { wires = w; work = work; late = x })) (mark-on c k (record { wires = v; work = fewer; late = y }))
   unfolding mark-on to-do
-  mark-on-besides zero k w v _ _ s b none l h = rw (nothing-left k v) b
-  mark-on-besides zero k w v _ _ s b (both e) l h = absurd (omega arith)
-  mark-on-besides zero k w v _ _ s b (only d e) l h = absurd (omega arith)
-  mark-on-besides (suc n) k w v _ _ s b none l h = rw (nothing-left k v) b
-  mark-on-besides (suc n) zero w v _ _ s b (both e) l h = absurd (omega arith)
-  mark-on-besides (suc n) (suc k) w v _ _ s b (both {o = o} {work = work} {fewer = fewer} e) l h =
-      let r = readers-both (record { wires = w; work = work }) (record { wires = v; work = fewer }) (readers-of c o) (record { silent = s; wires = b; work = e }) in
-      mark-on-besides n k _ _ _ _ (r .silent) (r .wires) (r .work) (omega (arith, readers-to-do c (record { wires = w; work = work }) (readers-of c o)))
-      (omega (arith, readers-to-do c (record { wires = v; work = fewer }) (readers-of c o)))
-  mark-on-besides (suc n) k w v _ fewer s b (only {g = g} {work = work} d e) l h =
-      let r = readers-only (record { wires = w; work = work }) (record { wires = v; work = fewer }) g d (record { silent = s; wires = b; work = e }) in
-      mark-on-besides n k _ v _ fewer (r .silent) (r .wires) (r .work) (omega (arith, readers-to-do c (record { wires = w; work = work }) (readers-of c (output c g 0)))) h
+  mark-on-besides zero k w v _ _ x y s b none l h = rw (nothing-left k v y) b
+  mark-on-besides zero k w v _ _ x y s b (both e) l h = absurd (omega arith)
+  mark-on-besides zero k w v _ _ x y s b (only d e) l h = absurd (omega arith)
+  mark-on-besides (suc n) k w v _ _ x y s b none l h = rw (nothing-left k v y) b
+  mark-on-besides (suc n) zero w v _ _ x y s b (both e) l h = absurd (omega arith)
+  mark-on-besides (suc n) (suc k) w v _ _ x y s b (both {o = o} {work = work} {fewer = fewer} e) l h =
+      let r = readers-both (record { wires = w; work = work; late = x }) (record { wires = v; work = fewer; late = y }) (readers-of c o) (record { silent = s; wires = b; work = e }) in
+      mark-on-besides n k _ _ _ _ _ _ (r .silent) (r .wires) (r .work) (omega (arith, readers-to-do c (record { wires = w; work = work; late = x }) (readers-of c o)))
+      (omega (arith, readers-to-do c (record { wires = v; work = fewer; late = y }) (readers-of c o)))
+  mark-on-besides (suc n) k w v _ fewer x y s b (only {g = g} {work = work} d e) l h =
+      let r = readers-only (record { wires = w; work = work; late = x }) (record { wires = v; work = fewer; late = y }) g d (record { silent = s; wires = b; work = e }) in
+      mark-on-besides n k _ v _ fewer _ y (r .silent) (r .wires) (r .work) (omega (arith, readers-to-do c (record { wires = w; work = work; late = x }) (readers-of c (output c g 0)))) h
 
   pub mark-readers-besides :
       (w v : Wires) (o : ℕ) → Sized-wires c w → Sized-wires c v → Silent w → Besides w v → Besides (mark-readers c w o) (mark-readers c v o)
-  unfolding mark-readers fresh
+  unfolding mark-readers mark-readers-for fresh
   mark-readers-besides w v o z y s b =
-      mark-on-besides _ _ w v (o ∷ []) (o ∷ []) s b (both none) (omega (arith, count-most (λ _ b. not b) 0 (w .dirty), z .dirty))
+      mark-on-besides _ _ w v (o ∷ []) (o ∷ []) false false s b (both none) (omega (arith, count-most (λ _ b. not b) 0 (w .dirty), z .dirty))
       (omega (arith, count-most (λ _ b. not b) 0 (v .dirty), y .dirty))
 
   pub mark-readers-silent : (w : Wires) (o : ℕ) → Silent w → Silent (mark-readers c w o)

@@ -17,9 +17,10 @@ use Rattle.model.specs.Base.{each, snoc}
 use Rattle.model.specs.Value.{bit}
 use Rattle.model.specs.Kinds.{pure}
 use Rattle.model.specs.Circuit.{Circuit, most-inputs, kind-of-gate, inputs-of, gate-at-input, source, gate-at-output, readers-of, watching, gates}
-use Rattle.model.specs.State.{Wires, Send, State, outs≔, dirty≔, to-check≔}
-use Rattle.model.specs.Wires.{show, is-dirty, soil, clean, watch, Marking, behind, recompute, refresh-to, refresh, refresh-all, ready, mark-reader, mark-on, mark-readers, set-out, set-outs}
+use Rattle.model.specs.State.{Wires, Send, State, outs≔, dirty≔, to-check≔, late-checks≔}
+use Rattle.model.specs.Wires.{show, is-dirty, soil, clean, watch, watch-for, Marking, behind, recompute, refresh-to, refresh, refresh-all, ready, mark-reader, mark-on, mark-readers-for, mark-readers, set-out, set-outs}
 use Rattle.model.specs.Exec.{var}
+use Rattle.model.specs.Settle.{taken}
 use Rattle.model.proofs.Once.{Once}
 use Rattle.model.proofs.Lists.{if-both, if-by, each-keeps, bit-most, count, count-set, in-range, set-marked, snoc-length, either-false, all-rest}
 
@@ -28,23 +29,25 @@ unfoldable pub marks : List Bool → ℕ
 marks bs = count (λ _ b. b) 0 bs
 
 -- what is remembered of the wires
-pub record Sized-memory (c : Circuit) (ls : List (Option Value)) (ps vs : List ℕ) (us : List Bool) : Type 0 where
+pub record Sized-memory (c : Circuit) (ls : List (Option Value)) (ps vs : List ℕ) (os us : List Bool) : Type 0 where
   pub last : length ls ≡ length (c .pins)
   pub pulses : length ps ≡ length (c .outputs)
   -- the Vars written, each once, are some that settings name
   pub written : Once (map (var c) (gates c)) vs
+  pub outside : length os ≡ length (c .kinds)
   pub passed : length us ≡ length (c .kinds)
 
 pub record Sized-wires (c : Circuit) (w : Wires) : Type 0 where
   pub outs : length (w .outs) ≡ length (c .outputs)
   pub dirty : length (w .dirty) ≡ length (c .kinds)
   pub queued : length (w .queued) ≡ length (c .pins)
+  pub late : length (w .late-checks) ≡ length (c .pins)
   -- only pure gates are stale
   pub stale : (g : ℕ) → is-dirty w g ≡ true → pure (kind-of-gate c g) ≡ true
   -- each input that waits is marked, and watched
   pub waiting : length (w .to-check) ≤ marks (w .queued)
   pub asked : All (λ i. watching c i ≡ true) (w .to-check)
-  pub memory : Sized-memory c (w .last) (w .pulses) (w .written) (w .unions-passed)
+  pub memory : Sized-memory c (w .last) (w .pulses) (w .written) (w .written-outside) (w .unions-passed)
 
 -- and so of the whole state
 pub record Sized (c : Circuit) (s : State) : Type 0 where
@@ -67,12 +70,19 @@ marks-fewer bs i = go (ltb i (length bs)) refl
     go true l = omega (arith, count-set (λ _ b. b) 0 bs i false false (ltb-true i (length bs) l), bit-most (getD bs i false))
     go false l = rw (set-past bs i false (ltb-false i _ l)) (omega arith)
 
+-- what is kept by queueing an input, and by marking it for a late check where that is done
+pub watch-for-keeps :
+    (P : Wires → Type 0) (late : Bool) (w : Wires) (i : ℕ) → ((v : Wires) → P v → P (watch v i)) →
+    (late ≡ true → P (late-checks≔ w (set (w .late-checks) i true))) → P w → P (watch-for late w i)
+unfolding watch-for
+watch-for-keeps P late w i watched late-marked p = watched _ (if-by P late late-marked (λ _. p))
+
 module _ (c : Circuit) where
   -- ---- one change
 
   pub show-sized : (w : Wires) (o : ℕ) (v : Value) → Sized-wires c w → Sized-wires c (show w o v)
   unfolding show outs≔ is-dirty
-  show-sized w o v z = record { outs = length-set (w .outs) o v ∙ z .outs; dirty = z .dirty; queued = z .queued; stale = z .stale; waiting = z .waiting; asked = z .asked; memory = z .memory }
+  show-sized w o v z = record { outs = length-set (w .outs) o v ∙ z .outs; dirty = z .dirty; queued = z .queued; late = z .late; stale = z .stale; waiting = z .waiting; asked = z .asked; memory = z .memory }
 
   pub soil-sized : (w : Wires) (g : ℕ) → pure (kind-of-gate c g) ≡ true → Sized-wires c w → Sized-wires c (soil w g)
   unfolding soil dirty≔ is-dirty
@@ -81,6 +91,7 @@ module _ (c : Circuit) where
         outs = z .outs;
         dirty = length-set (w .dirty) g true ∙ z .dirty;
         queued = z .queued;
+        late = z .late;
         stale = set-marked (λ h. pure (kind-of-gate c h) ≡ true) (w .dirty) g true (λ _. p) (z .stale);
         waiting = z .waiting;
         asked = z .asked;
@@ -94,6 +105,7 @@ module _ (c : Circuit) where
         outs = z .outs;
         dirty = length-set (w .dirty) g false ∙ z .dirty;
         queued = z .queued;
+        late = z .late;
         stale = set-marked (λ h. pure (kind-of-gate c h) ≡ true) (w .dirty) g false (λ e. absurd (true≢false (sym e))) (z .stale);
         waiting = z .waiting;
         asked = z .asked;
@@ -109,20 +121,37 @@ module _ (c : Circuit) where
         outs = z .outs;
         dirty = z .dirty;
         queued = length-set (w .queued) i true ∙ z .queued;
+        late = z .late;
         stale = z .stale;
         waiting = omega (arith, z .waiting, snoc-length (w .to-check) i, mark-more (w .queued) i e);
         asked = all-append (z .asked) (_∷·_ q [·]);
         memory = z .memory;
       }
 
+  -- an input is marked for a late check
+  pub late-sized : (w : Wires) (i : ℕ) → Sized-wires c w → Sized-wires c (late-checks≔ w (set (w .late-checks) i true))
+  unfolding late-checks≔ is-dirty
+  late-sized w i z =
+      record {
+        outs = z .outs;
+        dirty = z .dirty;
+        queued = z .queued;
+        late = length-set (w .late-checks) i true ∙ z .late;
+        stale = z .stale;
+        waiting = z .waiting;
+        asked = z .asked;
+        memory = z .memory;
+      }
+
   -- the first that waits is taken
-  pub taken-sized : (w : Wires) (i : ℕ) (is : List ℕ) → w .to-check ≡ i ∷ is → Sized-wires c w → Sized-wires c (to-check≔ w is (set (w .queued) i false))
-  unfolding to-check≔ is-dirty
+  pub taken-sized : (w : Wires) (i : ℕ) (is : List ℕ) → w .to-check ≡ i ∷ is → Sized-wires c w → Sized-wires c (taken w i is)
+  unfolding taken to-check≔ late-checks≔ is-dirty
   taken-sized w i is e z =
       record {
         outs = z .outs;
         dirty = z .dirty;
         queued = length-set (w .queued) i false ∙ z .queued;
+        late = length-set (w .late-checks) i false ∙ z .late;
         stale = z .stale;
         waiting = omega (arith, z .waiting, ap length e, marks-fewer (w .queued) i);
         asked = all-rest (subst (All (λ i. watching c i ≡ true)) e (z .asked));
@@ -170,34 +199,49 @@ module _ (c : Circuit) where
     unfolding ready
     ready-keeps w i p = behind-keeps P (refresh c) refresh-keeps w i p
 
-  -- ---- marking: what is kept by marking a pure gate and by queueing an input
+  -- ---- marking: what is kept by marking a pure gate and by queueing an input, for a late check or not
 
   module _ (P : Wires → Type 0) (soiled : (w : Wires) (g : ℕ) → pure (kind-of-gate c g) ≡ true → P w → P (soil w g))
       (watched : (w : Wires) (i : ℕ) → watching c i ≡ true → P w → P (watch w i)) where
-    mark-reader-keeps : (m : Marking) (i : ℕ) → P (m .wires) → P (mark-reader c m i .wires)
-    unfolding mark-reader
-    mark-reader-keeps m i p =
-        if-by (λ (r : Marking). P (r .wires)) (pure (kind-of-gate c (gate-at-input c i)))
-        (λ e. if-both (λ (r : Marking). P (r .wires)) _ (soiled (m .wires) (gate-at-input c i) e p) p)
-        (λ e. if-by (λ (r : Marking). P (r .wires)) (watching c i) (λ q. watched (m .wires) i q p) (λ _. p))
+    module _ (late : Bool) (late-marked : late ≡ true → (w : Wires) (i : ℕ) → P w → P (late-checks≔ w (set (w .late-checks) i true))) where
+      record Marks (m : Marking) : Type 0 where
+        wires : P (m .wires)
+        for : m .late ≡ late
 
-    mark-on-keeps : (n : ℕ) (m : Marking) → P (m .wires) → P (mark-on c n m)
-    unfolding mark-on
-    mark-on-keeps zero m p = p
-    mark-on-keeps (suc n) m p = go (m .work) (λ r q. mark-on-keeps n r q)
-      where
-        go :
-            (work : List ℕ) → ((r : Marking) → P (r .wires) → P (mark-on c n r)) →
-            P (elim work as (λ _. Wires) [
-              | [] ↦ m .wires
-              | (o ∷ work) ↦ mark-on c n (each (mark-reader c) (record { wires = m .wires; work = work }) (readers-of c o))
-            ])
-        go [] rec = p
-        go (o ∷ work) rec = rec _ (each-keeps (λ (r : Marking). P (r .wires)) (mark-reader c) mark-reader-keeps _ (readers-of c o) p)
+      mark-reader-keeps : (m : Marking) (i : ℕ) → Marks m → Marks (mark-reader c m i)
+      unfolding mark-reader
+      mark-reader-keeps m i k =
+          if-by Marks (pure (kind-of-gate c (gate-at-input c i)))
+          (λ e. if-both Marks _ (record { wires = soiled (m .wires) (gate-at-input c i) e (k .wires); for = k .for }) k)
+          (λ e. if-by Marks (watching c i)
+          (λ q.
+          record {
+            wires = watch-for-keeps P (m .late) (m .wires) i (λ v. watched v i q) (λ h. late-marked (sym (k .for) ∙ h) (m .wires) i (k .wires)) (k .wires);
+            for = k .for;
+          })
+          (λ _. k))
+
+      mark-on-keeps : (n : ℕ) (m : Marking) → Marks m → P (mark-on c n m)
+      unfolding mark-on
+      mark-on-keeps zero m k = k .wires
+      mark-on-keeps (suc n) m k = go (m .work) (λ r q. mark-on-keeps n r q)
+        where
+          go :
+              (work : List ℕ) → ((r : Marking) → Marks r → P (mark-on c n r)) →
+              P (elim work as (λ _. Wires) [
+                | [] ↦ m .wires
+                | (o ∷ work) ↦ mark-on c n (each (mark-reader c) (record { wires = m .wires; work = work; late = m .late }) (readers-of c o))
+              ])
+          go [] rec = k .wires
+          go (o ∷ work) rec = rec _ (each-keeps Marks (mark-reader c) mark-reader-keeps _ (readers-of c o) (record { wires = k .wires; for = k .for }))
+
+      pub mark-readers-for-keeps : (w : Wires) (o : ℕ) → P w → P (mark-readers-for c late w o)
+      unfolding mark-readers-for
+      mark-readers-for-keeps w o p = mark-on-keeps _ _ (record { wires = p; for = refl })
 
     pub mark-readers-keeps : (w : Wires) (o : ℕ) → P w → P (mark-readers c w o)
     unfolding mark-readers
-    mark-readers-keeps w o p = mark-on-keeps _ _ p
+    mark-readers-keeps = mark-readers-for-keeps false (λ e. absurd (true≢false (sym e)))
 
     -- and by showing a value
     module _ (shows : (w : Wires) (o : ℕ) (v : Value) → P w → P (show w o v)) where
@@ -230,6 +274,9 @@ module _ (c : Circuit) where
 
   pub ready-sized : (w : Wires) (i : ℕ) → Sized-wires c w → Sized-wires c (ready c w i)
   ready-sized = ready-keeps (Sized-wires c) Pure (λ w z. z .stale) again-sized
+
+  pub mark-readers-for-sized : (late : Bool) (w : Wires) (o : ℕ) → Sized-wires c w → Sized-wires c (mark-readers-for c late w o)
+  mark-readers-for-sized late = mark-readers-for-keeps (Sized-wires c) soil-sized watch-sized late (λ _. late-sized)
 
   pub mark-readers-sized : (w : Wires) (o : ℕ) → Sized-wires c w → Sized-wires c (mark-readers c w o)
   mark-readers-sized = mark-readers-keeps (Sized-wires c) soil-sized watch-sized

@@ -20,7 +20,7 @@ use Rattle.model.specs.Value.{value-opened}
 use Rattle.model.specs.Kinds.{pure, time-source, receiving, kinds-opened}
 use Rattle.model.specs.Circuit.{Circuit, kind-of-gate, input, output, source, setting, watching, gates-of}
 use Rattle.model.specs.Script.{Given}
-use Rattle.model.specs.State.{Wires, State, Act, Send, idle, times≔, dirty≔, to-check≔, pulses≔, unions-passed≔}
+use Rattle.model.specs.State.{Wires, State, Act, Send, idle, times≔, dirty≔, to-check≔, pulses≔, unions-passed≔, runs-left≔}
 use Rattle.model.specs.Wires.{shown, is-dirty, soil, watch, look, compute, invalidate}
 use Rattle.model.specs.Delays.{Moved}
 use Rattle.model.specs.Opening.{wires-stale, wires-fresh, wires-at-start, start, Opened, raised-to, fire, next-tick, begin-tick, delivered, lower, advanced, advance-buffer, advance-clock, advance-timer, open-tick}
@@ -30,7 +30,7 @@ use Rattle.model.proofs.Lists.{if-both, if-by, both-true, each-keeps, e
 use Rattle.model.proofs.Sized.{Sized-wires, mark-readers-keeps}
 use Rattle.model.proofs.Placing.{pure-in}
 use lib.Seq.{getD-set-same}
-use Rattle.model.proofs.Kept.{stale-sized, pulses-sized, passed-sized, times-sized, time-pure, invalidate-sized}
+use Rattle.model.proofs.Kept.{stale-sized, pulses-sized, passed-sized, runs-sized, times-sized, time-pure, invalidate-sized}
 use Rattle.model.proofs.Stale.{if-same}
 use Rattle.model.proofs.Reals.{Real, nothing-real, truth-real, zero-real, plus-real, as-float-real}
 use Rattle.model.proofs.Wired.{Wired}
@@ -138,10 +138,10 @@ module _ (c : Circuit) (W : Wired c) where
     T = until-timed c
 
     pub next-tick-fine : (w : Wires) (dt : ℕ) → finite dt ≡ true → Fine c no-exception late w → Fine c T late (next-tick w dt)
-    unfolding next-tick times≔ unions-passed≔ shown is-dirty
+    unfolding next-tick times≔ unions-passed≔ runs-left≔ shown is-dirty
     next-tick-fine w dt q f =
         record {
-          sized = passed-sized c _ (length-map (w .unions-passed) _) (times-sized c w _ _ _ (f .sized));
+          sized = runs-sized c _ (passed-sized c _ (length-map (w .unions-passed) _) (times-sized c w _ _ _ (f .sized)));
           written = f .written;
           pulses = f .pulses;
           real = f .real;

@@ -12,16 +12,16 @@ use Rattle.schedule.proofs.Members.{all-append}
 use Rattle.model.specs.declared.Value.{Value}
 use Rattle.model.specs.Base.{if_then_else_, snoc, among}
 use Rattle.model.specs.Kinds.{kinds-opened}
-use Rattle.model.specs.Circuit.{Circuit, kind-of-gate}
-use Rattle.model.specs.State.{Wires, State, outs≔, written≔, unions-passed≔}
+use Rattle.model.specs.Circuit.{Circuit, kind-of-gate, gate-at-output}
+use Rattle.model.specs.State.{Wires, State, outs≔, written≔, written-outside≔, unions-passed≔}
 use Rattle.model.specs.Wires.{shown, show}
 use Rattle.model.specs.Delays.{Started}
-use Rattle.model.specs.Exec.{Stepped, fires-next, ends, var, record-write, exec-Buffer, exec-Stopwatch, exec-Queue, exec-VarGet, exec-VarSet, exec-Branch, exec-Union, exec-Toggle, exec-Cycle, exec-SendEvent, exec-kind, exec-gate}
+use Rattle.model.specs.Exec.{Stepped, fires-next, ends, var, write-once, record-write, exec-Buffer, exec-Stopwatch, exec-Queue, exec-VarGet, exec-VarSet, exec-Branch, exec-Union, exec-Toggle, exec-Cycle, exec-SendEvent, exec-kind, exec-gate}
 use Rattle.model.specs.Chain.{Calls, run-chain}
 use Rattle.model.proofs.Lists.{if-both, if-by, among-first}
 use Rattle.model.proofs.Sized.{Sized-wires, show-sized}
 use Rattle.model.proofs.Walks.{run-chain-keeps}
-use Rattle.model.proofs.Kept.{passed-sized, record-write-sized, named}
+use Rattle.model.proofs.Kept.{outside-sized, passed-sized, write-once-sized, named}
 use Rattle.model.proofs.Roomy.{few-roomy}
 use Rattle.model.proofs.Reals.{Real, truth-real, int-real, zero-real}
 use Rattle.model.proofs.Wired.{Wired}
@@ -68,7 +68,7 @@ module _ (c : Circuit) (W : Wired c) where
     -- of a gate g of kind 19, the wires after its write
     write-fine :
         (late : List ℕ) (w : Wires) (g : ℕ) (v : Value) → eqb (kind-of-gate c g) 19 ≡ true → Real v → Fine c t late w →
-        (more : List ℕ) × Fine c t more (record-write c (show w (var c g) v) (var c g))
+        (more : List ℕ) × Fine c t more (write-once c (show w (var c g) v) (var c g))
     unfolding show outs≔ written≔ shown if_then_else_
     write-fine late w g v e r f = go (among o (w .written)) refl
       where
@@ -84,21 +84,21 @@ module _ (c : Circuit) (W : Wired c) where
         z : Sized-wires c (show w (var c g) v)
         z = show-sized c w (var c g) v (f .sized)
 
-        is : record-write c (show w (var c g) v) (var c g) ≡ (if among (var c g) (w .written) then show w (var c g) v else written≔ (show w (var c g) v) (snoc (w .written) (var c g)))
+        is : write-once c (show w (var c g) v) (var c g) ≡ (if among (var c g) (w .written) then show w (var c g) v else written≔ (show w (var c g) v) (snoc (w .written) (var c g)))
         is = few-roomy c (W .few) .writing (show w (var c g) v) g h z
 
-        go : (b : Bool) → among (var c g) (w .written) ≡ b → (more : List ℕ) × Fine c t more (record-write c (show w (var c g) v) (var c g))
+        go : (b : Bool) → among (var c g) (w .written) ≡ b → (more : List ℕ) × Fine c t more (write-once c (show w (var c g) v) (var c g))
         go true q =
-            let a : record-write c (show w (var c g) v) (var c g) ≡ show w (var c g) v = is ∙ rw q in
+            let a : write-once c (show w (var c g) v) (var c g) ≡ show w (var c g) v = is ∙ rw q in
             (late, subst (Fine c t late) (sym a) (show-fine t late w (var c g) v (subst (λ l. among (var c g) l ≡ true) (f .written) q) u r f))
         go false q =
             let v₁ = written≔ (show w (var c g) v) (snoc (w .written) (var c g)) in
             let more = snoc late (var c g) in
-            let a : record-write c (show w (var c g) v) (var c g) ≡ v₁ = is ∙ rw q in
+            let a : write-once c (show w (var c g) v) (var c g) ≡ v₁ = is ∙ rw q in
             let x = show-late c W t more w (var c g) v (among-last late (var c g)) u (excused c t (λ n k. among-snoc n late (var c g) k) (f .right)) in (
               more,
               subst (Fine c t more) (sym a) (record {
-                sized = subst (Sized-wires c) a (record-write-sized c g h z);
+                sized = subst (Sized-wires c) a (write-once-sized c g h z);
                 written = ap (λ (l : List ℕ). snoc l (var c g)) (f .written);
                 pulses = f .pulses;
                 real = set-real (w .outs) (var c g) v r (f .real);
@@ -107,6 +107,26 @@ module _ (c : Circuit) (W : Wired c) where
                 right = alike c t more [] (show w (var c g) v) v₁ refl refl refl refl refl x;
               }),
             )
+
+    outside-fine : (late : List ℕ) (w : Wires) (g : ℕ) → Fine c t late w → Fine c t late (written-outside≔ w (set (w .written-outside) g true))
+    unfolding written-outside≔ shown
+    outside-fine late w g f =
+        record {
+          sized = outside-sized c _ (length-set (w .written-outside) g true) (f .sized);
+          written = f .written;
+          pulses = f .pulses;
+          real = f .real;
+          length-finite = f .length-finite;
+          uptime-real = f .uptime-real;
+          right = alike c t late [] w (written-outside≔ w (set (w .written-outside) g true)) refl refl refl refl refl (f .right);
+        }
+
+    recorded-fine :
+        (inside : Bool) (late : List ℕ) (w : Wires) (g : ℕ) (v : Value) → eqb (kind-of-gate c g) 19 ≡ true → Real v → Fine c t late w →
+        (more : List ℕ) × Fine c t more (record-write c inside (show w (var c g) v) (var c g))
+    unfolding record-write show outs≔ written-outside≔ if_then_else_
+    recorded-fine true late w g v e r f = write-fine late w g v e r f
+    recorded-fine false late w g v e r f = write-fine late _ g v e r (outside-fine late w (gate-at-output c (var c g)) f)
 
     -- ---- a step, by kind
 
@@ -139,11 +159,11 @@ module _ (c : Circuit) (W : Wired c) where
     VarGet-going s g k z =
         going (set-output-sound c W _ _ (other-output c (W .laid) g 18 1 k refl (omega arith)) (z .sound .wires .real (var c g)) (z .sound))
 
-    VarSet-going : (s : State) (g : ℕ) → eqb (kind-of-gate c g) 19 ≡ true → Going t s → Stepped-going (exec-VarSet c s g)
+    VarSet-going : (inside : Bool) (s : State) (g : ℕ) → eqb (kind-of-gate c g) 19 ≡ true → Going t s → Stepped-going (exec-VarSet c inside s g)
     unfolding exec-VarSet fires-next
-    VarSet-going s g e z =
+    VarSet-going inside s g e z =
         let y = readied-sound c W g 2 1 (z .sound) in
-        going (wires-sound c y (write-fine (z .late) _ g _ e (read-is-real c W _ g 2 y) (y .wires) .1))
+        going (wires-sound c y (recorded-fine inside (z .late) _ g _ e (read-is-real c W _ g 2 y) (y .wires) .1))
 
     Branch-going : (s : State) (g : ℕ) → Going t s → Stepped-going (exec-Branch c s g)
     unfolding exec-Branch fires-next
@@ -179,9 +199,9 @@ module _ (c : Circuit) (W : Wired c) where
         let y = readied-sound c W g 2 8 (z .sound) in
         if-both (Going t) _ (going y) (going (outbox-sound c _ (all-append (y .outbox) (_∷·_ (read-row-fine c W _ g 2 8 (omega arith) y) [·])) y))
 
-    exec-kind-going : (s : State) (g p : ℕ) → Going t s → Stepped-going (exec-kind c (kind-of-gate c g) s g p)
+    exec-kind-going : (inside : Bool) (s : State) (g p : ℕ) → Going t s → Stepped-going (exec-kind c inside (kind-of-gate c g) s g p)
     unfolding exec-kind fires-next ends
-    exec-kind-going s g p z =
+    exec-kind-going inside s g p z =
         let k = kind-of-gate c g in
         if-both Stepped-going _ z
         (if-both Stepped-going _ (Buffer-going s g z)
@@ -189,16 +209,16 @@ module _ (c : Circuit) (W : Wired c) where
         (if-both Stepped-going _ (Queue-going s g _ z)
         (if-both Stepped-going _ (Queue-going s g _ z)
         (if-by Stepped-going (eqb k 18) (λ e. VarGet-going s g (eqb-true k 18 e) z) λ _.
-        (if-by Stepped-going (eqb k 19) (λ e. VarSet-going s g e z) λ _.
+        (if-by Stepped-going (eqb k 19) (λ e. VarSet-going inside s g e z) λ _.
         (if-both Stepped-going _ (Branch-going s g z)
         (if-both Stepped-going _ (Union-going s g z)
         (if-by Stepped-going (eqb k 22) (λ e. Toggle-going s g (eqb-true k 22 e) z) λ _.
         (if-by Stepped-going (eqb k 23) (λ e. Cycle-going s g p (eqb-true k 23 e) z) λ _.
         (if-both Stepped-going _ (SendEvent-going s g z) z)))))))))))
 
-    pub exec-gate-going : (s : State) (i : ℕ) → Going t s → Stepped-going (exec-gate c s i)
+    pub exec-gate-going : (inside : Bool) (s : State) (i : ℕ) → Going t s → Stepped-going (exec-gate c inside s i)
     unfolding exec-gate
-    exec-gate-going s i z = exec-kind-going s _ _ z
+    exec-gate-going inside s i z = exec-kind-going inside s _ _ z
 
     pub run-chain-going : (left : ℕ) (q : Calls) (s : State) → Going t s → Going t (run-chain c left q s .state)
     run-chain-going = run-chain-keeps c (Going t) exec-gate-going

@@ -16,12 +16,12 @@ use Rattle.model.specs.Base.{all, each, among}
 use Rattle.model.specs.Value.{plus64, same}
 use Rattle.model.specs.Kinds.{pure, time-source}
 use Rattle.model.specs.Circuit.{Circuit, kind-of-gate, output, gate-at-input, gate-at-output, readers-of, watching}
-use Rattle.model.specs.State.{Wires, outs≔, times≔, pulses≔, unions-passed≔}
-use Rattle.model.specs.Wires.{shown, show, is-dirty, soil, look, refresh-all, ready, mark-readers, invalidate, set-out, set-outs}
+use Rattle.model.specs.State.{Wires, outs≔, dirty≔, to-check≔, times≔, pulses≔, unions-passed≔, runs-left≔}
+use Rattle.model.specs.Wires.{shown, show, is-dirty, soil, watch, look, refresh-all, ready, mark-readers, invalidate, set-out, set-outs}
 use Rattle.model.specs.Opening.{next-tick, lower}
 use Rattle.model.specs.Questions.{finite}
-use Rattle.model.proofs.Lists.{if-alike, both-true, each-keeps, all-among, set-same, not-so, clash, among-none}
-use Rattle.model.proofs.Sized.{Sized-wires, show-sized, soil-sized, refresh-all-sized}
+use Rattle.model.proofs.Lists.{if-both, if-alike, both-true, each-keeps, all-among, set-same, not-so, clash, among-none}
+use Rattle.model.proofs.Sized.{Sized-wires, show-sized, soil-sized, mark-readers-keeps, refresh-all-sized}
 use Rattle.model.proofs.Kept.{time-pure, invalidate-sized}
 use Rattle.model.proofs.Stale.{all-clean, output-own}
 use Rattle.model.proofs.Reals.{Real}
@@ -82,7 +82,7 @@ module _ (c : Circuit) (W : Wired c) where
       rests-same c W T (refresh-all c w) (refresh-all c v) (refresh-all-fine c W T [] w (t .first)) (refresh-all-fine c W T [] v (t .second))
       (all-clean c (W .heights) w z) (all-clean c (W .heights) v y) (a .apart)
       (λ o k. rest-shown c W v y o (known-clean v y (t .second .right .times) o k) ∙ t .near .shown o k ∙ sym (rest-shown c W w z o (known-clean w z (t .first .right .times) o k)))
-      (a .to-check) (a .queued)
+      (a .to-check) (a .queued) (a .late)
 
   -- wires that come to the same rest are twins
   rests-near : (w v : Wires) → Fine c T [] w → Fine c T [] v → refresh-all c v ≡ refresh-all c w → Near w v
@@ -176,7 +176,14 @@ module _ (c : Circuit) (W : Wired c) where
 
   show-apart : (w : Wires) (o : ℕ) (x : Value) → Apart w (show w o x)
   unfolding show outs≔
-  show-apart w o x = record { tick = refl; dt = refl; uptime = refl; last = refl; pulses = refl; written = refl; passed = refl }
+  show-apart w o x = record { tick = refl; dt = refl; uptime = refl; last = refl; pulses = refl; written = refl; outside = refl; passed = refl; breaking = refl; runs = refl }
+
+  -- no input is marked for a late check
+  marked-late : (w : Wires) (o : ℕ) → mark-readers c w o .late-checks ≡ w .late-checks
+  unfolding soil watch dirty≔ to-check≔
+  marked-late w o =
+      mark-readers-keeps c (λ v. v .late-checks ≡ w .late-checks) (λ v g p e. e)
+      (λ v i q e. if-both (λ (u : Wires). u .late-checks ≡ w .late-checks) _ e e) w o refl
 
   -- ---- an output gets a value
 
@@ -191,6 +198,7 @@ module _ (c : Circuit) (W : Wired c) where
               apart = apart-on (apart-back (to w)) (apart-on (t .near .aside .apart) (to v));
               to-check = s .to-check;
               queued = s .queued;
+              late = marked-late (show v o x) o ∙ t .near .aside .late ∙ sym (marked-late (show w o x) o);
             };
         shown = λ q k.
             ap (λ (vs : List Value). getD vs q Nothing) (marked-alike c (show v o x) o .outs)
@@ -235,10 +243,14 @@ module _ (c : Circuit) (W : Wired c) where
                           last = a .apart .last;
                           pulses = ap (λ (ps : List ℕ). set ps o 0) (a .apart .pulses);
                           written = a .apart .written;
+                          outside = a .apart .outside;
                           passed = a .apart .passed;
+                          breaking = a .apart .breaking;
+                          runs = a .apart .runs;
                         };
                     to-check = a .to-check;
                     queued = a .queued;
+                    late = a .late;
                   };
               shown = t .near .shown;
             };
@@ -261,7 +273,7 @@ module _ (c : Circuit) (W : Wired c) where
 
   pub next-tick-twin :
       {w v : Wires} (dt : ℕ) → finite dt ≡ true → Fine c no-exception [] w → Fine c no-exception [] v → Near w v → Twin (next-tick w dt) (next-tick v dt)
-  unfolding next-tick times≔ unions-passed≔ shown
+  unfolding next-tick times≔ unions-passed≔ runs-left≔ shown
   next-tick-twin {w} {v} dt q f h n =
       let a = n .aside in
       record {
@@ -279,10 +291,14 @@ module _ (c : Circuit) (W : Wired c) where
                           last = a .apart .last;
                           pulses = a .apart .pulses;
                           written = a .apart .written;
+                          outside = a .apart .outside;
                           passed = ap (λ (bs : List Bool). map (λ _. false) bs) (a .apart .passed);
+                          breaking = a .apart .breaking;
+                          runs = refl;
                         };
                     to-check = a .to-check;
                     queued = a .queued;
+                    late = a .late;
                   };
               shown = n .shown;
             };
@@ -336,6 +352,11 @@ module _ (c : Circuit) (W : Wired c) where
   unfolding invalidated
   invalidated-alike w = each-keeps (Alike w) (invalidate c) (λ v g a. alike-again a (invalidate-alike c W [] v g)) w (c .time-sources) (alike-itself w)
 
+  invalidated-late : (w : Wires) → invalidated w .late-checks ≡ w .late-checks
+  unfolding invalidated invalidate soil dirty≔
+  invalidated-late w =
+      each-keeps (λ (v : Wires). v .late-checks ≡ w .late-checks) (invalidate c) (λ v g e. marked-late (soil v g) (output c g 0) ∙ e) w (c .time-sources) refl
+
   -- so at rest they are the same again
   pub invalidated-same : {w v : Wires} → Twin w v → refresh-all c (each (invalidate c) v (c .time-sources)) ≡ refresh-all c (each (invalidate c) w (c .time-sources))
   unfolding invalidated shown
@@ -344,11 +365,16 @@ module _ (c : Circuit) (W : Wired c) where
       let h = invalidate-all c W [] v (t .second) in
       let s = twins-wait invalidated timed-waits t in
       let n : Aside (invalidated w) (invalidated v) =
-      record { apart = apart-on (apart-back (invalidated-alike w .apart)) (apart-on (t .near .aside .apart) (invalidated-alike v .apart)); to-check = s .to-check; queued = s .queued } in
+      record {
+        apart = apart-on (apart-back (invalidated-alike w .apart)) (apart-on (t .near .aside .apart) (invalidated-alike v .apart));
+        to-check = s .to-check;
+        queued = s .queued;
+        late = invalidated-late v ∙ t .near .aside .late ∙ sym (invalidated-late w);
+      } in
       let a = aside-on (aside-back (rest-aside c W (invalidated w) (f .sized))) (aside-on n (rest-aside c W (invalidated v) (h .sized))) in
       rests-same c W (record { unsure = []; soiled = c .time-sources; taken = [] }) (refresh-all c (invalidated w)) (refresh-all c (invalidated v))
       (refresh-all-fine c W _ [] (invalidated w) f) (refresh-all-fine c W _ [] (invalidated v) h)
-      (all-clean c (W .heights) (invalidated w) (f .sized)) (all-clean c (W .heights) (invalidated v) (h .sized)) (a .apart) shown-same (a .to-check) (a .queued)
+      (all-clean c (W .heights) (invalidated w) (f .sized)) (all-clean c (W .heights) (invalidated v) (h .sized)) (a .apart) shown-same (a .to-check) (a .queued) (a .late)
     where
       shown-same : (o : ℕ) → Other c o ⊎ (among (gate-at-output c o) [] ≡ true) → shown (refresh-all c (invalidated v)) o ≡ shown (refresh-all c (invalidated w)) o
       shown-same o (inr e) = clash e (among-none (gate-at-output c o))

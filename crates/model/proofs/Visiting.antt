@@ -16,14 +16,14 @@ use Rattle.model.specs.declared.Value.{Value}
 use Rattle.model.specs.Base.{snoc}
 use Rattle.model.specs.Circuit.{Circuit, gate-at-input}
 use Rattle.model.specs.Script.{Given}
-use Rattle.model.specs.State.{Wires, State, Delay, Act, outs≔, dirty≔, to-check≔, times≔, last≔, pulses≔, unions-passed≔, wires≔, delays≔, outbox≔, changed≔}
+use Rattle.model.specs.State.{Wires, State, Delay, Act, outs≔, dirty≔, to-check≔, late-checks≔, times≔, last≔, pulses≔, unions-passed≔, runs-left≔, wires≔, delays≔, outbox≔, changed≔}
 use Rattle.model.specs.Wires.{show, soil, clean, watch, look, recompute, refresh-all, ready, invalidate, set-out}
 use Rattle.model.specs.Exec.{count-changed, delay≔}
-use Rattle.model.specs.Settle.{Settled, calm, raise, pulse, compared, check, check-on, settle}
+use Rattle.model.specs.Settle.{Settled, calm, raise, taken, pulse, compared, check, check-on, settle}
 use Rattle.model.specs.Opening.{next-tick, begin-tick, lower, before-settling}
 use Rattle.model.proofs.Lists.{if-both, all-pass}
 use Rattle.model.proofs.Checks.{detect-keeps}
-use Rattle.model.proofs.Walks.{taken, checked, check-on-keeps, before-settling-keeps}
+use Rattle.model.proofs.Walks.{checked, check-on-keeps, before-settling-keeps}
 use Rattle.model.proofs.Sized.{refresh-all-keeps, ready-keeps, mark-readers-keeps, set-out-keeps, set-outs-keeps}
 use Rattle.model.proofs.Settling.{one-waits}
 
@@ -98,7 +98,7 @@ module _ (c : Circuit) (i : ℕ) (pre : List ℕ) where
   count-waiting s changed u = u
 
   begin-waiting : (s : State) (dt : ℕ) → Waiting s → Waiting (begin-tick s dt)
-  unfolding begin-tick next-tick outbox≔ wires≔ times≔ unions-passed≔ changed≔
+  unfolding begin-tick next-tick outbox≔ wires≔ times≔ unions-passed≔ runs-left≔ changed≔
   begin-waiting s dt u = record { more = u .more; waits = u .waits; known = u .known; unread = u .unread }
 
   -- ---- settling: another input is checked
@@ -177,22 +177,22 @@ module _ (c : Circuit) (i : ℕ) where
       go false e k l = (r .0, getD-set-other ls j i (some x) none (eqb-false i j e) ∙ r .1)
 
   read-on : (n : ℕ) (z : Settled) → Read (z .state .wires .last) → Read (check-on c n z .state .wires .last)
-  unfolding wires≔ to-check≔
+  unfolding wires≔ taken to-check≔ late-checks≔
   read-on =
       check-on-keeps c (λ (z : Settled). Read (z .state .wires .last)) λ z j is e r.
-      subst Read (sym (check-last (wires≔ (z .state) (taken c (z .state .wires) j is)) j)) (read-kept (z .state .wires .last) j _ r)
+      subst Read (sym (check-last (wires≔ (z .state) (taken (z .state .wires) j is)) j)) (read-kept (z .state .wires .last) j _ r)
 
   -- settling raises more and more
   raises-on : (y : Settled) (n : ℕ) → (after : List (Raise State Act When)) × (check-on c n y .raises ≡ y .raises ++ after)
   raises-on y n =
       check-on-keeps c (λ (z : Settled). (after : List (Raise State Act When)) × (z .raises ≡ y .raises ++ after))
       (λ z j is e k.
-      let r = check c (wires≔ (z .state) (taken c (z .state .wires) j is)) j .raises in
+      let r = check c (wires≔ (z .state) (taken (z .state .wires) j is)) j .raises in
       (k .0 ++ r, ap (λ rs. rs ++ r) (k .1) ∙ append-assoc (y .raises) (k .0) r)) n y ([], sym (append-nil (y .raises)))
 
   -- the state in which it is checked, where it is the first of those that wait
   abbrev pub due : Settled → List ℕ → State
-  due z rest = wires≔ (z .state) (taken c (z .state .wires) i rest)
+  due z rest = wires≔ (z .state) (taken (z .state .wires) i rest)
 
   -- it was its turn in a, and settling came to b
   pub record Visited (a b : Settled) : Type 0 where
@@ -207,7 +207,7 @@ module _ (c : Circuit) (i : ℕ) where
   visited :
       (m : ℕ) (pre : List ℕ) (z : Settled) → All (λ p. i ≢ p) pre → Unread c i pre (z .state .wires) → check-on c m z .state .wires .to-check ≡ [] →
       Visited (check-on c (length pre) z) (check-on c m z)
-  unfolding check-on wires≔ to-check≔
+  unfolding check-on wires≔ taken to-check≔ late-checks≔
   visited zero pre z n u h = absurd (omega (arith, ap length (sym (u .waits) ∙ h), length-append pre (i ∷ u .more)))
   visited (suc m) [] z n u h =
       let o = one-waits c m z i (u .more) (u .waits) in
@@ -225,7 +225,7 @@ module _ (c : Circuit) (i : ℕ) where
       }
   visited (suc m) (p ∷ ps) z (_∷·_ n ns) u h =
       let o : (k : ℕ) → check-on c (suc k) z ≡ check-on c k (checked c z p (ps ++ (i ∷ u .more))) = λ k. one-waits c k z p (ps ++ (i ∷ u .more)) (u .waits) in
-      let v = other-waiting c i ps (wires≔ (z .state) (taken c (z .state .wires) p (ps ++ (i ∷ u .more)))) p n
+      let v = other-waiting c i ps (wires≔ (z .state) (taken (z .state .wires) p (ps ++ (i ∷ u .more)))) p n
       (record { more = u .more; waits = refl; known = u .known; unread = u .unread }) in
       let k = visited m ps (checked c z p (ps ++ (i ∷ u .more))) ns v (ap (λ (x : Settled). x .state .wires .to-check) (sym (o m)) ∙ h) in
       subst (λ (x : Settled). Visited x (check-on c (suc m) z)) (sym (o (length ps)))

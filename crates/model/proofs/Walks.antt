@@ -5,7 +5,7 @@ use mathlib.Core.Bool.{Bool, true, false, not, _&&_}
 use mathlib.Core.List.{List, [], _∷_, _++_}
 use mathlib.Core.Option.{Option, none, some}
 use Prim.Native.Nat.{ℕ, zero, suc, _+_}
-use lib.ListN.{length, set}
+use lib.ListN.{length}
 use Rattle.schedule.specs.Schedule.{list-full, Raise, Place, When, to-late, to-delivered}
 use Rattle.schedule.specs.Promise.{All}
 use Rattle.schedule.proofs.Members.{all-map, all-append}
@@ -13,12 +13,12 @@ use Rattle.model.specs.declared.Value.{Value}
 use Rattle.model.specs.Base.{all, from}
 use Rattle.model.specs.Circuit.{Circuit, input, output}
 use Rattle.model.specs.Script.{Given}
-use Rattle.model.specs.State.{Wires, Delay, Act, State, to-check≔, wires≔}
+use Rattle.model.specs.State.{Wires, Delay, Act, State, wires≔}
 use Rattle.model.specs.Wires.{ready, set-outs, invalidate}
 use Rattle.model.specs.Delays.{Moved}
 use Rattle.model.specs.Exec.{Stepped, count-changed, delay≔, readied, exec-gate}
 use Rattle.model.specs.Chain.{Calls, Popped, pop, fit, Chained, chained, push-calls, run-chain, runaway}
-use Rattle.model.specs.Settle.{Settled, check, check-on, settle}
+use Rattle.model.specs.Settle.{Settled, taken, check, check-on, settle}
 use Rattle.model.specs.Opening.{Opened, raised-to, fire, begin-tick, lower, advanced, advance-buffer, advance-clock, advance-timer, before-settling, open-tick}
 use Rattle.model.proofs.Lists.{if-both, each-keeps, each-spends, each-keeps-all, map-all, all-of}
 
@@ -26,7 +26,7 @@ module _ (c : Circuit) where
   -- ---- a chain and its forks
 
   -- by the steps that the tick may still make
-  module _ (P : ℕ → State → Type 0) (step : (n : ℕ) (s : State) (i : ℕ) → P (suc n) s → P n (exec-gate c s i .state)) where
+  module _ (P : ℕ → State → Type 0) (step : (inside : Bool) (n : ℕ) (s : State) (i : ℕ) → P (suc n) s → P n (exec-gate c inside s i .state)) where
     abbrev Chained-spends : Chained → Type 0
     Chained-spends r = P (r .left) (r .state)
 
@@ -44,15 +44,15 @@ module _ (c : Circuit) where
             Chained-spends (elim x as (λ _. Chained) [
               | none ↦ chained s (suc left) 0 q
               | some t ↦
-                  let d = exec-gate c s (t .input) in
+                  let d = exec-gate c false s (t .input) in
                   let r = push-calls c (d .next) (t .rest) in
                   elim (fit r && not (d .full)) [ true ↦ run-chain c left r (d .state) | false ↦ chained (d .state) left list-full r ]
             ])
         go none rec = p
         go (some t) rec =
-            let d = exec-gate c s (t .input) in
+            let d = exec-gate c false s (t .input) in
             let r = push-calls c (d .next) (t .rest) in
-            fits (fit r && not (d .full)) d r (step left s (t .input) p)
+            fits (fit r && not (d .full)) d r (step false left s (t .input) p)
           where
             fits :
                 (b : Bool) (d : Stepped) (r : Calls) → P left (d .state) →
@@ -61,16 +61,13 @@ module _ (c : Circuit) where
             fits false d r y = y
 
   pub run-chain-keeps :
-      (P : State → Type 0) → ((s : State) (i : ℕ) → P s → P (exec-gate c s i .state)) → (left : ℕ) (q : Calls) (s : State) → P s → P (run-chain c left q s .state)
-  run-chain-keeps P step = run-chain-spends (λ _. P) (λ _. step)
+      (P : State → Type 0) → ((inside : Bool) (s : State) (i : ℕ) → P s → P (exec-gate c inside s i .state)) →
+      (left : ℕ) (q : Calls) (s : State) → P s → P (run-chain c left q s .state)
+  run-chain-keeps P step = run-chain-spends (λ _. P) (λ inside _. step inside)
 
   -- ---- settling
 
-  -- the first that waits is taken
-  abbrev pub taken : Wires → ℕ → List ℕ → Wires
-  taken w i is = to-check≔ w is (set (w .queued) i false)
-
-  -- and checked
+  -- the first that waits is taken and checked
   abbrev pub checked : Settled → ℕ → List ℕ → Settled
   checked z i is =
       let r = check c (wires≔ (z .state) (taken (z .state .wires) i is)) i in

@@ -71,7 +71,7 @@ module _ (c : Circuit) where
       elim (pop (q .stack) (q .forks)) [
         | none ↦ chained s (suc left) 0 q
         | some t ↦
-            let d = exec-gate c s (t .input) in
+            let d = exec-gate c false s (t .input) in
             let r = push-calls (d .next) (t .rest) in
             elim (fit r && not (d .full)) [ true ↦ run-chain left r (d .state) | false ↦ chained (d .state) left list-full r ]
       ]

@@ -10,8 +10,8 @@ use Rattle.model.specs.declared.Value.{Value}
 use Rattle.model.specs.declared.Value.the-variants.{Int, Float, Bool as Truth}
 use Rattle.model.specs.Base.{if_then_else_, each, snoc, among, from}
 use Rattle.model.specs.Value.{truthy, as-int, as-float}
-use Rattle.model.specs.Circuit.{Circuit, most-gates, kind-of-gate, input, output, gate-at-input, setting}
-use Rattle.model.specs.State.{Wires, Countdown, Delay, idle, fires≔, State, written≔, unions-passed≔, wires≔, delays≔, outbox≔, changed≔}
+use Rattle.model.specs.Circuit.{Circuit, most-gates, kind-of-gate, input, output, gate-at-input, gate-at-output, setting}
+use Rattle.model.specs.State.{Wires, Countdown, Delay, idle, fires≔, State, written≔, written-outside≔, unions-passed≔, wires≔, delays≔, outbox≔, changed≔}
 use Rattle.model.specs.Wires.{shown, show, look, ready, set-out}
 use Rattle.model.specs.Delays.{nat, Started, in-ticks, in-seconds, countdown-ticks, countdown-seconds, queue-record, pressed}
 
@@ -121,16 +121,20 @@ module _ (c : Circuit) where
   unfoldable pub exec-VarGet : State → ℕ → Stepped
   exec-VarGet s g = fires-next (set-output s (output c g 1) (shown (s .wires) (var g))) (output c g 0)
 
-  -- A Var written, once; what reads it is marked when its write is published. A circuit has at most 64 gates, so a unit writes as many Vars at the most: that
-  -- test is never met (`roomy`).
-  unfoldable pub record-write : Wires → ℕ → Wires
-  record-write w o = if among o (w .written) || leb most-gates (length (w .written)) then w else written≔ w (snoc (w .written) o)
+  -- A Var written, once. A circuit has at most 64 gates, so a unit writes as many Vars at the most: that test is never met (`roomy`).
+  unfoldable pub write-once : Wires → ℕ → Wires
+  write-once w o = if among o (w .written) || leb most-gates (length (w .written)) then w else written≔ w (snoc (w .written) o)
+
+  -- a Var written, while a body is running (`inside`) or outside; what reads it is marked when its write is published
+  unfoldable pub record-write : Bool → Wires → ℕ → Wires
+  record-write inside w o =
+      write-once (if inside then w else written-outside≔ w (set (w .written-outside) (gate-at-output c o) true)) o
 
   -- Value, as it reads, to the Var, with no conversion; direct readers see it at once
-  unfoldable pub exec-VarSet : State → ℕ → Stepped
-  exec-VarSet s₀ g =
+  unfoldable pub exec-VarSet : Bool → State → ℕ → Stepped
+  exec-VarSet inside s₀ g =
       let s = readied s₀ g 2 1 in
-      fires-next (wires≔ s (record-write (show (s .wires) (var g) (read s g 2)) (var g))) (output c g 0)
+      fires-next (wires≔ s (record-write inside (show (s .wires) (var g) (read s g 2)) (var g))) (output c g 0)
 
   -- a condition that is true to ExecOutA, else to ExecOutB
   unfoldable pub exec-Branch : State → ℕ → Stepped
@@ -162,16 +166,16 @@ module _ (c : Circuit) where
       (if among g (map (λ m. m .gate) (s .outbox)) || leb most-gates (length (s .outbox)) then s else outbox≔ s (snoc (s .outbox) (record { gate = g; row = read-row s g 2 8 })))
       (output c g 0)
 
-  -- by the kind k of gate g
-  unfoldable pub exec-kind : ℕ → State → ℕ → ℕ → Stepped
-  exec-kind k s g p =
+  -- by the kind k of gate g; `inside` says whether a body is running
+  unfoldable pub exec-kind : Bool → ℕ → State → ℕ → ℕ → Stepped
+  exec-kind inside k s g p =
       if eqb k 2 then fires-next s (output c g 0)
       else if eqb k 11 || eqb k 13 then exec-Buffer s g
       else if eqb k 15 then exec-Stopwatch s g p
       else if eqb k 16 then exec-Queue s g (λ v. in-ticks (as-int (pos 0) v))
       else if eqb k 17 then exec-Queue s g (λ v. in-seconds (as-float 0 v))
       else if eqb k 18 then exec-VarGet s g
-      else if eqb k 19 then exec-VarSet s g
+      else if eqb k 19 then exec-VarSet inside s g
       else if eqb k 20 then exec-Branch s g
       else if eqb k 21 then exec-Union s g
       else if eqb k 22 then exec-Toggle s g
@@ -180,9 +184,9 @@ module _ (c : Circuit) where
       else ends s
 
   -- the gate that has input i
-  unfoldable pub exec-gate : State → ℕ → Stepped
-  exec-gate s i = exec-kind (kind-of-gate c (gate-at-input c i)) s (gate-at-input c i) (i - input c (gate-at-input c i) 0)
+  unfoldable pub exec-gate : Bool → State → ℕ → Stepped
+  exec-gate inside s i = exec-kind inside (kind-of-gate c (gate-at-input c i)) s (gate-at-input c i) (i - input c (gate-at-input c i) 0)
 
   unfoldable pub exec-opened : ℕ
-  unfolding fires-next ends tally count-changed remainder cycle-next delay delay≔ set-output readied read read-row countdown var exec-Buffer exec-Stopwatch exec-Queue exec-VarGet record-write exec-VarSet exec-Branch exec-Union exec-Toggle exec-Cycle exec-SendEvent exec-kind exec-gate
+  unfolding fires-next ends tally count-changed remainder cycle-next delay delay≔ set-output readied read read-row countdown var exec-Buffer exec-Stopwatch exec-Queue exec-VarGet write-once record-write exec-VarSet exec-Branch exec-Union exec-Toggle exec-Cycle exec-SendEvent exec-kind exec-gate
   exec-opened = 0

@@ -1,20 +1,20 @@
 -- What is in place at the start is noticed in tick 1 (document 02, K2): every watched input waits from the start, has its first check as tick 1 opens, and what this raises
 -- begins in the main pass.
 use mathlib.Core.Path.{_≡_}
-use mathlib.Core.Bool.{true, false, _&&_}
+use mathlib.Core.Bool.{true, _&&_}
 use mathlib.Core.List.{List, [], _∷_, _++_, map}
 use mathlib.Core.Option.{none, some}
 use Prim.Native.Nat.{ℕ, _≤_, _<_}
 use lib.Dec.{eqb}
-use lib.ListN.{length, getD, set, replicate}
+use lib.ListN.{length, getD, replicate}
 use Rattle.schedule.specs.Schedule.{Raise, Place, When, numbered, acts, tick}
 use Rattle.schedule.specs.Promise.{total}
 use Rattle.model.specs.declared.Value.{Value}
 use Rattle.model.specs.Base.{if_then_else_, keep, from}
 use Rattle.model.specs.Circuit.{Circuit, kind-of-gate, gate-at-input, watching}
-use Rattle.model.specs.State.{State, Act, to-check≔, wires≔}
+use Rattle.model.specs.State.{State, Act, wires≔}
 use Rattle.model.specs.Wires.{refresh-all}
-use Rattle.model.specs.Settle.{Settled, calm, check, check-on}
+use Rattle.model.specs.Settle.{Settled, calm, taken, check, check-on}
 use Rattle.model.specs.Opening.{start, Opened, pending, before-settling, open-tick}
 use Rattle.model.specs.Run.{Allowed, machine, world-at-start}
 use Rattle.model.specs.Order.{Numbered-tick}
@@ -51,7 +51,7 @@ module _ (c : Circuit) where
 
   -- then input j is taken off the queue, on which these wait behind it, and checked
   abbrev pub checked-first : Allowed → ℕ → List ℕ → Settled
-  checked-first i j rest = let s = before-check i j .state in check c (wires≔ s (to-check≔ (s .wires) rest (set (s .wires .queued) j false))) j
+  checked-first i j rest = let s = before-check i j .state in check c (wires≔ s (taken (s .wires) j rest)) j
 
   -- The first check of input j.
   pub record First-check (room : ℕ) (i : Allowed) (j : ℕ) : Type 0 where

@@ -13,7 +13,7 @@ use Rattle.model.specs.Value.{truthy, bit, as-float, same, narrow, narro
 use Rattle.model.specs.Kinds.{pure}
 use Rattle.model.specs.Circuit.{Circuit, kind-of-gate, output, setting, watching, gates-of}
 use Rattle.model.specs.Script.{Given}
-use Rattle.model.specs.State.{Wires, idle, Act, Send, State, times≔, pulses≔, unions-passed≔, wires≔, outbox≔, changed≔}
+use Rattle.model.specs.State.{Wires, idle, Act, Send, State, times≔, pulses≔, unions-passed≔, runs-left≔, wires≔, outbox≔, changed≔}
 use Rattle.model.specs.Wires.{watch, invalidate, refresh-all, set-out, set-outs}
 use Rattle.model.specs.Delays.{Moved, advance-flight, advance-fires, advance-records, advance-elapsed, advance-time}
 use Rattle.model.specs.Exec.{count-changed, delay, delay≔, readied, read, countdown}
@@ -32,10 +32,14 @@ wires-stale c =
       dirty = map pure (c .kinds);
       to-check = [];
       queued = replicate (length (c .pins)) false;
+      late-checks = replicate (length (c .pins)) false;
       last = replicate (length (c .pins)) none;
       pulses = replicate (length (c .outputs)) 0;
       written = [];
+      written-outside = replicate (length (c .kinds)) false;
       unions-passed = replicate (length (c .kinds)) false;
+      breaking = false;
+      runs-left = 0;
     }
 
 -- then pure gates fresh
@@ -69,10 +73,14 @@ pending rs = map (λ r. record { at = r .at; act = r .act; place = to-pending })
 unfoldable pub fire : ℕ → ℕ → List Act
 fire n g = replicate n (record { gate = g; form = 0; row = [] })
 
--- the next tick begins: its number, its length, the uptime; no Union has passed
+-- how often bodies may be run in a tick, those of all Loops together: the source's MAX_INVOCATIONS_PER_TICK
+abbrev pub most-runs : ℕ
+most-runs = 100000
+
+-- the next tick begins: its number, its length, the uptime; no Union has passed, and no body was run
 unfoldable pub next-tick : Wires → ℕ → Wires
 next-tick w dt =
-    unions-passed≔ (times≔ w (suc (w .tick)) dt (plus64 (w .uptime) dt)) (map (λ _. false) (w .unions-passed))
+    runs-left≔ (unions-passed≔ (times≔ w (suc (w .tick)) dt (plus64 (w .uptime) dt)) (map (λ _. false) (w .unions-passed))) most-runs
 
 -- and the outbox is emptied; the narrowing of the tick's length is counted in every tick, used or not
 unfoldable pub begin-tick : State → ℕ → State

@@ -1,8 +1,8 @@
 -- Publishing the Vars that a unit wrote, and settling: each watched input that a change reached, or that waits from the start, is read and acted on. Only this raises
 -- activations inside a pass.
 use Prim.Native.Nat.{ℕ, zero, suc, _+_, _-_, _*_}
-use mathlib.Core.Bool.{Bool, true, false, _||_}
-use mathlib.Core.List.{List, [], _∷_, _++_}
+use mathlib.Core.Bool.{Bool, true, false, not, _||_}
+use mathlib.Core.List.{List, [], _∷_, _++_, map}
 use mathlib.Core.Option.{Option, none, some}
 use lib.Dec.{eqb}
 use lib.ListN.{length, getD, set}
@@ -11,9 +11,9 @@ use Rattle.model.specs.declared.Value.{Value}
 use Rattle.model.specs.declared.Value.the-variants.{Nothing, Bool as Truth}
 use Rattle.model.specs.Base.{if_then_else_, each}
 use Rattle.model.specs.Value.{truthy, as-float, same, lt64}
-use Rattle.model.specs.Circuit.{Circuit, kind-of-gate, input, output, gate-at-input}
-use Rattle.model.specs.State.{Wires, Act, State, to-check≔, last≔, pulses≔, written≔, wires≔}
-use Rattle.model.specs.Wires.{look, ready, refresh-all, mark-readers, set-out}
+use Rattle.model.specs.Circuit.{Circuit, kind-of-gate, input, output, gate-at-input, gate-at-output}
+use Rattle.model.specs.State.{Wires, Act, State, to-check≔, late-checks≔, last≔, pulses≔, written≔, written-outside≔, wires≔}
+use Rattle.model.specs.Wires.{look, ready, refresh-all, mark-readers-for, set-out}
 use Rattle.model.specs.Delays.{buffer-input}
 use Rattle.model.specs.Exec.{with-countdown, countdown}
 
@@ -40,10 +40,22 @@ unfoldable pub unchanged : Option Value → Value → Bool
 unchanged none v = false
 unchanged (some u) v = same u v
 
+-- input i, the first that waits, is taken to be checked: it waits no more, and may be queued again
+unfoldable pub taken : Wires → ℕ → List ℕ → Wires
+taken w i is = late-checks≔ (to-check≔ w is (set (w .queued) i false)) (set (w .late-checks) i false)
+
+-- no Var is written
+unfoldable pub none-written : Wires → Wires
+none-written w = written-outside≔ (written≔ w []) (map (λ _. false) (w .written-outside))
+
 module _ (c : Circuit) where
-  -- the Vars written reach what reads them, in the order of their first write, also where the value did not change
+  -- a Var that was written reaches what reads it, for a late check if it was written only inside bodies
+  unfoldable pub publish-write : Wires → ℕ → Wires
+  publish-write w o = mark-readers-for c (not (getD (w .written-outside) (gate-at-output c o) false)) w o
+
+  -- all that were, in the order of their first write, also where the value did not change; then none is written
   unfoldable pub publish-writes : Wires → Wires
-  publish-writes w = written≔ (each (mark-readers c) w (w .written)) []
+  publish-writes w = none-written (each publish-write w (w .written))
 
   -- a detector's output goes up, or stays up, from this tick on
   unfoldable pub pulse : Wires → ℕ → Wires
@@ -75,7 +87,7 @@ module _ (c : Circuit) where
   unfoldable pub check : State → ℕ → Settled
   check s i = let t = wires≔ s (ready c (s .wires) i) in compared t i (getD (s .wires .last) i none) (look c (t .wires) i)
 
-  -- first in, first out; an input taken may be queued again
+  -- first in, first out
   unfoldable pub check-on : ℕ → Settled → Settled
   check-on zero z = z
   check-on (suc n) z =
@@ -83,7 +95,7 @@ module _ (c : Circuit) where
       elim (w .to-check) [
         | [] ↦ z
         | (i ∷ is) ↦
-            let r = check (wires≔ (z .state) (to-check≔ w is (set (w .queued) i false))) i in
+            let r = check (wires≔ (z .state) (taken w i is)) i in
             check-on n (record { state = r .state; raises = z .raises ++ r .raises })
       ]
 
@@ -96,5 +108,5 @@ module _ (c : Circuit) where
   settle s = check-on most-checks (calm (wires≔ s (refresh-all c (s .wires))))
 
   unfoldable pub settle-opened : ℕ
-  unfolding calm raise last-value unchanged publish-writes pulse edge detect compared check check-on settle
+  unfolding calm raise last-value unchanged taken none-written publish-write publish-writes pulse edge detect compared check check-on settle
   settle-opened = 0

@@ -7,9 +7,11 @@ use Rattle.model.specs.declared.Value.{Value}
 
 -- What wires show and what is remembered of them. `dt` and `uptime` are f64 bits. `outs` has a value for each output; a Var's storage is its Value. `dirty` has a
 -- mark for each gate: a pure gate that is stale. `to-check` has the watched inputs that wait to be checked, the oldest first, and `queued` a mark for each
--- input that does. `last` has for each watched input what its last check read, or none; `pulses` for each output the tick in which its pulse was last
--- raised, 0 for none; `written` the outputs of the Vars written by this unit, each once, in the order of its first write; `unions-passed` a mark for each gate: a Union
--- that has passed in this tick.
+-- input that does; `late-checks` a mark for each input that was reached from a Var written only inside bodies. `last` has for each watched input what its last
+-- check read, or none; `pulses` for each output the tick in which its pulse was last raised, 0 for none; `written` the outputs of the Vars written by this unit,
+-- each once, in the order of its first write, and `written-outside` a mark for each gate: a Var that this unit wrote outside bodies. `unions-passed` has a mark for
+-- each gate: a Union that has passed in this tick, or inside a body in this run of it; `breaking` says whether a Break ran in the run of the body under way, and
+-- `runs-left` how often bodies may still be run in this tick.
 pub record Wires : Type 0 where
   pub tick : ℕ
   pub dt : ℕ
@@ -18,10 +20,14 @@ pub record Wires : Type 0 where
   pub dirty : List Bool
   pub to-check : List ℕ
   pub queued : List Bool
+  pub late-checks : List Bool
   pub last : List (Option Value)
   pub pulses : List ℕ
   pub written : List ℕ
+  pub written-outside : List Bool
   pub unions-passed : List Bool
+  pub breaking : Bool
+  pub runs-left : ℕ
 
 -- ticks left, 0 when it is due; or seconds to wait and seconds so far, as f32 bits
 pub data Countdown : Type 0 where
@@ -87,35 +93,51 @@ records≔ d qs = record { flight = d.flight; later = d.later; fires = d.fires; 
 
 unfoldable pub times≔ : Wires → ℕ → ℕ → ℕ → Wires
 times≔ w x y z =
-    record { tick = x; dt = y; uptime = z; outs = w.outs; dirty = w.dirty; to-check = w.to-check; queued = w.queued; last = w.last; pulses = w.pulses; written = w.written; unions-passed = w.unions-passed }
+    record { tick = x; dt = y; uptime = z; outs = w.outs; dirty = w.dirty; to-check = w.to-check; queued = w.queued; late-checks = w.late-checks; last = w.last; pulses = w.pulses; written = w.written; written-outside = w.written-outside; unions-passed = w.unions-passed; breaking = w.breaking; runs-left = w.runs-left }
 
 unfoldable pub outs≔ : Wires → List Value → Wires
 outs≔ w x =
-    record { tick = w.tick; dt = w.dt; uptime = w.uptime; outs = x; dirty = w.dirty; to-check = w.to-check; queued = w.queued; last = w.last; pulses = w.pulses; written = w.written; unions-passed = w.unions-passed }
+    record { tick = w.tick; dt = w.dt; uptime = w.uptime; outs = x; dirty = w.dirty; to-check = w.to-check; queued = w.queued; late-checks = w.late-checks; last = w.last; pulses = w.pulses; written = w.written; written-outside = w.written-outside; unions-passed = w.unions-passed; breaking = w.breaking; runs-left = w.runs-left }
 
 unfoldable pub dirty≔ : Wires → List Bool → Wires
 dirty≔ w x =
-    record { tick = w.tick; dt = w.dt; uptime = w.uptime; outs = w.outs; dirty = x; to-check = w.to-check; queued = w.queued; last = w.last; pulses = w.pulses; written = w.written; unions-passed = w.unions-passed }
+    record { tick = w.tick; dt = w.dt; uptime = w.uptime; outs = w.outs; dirty = x; to-check = w.to-check; queued = w.queued; late-checks = w.late-checks; last = w.last; pulses = w.pulses; written = w.written; written-outside = w.written-outside; unions-passed = w.unions-passed; breaking = w.breaking; runs-left = w.runs-left }
 
 unfoldable pub to-check≔ : Wires → List ℕ → List Bool → Wires
 to-check≔ w x y =
-    record { tick = w.tick; dt = w.dt; uptime = w.uptime; outs = w.outs; dirty = w.dirty; to-check = x; queued = y; last = w.last; pulses = w.pulses; written = w.written; unions-passed = w.unions-passed }
+    record { tick = w.tick; dt = w.dt; uptime = w.uptime; outs = w.outs; dirty = w.dirty; to-check = x; queued = y; late-checks = w.late-checks; last = w.last; pulses = w.pulses; written = w.written; written-outside = w.written-outside; unions-passed = w.unions-passed; breaking = w.breaking; runs-left = w.runs-left }
+
+unfoldable pub late-checks≔ : Wires → List Bool → Wires
+late-checks≔ w x =
+    record { tick = w.tick; dt = w.dt; uptime = w.uptime; outs = w.outs; dirty = w.dirty; to-check = w.to-check; queued = w.queued; late-checks = x; last = w.last; pulses = w.pulses; written = w.written; written-outside = w.written-outside; unions-passed = w.unions-passed; breaking = w.breaking; runs-left = w.runs-left }
 
 unfoldable pub last≔ : Wires → List (Option Value) → Wires
 last≔ w x =
-    record { tick = w.tick; dt = w.dt; uptime = w.uptime; outs = w.outs; dirty = w.dirty; to-check = w.to-check; queued = w.queued; last = x; pulses = w.pulses; written = w.written; unions-passed = w.unions-passed }
+    record { tick = w.tick; dt = w.dt; uptime = w.uptime; outs = w.outs; dirty = w.dirty; to-check = w.to-check; queued = w.queued; late-checks = w.late-checks; last = x; pulses = w.pulses; written = w.written; written-outside = w.written-outside; unions-passed = w.unions-passed; breaking = w.breaking; runs-left = w.runs-left }
 
 unfoldable pub pulses≔ : Wires → List ℕ → Wires
 pulses≔ w x =
-    record { tick = w.tick; dt = w.dt; uptime = w.uptime; outs = w.outs; dirty = w.dirty; to-check = w.to-check; queued = w.queued; last = w.last; pulses = x; written = w.written; unions-passed = w.unions-passed }
+    record { tick = w.tick; dt = w.dt; uptime = w.uptime; outs = w.outs; dirty = w.dirty; to-check = w.to-check; queued = w.queued; late-checks = w.late-checks; last = w.last; pulses = x; written = w.written; written-outside = w.written-outside; unions-passed = w.unions-passed; breaking = w.breaking; runs-left = w.runs-left }
 
 unfoldable pub written≔ : Wires → List ℕ → Wires
 written≔ w x =
-    record { tick = w.tick; dt = w.dt; uptime = w.uptime; outs = w.outs; dirty = w.dirty; to-check = w.to-check; queued = w.queued; last = w.last; pulses = w.pulses; written = x; unions-passed = w.unions-passed }
+    record { tick = w.tick; dt = w.dt; uptime = w.uptime; outs = w.outs; dirty = w.dirty; to-check = w.to-check; queued = w.queued; late-checks = w.late-checks; last = w.last; pulses = w.pulses; written = x; written-outside = w.written-outside; unions-passed = w.unions-passed; breaking = w.breaking; runs-left = w.runs-left }
+
+unfoldable pub written-outside≔ : Wires → List Bool → Wires
+written-outside≔ w x =
+    record { tick = w.tick; dt = w.dt; uptime = w.uptime; outs = w.outs; dirty = w.dirty; to-check = w.to-check; queued = w.queued; late-checks = w.late-checks; last = w.last; pulses = w.pulses; written = w.written; written-outside = x; unions-passed = w.unions-passed; breaking = w.breaking; runs-left = w.runs-left }
 
 unfoldable pub unions-passed≔ : Wires → List Bool → Wires
 unions-passed≔ w x =
-    record { tick = w.tick; dt = w.dt; uptime = w.uptime; outs = w.outs; dirty = w.dirty; to-check = w.to-check; queued = w.queued; last = w.last; pulses = w.pulses; written = w.written; unions-passed = x }
+    record { tick = w.tick; dt = w.dt; uptime = w.uptime; outs = w.outs; dirty = w.dirty; to-check = w.to-check; queued = w.queued; late-checks = w.late-checks; last = w.last; pulses = w.pulses; written = w.written; written-outside = w.written-outside; unions-passed = x; breaking = w.breaking; runs-left = w.runs-left }
+
+unfoldable pub breaking≔ : Wires → Bool → Wires
+breaking≔ w x =
+    record { tick = w.tick; dt = w.dt; uptime = w.uptime; outs = w.outs; dirty = w.dirty; to-check = w.to-check; queued = w.queued; late-checks = w.late-checks; last = w.last; pulses = w.pulses; written = w.written; written-outside = w.written-outside; unions-passed = w.unions-passed; breaking = x; runs-left = w.runs-left }
+
+unfoldable pub runs-left≔ : Wires → ℕ → Wires
+runs-left≔ w x =
+    record { tick = w.tick; dt = w.dt; uptime = w.uptime; outs = w.outs; dirty = w.dirty; to-check = w.to-check; queued = w.queued; late-checks = w.late-checks; last = w.last; pulses = w.pulses; written = w.written; written-outside = w.written-outside; unions-passed = w.unions-passed; breaking = w.breaking; runs-left = x }
 
 unfoldable pub wires≔ : State → Wires → State
 wires≔ s x = record { wires = x; delays = s.delays; outbox = s.outbox; changed = s.changed }
@@ -130,5 +152,5 @@ unfoldable pub changed≔ : State → ℕ → State
 changed≔ s x = record { wires = s.wires; delays = s.delays; outbox = s.outbox; changed = x }
 
 unfoldable pub state-opened : ℕ
-unfolding idle flight≔ fires≔ elapsed≔ records≔ times≔ outs≔ dirty≔ to-check≔ last≔ pulses≔ written≔ unions-passed≔ wires≔ delays≔ outbox≔ changed≔
+unfolding idle flight≔ fires≔ elapsed≔ records≔ times≔ outs≔ dirty≔ to-check≔ late-checks≔ last≔ pulses≔ written≔ written-outside≔ unions-passed≔ breaking≔ runs-left≔ wires≔ delays≔ outbox≔ changed≔
 state-opened = 0

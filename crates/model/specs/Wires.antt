@@ -11,7 +11,7 @@ use Rattle.model.specs.Base.{if_then_else_, each, snoc}
 use Rattle.model.specs.Value.{truthy, same}
 use Rattle.model.specs.Kinds.{pure}
 use Rattle.model.specs.Circuit.{Circuit, most-inputs, kind-of-gate, input, output, inputs-of, gate-at-input, source, stored-in, gate-at-output, readers-of, watching, gates}
-use Rattle.model.specs.State.{Wires, outs≔, dirty≔, to-check≔}
+use Rattle.model.specs.State.{Wires, outs≔, dirty≔, to-check≔, late-checks≔}
 
 -- ---- what is shown, what is stale, what waits
 
@@ -45,10 +45,15 @@ unfoldable pub watch : Wires → ℕ → Wires
 watch w i =
     if getD (w .queued) i true || leb most-inputs (length (w .to-check)) then w else to-check≔ w (snoc (w .to-check) i) (set (w .queued) i true)
 
--- marking under way: the wires, and the outputs whose readers are still to be marked, the newest first
+-- an input that is reached from a Var written only inside bodies is marked for a late check, also where it waits already
+unfoldable pub watch-for : Bool → Wires → ℕ → Wires
+watch-for late w i = watch (if late then late-checks≔ w (set (w .late-checks) i true) else w) i
+
+-- marking under way: the wires, the outputs whose readers are still to be marked, the newest first, and whether it is for a Var written only inside bodies
 pub record Marking : Type 0 where
   pub wires : Wires
   pub work : List ℕ
+  pub late : Bool
 
 module _ (c : Circuit) where
   -- ---- reading: what an input reads is refreshed (`ready`), then looked at
@@ -97,18 +102,22 @@ module _ (c : Circuit) where
   unfoldable pub mark-reader : Marking → ℕ → Marking
   mark-reader m i =
       if pure (kind-of-gate c (gate-at-input c i)) then
-      (if is-clean (m .wires) (gate-at-input c i) then record { wires = soil (m .wires) (gate-at-input c i); work = output c (gate-at-input c i) 0 ∷ m .work } else m)
-      else if watching c i then record { wires = watch (m .wires) i; work = m .work }
+      (if is-clean (m .wires) (gate-at-input c i) then record { wires = soil (m .wires) (gate-at-input c i); work = output c (gate-at-input c i) 0 ∷ m .work; late = m .late } else m)
+      else if watching c i then record { wires = watch-for (m .late) (m .wires) i; work = m .work; late = m .late }
       else m
 
   -- The last one found first. Each pure gate is found at most once, so one more than there are gates suffice.
   unfoldable pub mark-on : ℕ → Marking → Wires
   mark-on zero m = m .wires
-  mark-on (suc n) m = elim (m .work) [ [] ↦ m .wires | (o ∷ work) ↦ mark-on n (each mark-reader (record { wires = m .wires; work = work }) (readers-of c o)) ]
+  mark-on (suc n) m = elim (m .work) [ [] ↦ m .wires | (o ∷ work) ↦ mark-on n (each mark-reader (record { wires = m .wires; work = work; late = m .late }) (readers-of c o)) ]
 
-  -- all that reads output o
+  -- all that reads output o, by whether it is a Var written only inside bodies
+  unfoldable pub mark-readers-for : Bool → Wires → ℕ → Wires
+  mark-readers-for late w o = mark-on (suc (length (c .kinds))) (record { wires = w; work = o ∷ []; late = late })
+
+  -- of any other output
   unfoldable pub mark-readers : Wires → ℕ → Wires
-  mark-readers w o = mark-on (suc (length (c .kinds))) (record { wires = w; work = o ∷ [] })
+  mark-readers w o = mark-readers-for false w o
 
   -- a time source is stale itself
   unfoldable pub invalidate : Wires → ℕ → Wires
@@ -124,5 +133,5 @@ module _ (c : Circuit) where
   set-outs w o (v ∷ vs) = set-outs (set-out w o v) (suc o) vs
 
   unfoldable pub wires-opened : ℕ
-  unfolding shown show is-dirty is-clean soil clean watch look compute recompute behind refresh-to refresh refresh-all ready mark-reader mark-on mark-readers invalidate set-out set-outs
+  unfolding shown show is-dirty is-clean soil clean watch watch-for look compute recompute behind refresh-to refresh refresh-all ready mark-reader mark-on mark-readers-for mark-readers invalidate set-out set-outs
   wires-opened = 0
