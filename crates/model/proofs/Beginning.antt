@@ -11,7 +11,8 @@ use Rattle.schedule.proofs.Theorems.{run-begins}
 use Rattle.schedule.proofs.Members.{all-map, all-append}
 use Rattle.model.specs.Circuit.{Circuit, output}
 use Rattle.model.specs.State.{State, Act}
-use Rattle.model.specs.Chain.{Chained, run-chain}
+use Rattle.model.specs.Chain.{Chained}
+use Rattle.model.specs.Loops.{run-chain}
 use Rattle.model.specs.Unit.{World, state≔, raises-in, begin, enter, run-unit, finish-chain}
 use Rattle.model.specs.Closing.{read-outputs, write, close}
 use Rattle.model.specs.Run.{Allowed, opening, body, closing, machine, world-at-start}

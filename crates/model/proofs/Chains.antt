@@ -1,64 +1,129 @@
--- A chain that ends without a stop has made all its calls: its stack and its forks are empty.
-use mathlib.Core.Path.{_≡_, refl, sym}
-use mathlib.Core.Bool.{Bool, true, false, not, _&&_}
+-- Runs of calls: their bound on rounds never shows, since each call takes a step; and a chain that ends without a stop has made all its calls, its stack and its
+-- forks are empty.
+use mathlib.Core.Path.{_≡_, refl, sym, ap, _∙_}
+use mathlib.Core.Bool.{Bool, true, false}
 use mathlib.Core.List.{List, [], _∷_}
 use mathlib.Core.Option.{Option, none, some}
-use Prim.Native.Nat.{ℕ, zero, suc}
+use Prim.Native.Nat.{ℕ, zero, suc, _+_, _-_, _≤_, _<_}
 use native.Mathlib.Omega.{arith}
-use lib.Dec.{eqb}
-use borrow.Author.Tests.{eqb-true}
-use Rattle.schedule.specs.Schedule.{list-full}
+use lib.Dec.{leb, eqb}
+use lib.ListN.{length}
+use borrow.Author.Tests.{eqb-true, eq-eqb, ne-eqb, le-leb}
 use Rattle.model.specs.Base.{if_then_else_}
 use Rattle.model.specs.Circuit.{Circuit}
 use Rattle.model.specs.State.{State, Act}
-use Rattle.model.specs.Exec.{Stepped, exec-gate}
-use Rattle.model.specs.Chain.{Calls, no-calls, Popped, pop, fit, Chained, chained, push-calls, run-chain, runaway}
+use Rattle.model.specs.Chain.{Calls, no-calls, Popped, pop-fork, pop, Chained, chained, next, make-step, run-calls, runaway}
+use Rattle.model.specs.Loops.{operate, run-nested, run-body, run-chain}
 use Rattle.model.specs.Unit.{World, run-unit, finish-chain}
+use Rattle.model.proofs.Lists.{steady}
+use Rattle.model.proofs.Running.{operate-falls}
 
--- no call is left where none is to be made
-pop-none : (q : Calls) → pop (q .stack) (q .forks) ≡ none → q ≡ no-calls
-unfolding pop
-pop-none q h = go (q .stack) (q .forks) refl refl h
-  where
-    go : (st fs : List ℕ) → q .stack ≡ st → q .forks ≡ fs → pop st fs ≡ none → q ≡ no-calls
-    go [] [] e f h = λ j. record { stack = e j; forks = f j }
-    go [] (i ∷ fs) e f h = cc
-    go (i ∷ st) fs e f h = cc
+-- ---- rounds
 
--- what holds of a chain's outcome
-abbrev Ended : Chained → Type 0
-Ended r = r .stop ≡ 0 → r .calls ≡ no-calls
+-- nothing follows a stop
+next-stopped : (inside : Bool) (under : ℕ) (r : Chained) → (r .stop ≡ 0 → ⊥) → next inside under r ≡ none
+unfolding next
+next-stopped inside under r h = let e = ne-eqb (r .stop) 0 h in rw (e, next)
 
-pub chain-ended : (c : Circuit) (left : ℕ) (q : Calls) (s : State) → run-chain c left q s .stop ≡ 0 → run-chain c left q s .calls ≡ no-calls
-unfolding run-chain chained
-chain-ended c zero q s = go (pop (q .stack) (q .forks)) refl
-  where
-    go : (x : Option Popped) → pop (q .stack) (q .forks) ≡ x → Ended (elim x as (λ _. Chained) [ none ↦ chained s 0 0 q | some t ↦ chained s 0 runaway q ])
-    go none e h = pop-none q e
-    go (some t) e h = absurd (omega arith)
-chain-ended c (suc left) q s = go (pop (q .stack) (q .forks)) refl (λ r t. chain-ended c left r t)
+-- entering an input leaves no more steps than there were
+abbrev pub Falls : (ℕ → Chained → Chained) → Type 0
+Falls operate = (i : ℕ) (s : State) (left : ℕ) (q : Calls) → operate i (chained s left 0 q) .left ≤ left
+
+-- a call that was made leaves the run stopped, or with fewer steps
+made-falls :
+    (operate : ℕ → Chained → Chained) → Falls operate → (t : Popped) (r : Chained) (P : Chained → Type 0) →
+    ((q : Chained) → (q .stop ≡ 0 → ⊥) → P q) → ((q : Chained) → q .left < r .left → P q) → P (make-step operate t r)
+unfolding make-step chained
+made-falls operate falls t r P stopped fewer = go (r .left) fewer
   where
     go :
-        (x : Option Popped) → pop (q .stack) (q .forks) ≡ x →
-        ((r : Calls) (t : State) → Ended (run-chain c left r t)) →
-        Ended (elim x as (λ _. Chained) [
-          | none ↦ chained s (suc left) 0 q
-          | some t ↦
-              let d = exec-gate c false s (t .input) in
-              let r = push-calls c (d .next) (t .rest) in
-              elim (fit r && not (d .full)) [ true ↦ run-chain c left r (d .state) | false ↦ chained (d .state) left list-full r ]
-        ])
-    go none e rec = λ h. pop-none q e
-    go (some t) e rec =
-        let d = exec-gate c false s (t .input) in
-        let r = push-calls c (d .next) (t .rest) in
-        fits (fit r && not (d .full)) d r rec
-      where
-        fits :
-            (b : Bool) (d : Stepped) (r : Calls) → ((r : Calls) (t : State) → Ended (run-chain c left r t)) →
-            Ended (elim b as (λ _. Chained) [ true ↦ run-chain c left r (d .state) | false ↦ chained (d .state) left list-full r ])
-        fits true d r rec = rec r (d .state)
-        fits false d r rec = λ h. absurd (omega arith)
+        (n : ℕ) → ((q : Chained) → q .left < n → P q) →
+        P (elim n as (λ _. Chained) [ zero ↦ chained (r .state) 0 runaway (t .rest) | suc left ↦ operate (t .input) (chained (r .state) left 0 (t .rest)) ])
+    go zero fewer = stopped _ (λ e. omega (arith, e))
+    go (suc left) fewer = fewer _ (omega (arith, falls (t .input) (r .state) left (t .rest)))
+
+module _ (operate : ℕ → Chained → Chained) (falls : Falls operate) (inside : Bool) (under : ℕ) where
+  abbrev rounds : ℕ → Chained → Chained
+  rounds n r = run-calls operate inside under n r
+
+  stopped-stays : (n : ℕ) (r : Chained) → (r .stop ≡ 0 → ⊥) → rounds n r ≡ r
+  unfolding run-calls
+  stopped-stays zero r h = refl
+  stopped-stays (suc n) r h = let e = next-stopped inside under r h in rw (e, run-calls)
+
+  -- one round more, where there are more than steps are left
+  enough : (n : ℕ) (r : Chained) → r .left < n → rounds (suc n) r ≡ rounds n r
+  unfolding run-calls
+  enough zero r l = absurd (omega (arith, l))
+  enough (suc n) r l =
+      go (next inside under r)
+      λ t. made-falls operate falls t r (λ q. rounds (suc n) q ≡ rounds n q) (λ q h. stopped-stays (suc n) q h ∙ sym (stopped-stays n q h)) (λ q k. enough n q (omega (arith, l, k)))
+    where
+      go :
+          (x : Option Popped) → ((t : Popped) → rounds (suc n) (make-step operate t r) ≡ rounds n (make-step operate t r)) →
+          _≡_ {A = Chained} (elim x [ none ↦ r | some t ↦ rounds (suc n) (make-step operate t r) ]) (elim x [ none ↦ r | some t ↦ rounds n (make-step operate t r) ])
+      go none rec = refl
+      go (some t) rec = rec t
+
+  -- as many as steps are left, and one, and any number more
+  pub rounds-suffice : (r : Chained) (more : ℕ) → rounds (suc (r .left) + more) r ≡ rounds (suc (r .left)) r
+  rounds-suffice r more = steady (λ n. rounds n r) (suc (r .left)) (λ n l. enough n r (omega (arith, l))) more
+
+  -- ---- so a run goes call by call, and no round shows
+
+  pub none-waits : (r : Chained) → next inside under r ≡ none → rounds (suc (r .left)) r ≡ r
+  unfolding run-calls
+  none-waits r e = rw (e, run-calls)
+
+  pub one-waits : (r : Chained) (t : Popped) → next inside under r ≡ some t → rounds (suc (r .left)) r ≡ rounds (suc (make-step operate t r .left)) (make-step operate t r)
+  unfolding run-calls
+  one-waits r t e =
+      let first : rounds (suc (r .left)) r ≡ rounds (r .left) (make-step operate t r) = rw (e, run-calls) in
+      first
+      ∙ made-falls operate falls t r (λ q. rounds (r .left) q ≡ rounds (suc (q .left)) q)
+      (λ q h. stopped-stays (r .left) q h ∙ sym (stopped-stays (suc (q .left)) q h))
+      (λ q l. let z : suc (q .left) + (r .left - suc (q .left)) ≡ r .left = omega (arith, l) in ap (λ n. rounds n q) (sym z) ∙ rounds-suffice q (r .left - suc (q .left)))
+
+  -- ---- at its end no call waits
+
+  -- where it has not stopped
+  abbrev Ended : Chained → Type 0
+  Ended r = r .stop ≡ 0 → next inside under r ≡ none
+
+  pub calls-ended : (n : ℕ) (r : Chained) → r .left < n → Ended (rounds n r)
+  unfolding run-calls
+  calls-ended zero r l = absurd (omega (arith, l))
+  calls-ended (suc n) r l =
+      go (next inside under r) refl
+      λ t. made-falls operate falls t r (λ q. Ended (rounds n q)) (λ q h. rw (stopped-stays n q h) (λ e. absurd (h e))) (λ q k. calls-ended n q (omega (arith, l, k)))
+    where
+      go :
+          (x : Option Popped) → next inside under r ≡ x → ((t : Popped) → Ended (rounds n (make-step operate t r))) →
+          Ended (elim x [ none ↦ r | some t ↦ rounds n (make-step operate t r) ])
+      go none e rec = λ _. e
+      go (some t) e rec = rec t
+
+-- ---- a chain
+
+-- no call is left where none is to be made, outside bodies
+pop-none : (q : Calls) → pop false 0 (q .stack) (q .forks) ≡ none → q ≡ no-calls
+unfolding pop pop-fork if_then_else_
+pop-none q h = go (q .stack) (q .forks) refl refl h
+  where
+    go : (st fs : List ℕ) → q .stack ≡ st → q .forks ≡ fs → pop false 0 st fs ≡ none → q ≡ no-calls
+    go [] [] e f h = λ j. record { stack = e j; forks = f j }
+    go [] (i ∷ fs) e f h = cc
+    go (i ∷ st) fs e f h = let z : leb 0 (length st) ≡ true = le-leb 0 (length st) (omega arith) in let k = rw (z, pop) at h in cc
+
+next-none : (r : Chained) → r .stop ≡ 0 → next false 0 r ≡ none → r .calls ≡ no-calls
+unfolding next
+next-none r e h = let z = eq-eqb (r .stop) 0 e in pop-none (r .calls) (rw (z, next) at h)
+
+pub chain-ended : (c : Circuit) (left : ℕ) (q : Calls) (s : State) → run-chain c left q s .stop ≡ 0 → run-chain c left q s .calls ≡ no-calls
+unfolding run-chain run-nested chained
+chain-ended c left q s e =
+    next-none (run-chain c left q s) e
+    (calls-ended (operate c (run-body c (length (c .kinds))) false) (operate-falls c (length (c .kinds)) false) false 0 (suc left) (chained s left 0 q) (omega arith) e)
 
 -- so of a unit
 pub unit-ended : (c : Circuit) (w : World) (a : Act) → run-unit c w a .stop ≡ 0 → run-unit c w a .calls ≡ no-calls

@@ -25,8 +25,9 @@ use Rattle.model.specs.Circuit.{Circuit, most-gates, circuit, gates-such
 use Rattle.model.specs.Script.{Given}
 use Rattle.model.specs.State.{Wires, State, Delay, Act, Send, wires≔, delays≔, outbox≔, changed≔}
 use Rattle.model.specs.Wires.{refresh-all}
-use Rattle.model.specs.Exec.{most-changed, tally, count-changed, Stepped, fires-next, ends, delay≔, set-output, readied, exec-Buffer, exec-Stopwatch, exec-Queue, exec-VarGet, exec-VarSet, exec-Branch, exec-Union, exec-Toggle, exec-Cycle, exec-SendEvent, exec-kind, exec-gate}
-use Rattle.model.specs.Chain.{Calls, run-chain}
+use Rattle.model.specs.Exec.{most-changed, tally, count-changed, Stepped, fires-next, ends, delay≔, set-output, readied, exec-Buffer, exec-Stopwatch, exec-Queue, exec-VarGet, exec-VarSet, exec-Branch, exec-Union, exec-Toggle, exec-Cycle, exec-SendEvent, exec-Break, exec-kind, exec-gate}
+use Rattle.model.specs.Chain.{Calls}
+use Rattle.model.specs.Loops.{no-unions, unions-of, runs-left-to, break-set, show-loop, run-chain}
 use Rattle.model.specs.Settle.{Settled, calm, raise, compared, check, check-on, most-checks, settle}
 use Rattle.model.specs.Opening.{begin-tick, before-settling, open-tick}
 use Rattle.model.specs.Unit.{World, state≔, raises-in, begin, enter, run-unit, finish-chain}
@@ -39,7 +40,8 @@ use Rattle.model.proofs.Lists.{if-both, keep-most, all-pass, bit-most, 
 use Rattle.model.proofs.Asked.{accepted}
 use Rattle.model.proofs.Roomy.{Few, few}
 use Rattle.model.proofs.Checks.{detect-keeps}
-use Rattle.model.proofs.Walks.{run-chain-spends, check-on-spends, Opened-keeps, Opening-spends, moving, before-settling-spends, open-tick-spends}
+use Rattle.model.proofs.Running.{Steps-spend, run-chain-spends}
+use Rattle.model.proofs.Walks.{check-on-spends, Opened-keeps, Opening-spends, moving, before-settling-spends, open-tick-spends}
 
 -- ---- one narrowing more
 
@@ -94,7 +96,7 @@ module _ (c : Circuit) (b : ℕ) where
   Stepped-counts n d = Counts n (d .state)
 
   step : (inside : Bool) (n : ℕ) (s : State) (i : ℕ) → Counts (suc n) s → Stepped-counts n (exec-gate c inside s i)
-  unfolding exec-gate exec-kind fires-next ends set-output readied exec-Buffer exec-Stopwatch exec-Queue exec-VarGet exec-VarSet exec-Branch exec-Union exec-Toggle exec-Cycle exec-SendEvent
+  unfolding exec-gate exec-kind fires-next ends set-output readied exec-Buffer exec-Stopwatch exec-Queue exec-VarGet exec-VarSet exec-Branch exec-Union exec-Toggle exec-Cycle exec-SendEvent exec-Break
   step inside n s i z =
       let y = fewer z in
       let P = Stepped-counts n in
@@ -109,7 +111,24 @@ module _ (c : Circuit) (b : ℕ) where
       (if-both P _ (if-both P _ y (put _ y))
       (if-both P _ (put _ y)
       (if-both P _ (put _ (put _ y))
-      (if-both P _ (if-both (Counts n) _ (put _ y) (put-outbox _ (put _ y))) y)))))))))))
+      (if-both P _ (if-both (Counts n) _ (put _ y) (put-outbox _ (put _ y))) (if-both P _ (put _ y) y))))))))))))
+
+  -- ---- a chain, and the Loops that it runs, which narrow nothing themselves
+
+  steps : Steps-spend c Counts
+  unfolding no-unions unions-of runs-left-to break-set show-loop set-output readied
+  steps =
+      record {
+        step = λ inside n s i z. step inside n s i z;
+        loop-step = λ n s z. fewer z;
+        inputs-read = λ n s g z. put _ z;
+        broken = λ n s b z. put _ z;
+        counted = λ n s m z. put _ z;
+        index-shown = λ n s g i k z. put _ z;
+        body-entered = λ n s z. put _ z;
+        body-left = λ m n s t z y. put _ y;
+        loop-shown = λ n s g done aborted k z. put _ (put _ (put _ z));
+      }
 
   -- ---- settling
 
@@ -181,7 +200,7 @@ module _ (c : Circuit) where
   -- ---- a unit
 
   chained : (b left : ℕ) (q : Calls) (s : State) → Counts c b left s → Counts c b (run-chain c left q s .left) (run-chain c left q s .state)
-  chained b = run-chain-spends c (Counts c b) (step c b)
+  chained b = run-chain-spends c (Counts c b) (steps c b)
 
   entered : (b n : ℕ) (w : World) (a : Act) → w .state .changed + n ≤ b → Counts c b n (enter c (w .state) a)
   unfolding enter

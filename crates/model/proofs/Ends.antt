@@ -10,50 +10,45 @@ use Rattle.words.specs.Words.{words}
 use Rattle.schedule.specs.Schedule.{list-full, log-full, most-units, Raise, When, Setup, plain, Took, empty, took, Filed, full, filed, Activation, push-all, activate-open, activate-late, activate-main, next-late, next-main, raise-on, raise-all, pass-on, pass, no-turn, turning, late-pass, main-pass, Tick, outcome, tick}
 use Rattle.schedule.specs.Promise.{All, _∷·_}
 use Rattle.schedule.proofs.Every.{every}
-use Rattle.model.specs.Base.{among}
+use Rattle.model.specs.Base.{if_then_else_, among}
 use Rattle.model.specs.Circuit.{Circuit, circuit}
 use Rattle.model.specs.State.{State, Act}
-use Rattle.model.specs.Exec.{Stepped, exec-gate}
-use Rattle.model.specs.Chain.{Calls, Popped, pop, fit, Chained, chained, push-calls, run-chain, runaway}
+use Rattle.model.specs.Chain.{Calls, chained, fire-output, make-call, runaway}
+use Rattle.model.specs.Loops.{run-chain}
 use Rattle.model.specs.Unit.{World, run-unit}
 use Rattle.model.specs.Run.{Allowed, ticks-get, opening, body, closing, machine, ticks-of, last-stop, seen}
 use Rattle.model.specs.Questions.{Areas, circuit-refusal, script-refusal, or-else, refusal}
 use Rattle.model.specs.Answer.{Answers, is-refused, is-played, play, answer-to, answer}
 use Rattle.model.proofs.Lists.{if-both}
+use Rattle.model.proofs.Running.{Run-keeps, run-chain-kept}
 use Rattle.model.proofs.Chains.{finish-stop}
 
 -- ---- a stop of the machine: one of 0, 11, 12, 13
 
 module _ (Q : ℕ → Type 0) (z : Q 0) (r : Q runaway) (f : Q list-full) (l : Q log-full) where
+  by-fit : (b : Bool) → Q (if b then 0 else list-full)
+  by-fit b = if-both Q b z f
+
+  stops : (c : Circuit) → Run-keeps c (λ r. Q (r .stop))
+  unfolding chained make-call fire-output
+  stops c =
+      record {
+        step = λ inside i s left q t p. by-fit _;
+        loop-step = λ s left q t p. z;
+        no-step = λ s q t p. r;
+        fired = λ o x p. by-fit _;
+        inputs-read = λ g x p. p;
+        broken = λ b x p. p;
+        counted = λ n x p. p;
+        index-shown = λ g i x k p. p;
+        body-left = λ x q p y. y;
+        too-deep = λ x p. f;
+        loop-shown = λ g done aborted x k p. p;
+      }
+
   chain-stop : (c : Circuit) (left : ℕ) (q : Calls) (s : State) → Q (run-chain c left q s .stop)
-  unfolding run-chain chained
-  chain-stop c zero q s = go (pop (q .stack) (q .forks))
-    where
-      go : (x : Option Popped) → Q ((elim x as (λ _. Chained) [ none ↦ chained s 0 0 q | some t ↦ chained s 0 runaway q ]) .stop)
-      go none = z
-      go (some t) = r
-  chain-stop c (suc left) q s = go (pop (q .stack) (q .forks)) (λ r t. chain-stop c left r t)
-    where
-      go :
-          (x : Option Popped) → ((r : Calls) (t : State) → Q (run-chain c left r t .stop)) →
-          Q ((elim x as (λ _. Chained) [
-            | none ↦ chained s (suc left) 0 q
-            | some t ↦
-                let d = exec-gate c false s (t .input) in
-                let r = push-calls c (d .next) (t .rest) in
-                elim (fit r && not (d .full)) [ true ↦ run-chain c left r (d .state) | false ↦ chained (d .state) left list-full r ]
-          ]) .stop)
-      go none rec = z
-      go (some t) rec =
-          let d = exec-gate c false s (t .input) in
-          let r = push-calls c (d .next) (t .rest) in
-          fits (fit r && not (d .full)) d r rec
-        where
-          fits :
-              (b : Bool) (d : Stepped) (r : Calls) → ((r : Calls) (t : State) → Q (run-chain c left r t .stop)) →
-              Q ((elim b as (λ _. Chained) [ true ↦ run-chain c left r (d .state) | false ↦ chained (d .state) left list-full r ]) .stop)
-          fits true d r rec = rec r (d .state)
-          fits false d r rec = f
+  unfolding chained
+  chain-stop c left q s = run-chain-kept c _ (stops c) left q s z
 
   module _ (c : Circuit) where
     abbrev S : Setup

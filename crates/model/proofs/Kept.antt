@@ -18,17 +18,19 @@ use Rattle.model.specs.Base.{each, snoc, among, from}
 use Rattle.model.specs.Kinds.{pure, time-source}
 use Rattle.model.specs.Circuit.{Circuit, most-gates, kind-of-gate, gate-at-input, watching, gates, gates-of}
 use Rattle.model.specs.Script.{Given}
-use Rattle.model.specs.State.{Wires, State, Delay, Act, Send, times≔, last≔, pulses≔, written≔, written-outside≔, unions-passed≔, runs-left≔, wires≔, delays≔, outbox≔, changed≔}
+use Rattle.model.specs.State.{Wires, State, Delay, Act, Send, times≔, last≔, pulses≔, written≔, written-outside≔, unions-passed≔, breaking≔, runs-left≔, wires≔, delays≔, outbox≔, changed≔}
 use Rattle.model.specs.Wires.{is-dirty, watch, ready, invalidate}
 use Rattle.model.specs.Delays.{Started}
-use Rattle.model.specs.Exec.{Stepped, fires-next, ends, count-changed, delay≔, set-output, readied, var, write-once, record-write, exec-Buffer, exec-Stopwatch, exec-Queue, exec-VarGet, exec-VarSet, exec-Branch, exec-Union, exec-Toggle, exec-Cycle, exec-SendEvent, exec-kind, exec-gate}
-use Rattle.model.specs.Chain.{Calls, run-chain}
+use Rattle.model.specs.Exec.{Stepped, fires-next, ends, count-changed, delay≔, set-output, readied, var, write-once, record-write, exec-Buffer, exec-Stopwatch, exec-Queue, exec-VarGet, exec-VarSet, exec-Branch, exec-Union, exec-Toggle, exec-Cycle, exec-SendEvent, exec-Break, exec-kind, exec-gate}
+use Rattle.model.specs.Chain.{Calls}
+use Rattle.model.specs.Loops.{no-unions, unions-of, runs-left-to, break-set, show-loop, run-chain}
 use Rattle.model.specs.Settle.{Settled, calm, raise, none-written, publish-write, publish-writes, pulse, compared, check, check-on, settle}
 use Rattle.model.specs.Opening.{wires-stale, wires-fresh, wires-at-start, start, Opened, next-tick, begin-tick, lower, before-settling, open-tick}
 use Rattle.model.specs.Unit.{World, enter, run-unit}
 use Rattle.model.specs.Closing.{read-outputs}
 use Rattle.model.proofs.Lists.{if-both, if-by, each-keeps, each-keeps-all, all-keep, among-from, either-false}
-use Rattle.model.proofs.Walks.{run-chain-keeps, check-on-keeps, Opened-keeps, Opening-keeps, before-settling-keeps, open-tick-keeps}
+use Rattle.model.proofs.Running.{Steps-keep, run-chain-keeps}
+use Rattle.model.proofs.Walks.{check-on-keeps, Opened-keeps, Opening-keeps, before-settling-keeps, open-tick-keeps}
 use Rattle.model.proofs.Checks.{detect-keeps}
 use Rattle.model.proofs.Laid.{Laid}
 use Rattle.model.proofs.Once.{Once, empty, added, among-map}
@@ -93,6 +95,11 @@ module _ (c : Circuit) where
   pub runs-sized : {w : Wires} (n : ℕ) → Sized-wires c w → Sized-wires c (runs-left≔ w n)
   unfolding runs-left≔ is-dirty
   runs-sized n z =
+      record { outs = z .outs; dirty = z .dirty; queued = z .queued; late = z .late; stale = z .stale; waiting = z .waiting; asked = z .asked; memory = z .memory }
+
+  pub break-sized : {w : Wires} (b : Bool) → Sized-wires c w → Sized-wires c (breaking≔ w b)
+  unfolding breaking≔ is-dirty
+  break-sized b z =
       record { outs = z .outs; dirty = z .dirty; queued = z .queued; late = z .late; stale = z .stale; waiting = z .waiting; asked = z .asked; memory = z .memory }
 
   outbox-sized : {s : State} (x : List Send) → Once (gates c) (map (λ (m : Send). m .gate) x) → Sized c s → Sized c (outbox≔ s x)
@@ -174,7 +181,7 @@ module _ (c : Circuit) where
       go false h e = named k 25 (omega arith) e
 
   exec-kind-sized : (inside : Bool) (s : State) (g p : ℕ) → Sized c s → Stepped-sized (exec-kind c inside (kind-of-gate c g) s g p)
-  unfolding exec-kind fires-next ends exec-VarGet exec-Branch exec-Toggle exec-Cycle
+  unfolding exec-kind fires-next ends exec-VarGet exec-Branch exec-Toggle exec-Cycle exec-Break
   exec-kind-sized inside s g p z =
       if-both Stepped-sized _ z
       (if-both Stepped-sized _ (Buffer-sized s g z)
@@ -187,16 +194,32 @@ module _ (c : Circuit) where
       (if-both Stepped-sized _ (Union-sized s g z)
       (if-both Stepped-sized _ (set-output-sized _ _ z)
       (if-both Stepped-sized _ (set-output-sized _ _ (readied-sized _ _ _ z))
-      (if-by Stepped-sized (eqb (kind-of-gate c g) 24 || eqb (kind-of-gate c g) 25) (λ e. SendEvent-sized s g (sends (kind-of-gate c g) e) z) λ _. z)))))))))))
+      (if-by Stepped-sized (eqb (kind-of-gate c g) 24 || eqb (kind-of-gate c g) 25) (λ e. SendEvent-sized s g (sends (kind-of-gate c g) e) z) λ _.
+      (if-both Stepped-sized _ (wires-sized z (break-sized true (z .wires))) z))))))))))))
 
   pub exec-gate-sized : (inside : Bool) (s : State) (i : ℕ) → Sized c s → Stepped-sized (exec-gate c inside s i)
   unfolding exec-gate
   exec-gate-sized inside s i z = exec-kind-sized inside s _ _ z
 
-  -- ---- a chain
+  -- ---- a chain, and the Loops that it runs
+
+  steps-sized : Steps-keep c (Sized c)
+  unfolding no-unions unions-of runs-left-to break-set show-loop
+  steps-sized =
+      record {
+        step = λ inside n s i z. exec-gate-sized inside s i z;
+        loop-step = λ n s z. z;
+        inputs-read = λ n s g z. readied-sized g 1 3 z;
+        broken = λ n s b z. wires-sized z (break-sized b (z .wires));
+        counted = λ n s m z. wires-sized z (runs-sized m (z .wires));
+        index-shown = λ n s g i k z. set-output-sized _ _ z;
+        body-entered = λ n s z. wires-sized z (passed-sized _ (length-map (s .wires .unions-passed) _) (z .wires));
+        body-left = λ m n s t z y. wires-sized y (passed-sized _ (z .wires .memory .passed ∙ sym (y .wires .memory .passed)) (y .wires));
+        loop-shown = λ n s g done aborted k z. set-output-sized _ _ (set-output-sized _ _ (set-output-sized _ _ z));
+      }
 
   pub run-chain-sized : (left : ℕ) (q : Calls) (s : State) → Sized c s → Sized c (run-chain c left q s .state)
-  run-chain-sized = run-chain-keeps c (Sized c) exec-gate-sized
+  run-chain-sized = run-chain-keeps c (Sized c) steps-sized
 
   -- ---- settling
 

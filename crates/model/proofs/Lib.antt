@@ -16,7 +16,9 @@ pub mod Placing
 pub mod Sized
 -- what one check does, by kind
 pub mod Checks
--- what small changes keep, chains, settling and the opening of a tick keep
+-- what small changes keep, a chain keeps, with all that its Loops run
+pub mod Running
+-- and settling and the opening of a tick
 pub mod Walks
 -- every operation on the state keeps its sizes
 pub mod Kept
@@ -30,7 +32,7 @@ pub mod Marking
 pub mod Refreshing
 -- settling has rounds enough, and ends: `settled`
 pub mod Settling
--- a chain without a stop has made all its calls
+-- a run of calls has rounds enough, and a chain without a stop has made all its calls
 pub mod Chains
 -- refreshing in any order is the same: `stale-is-dirty`
 pub mod Stale

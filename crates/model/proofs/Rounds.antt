@@ -17,7 +17,8 @@ use Rattle.model.specs.Script.{Given}
 use Rattle.model.specs.State.{Wires, State, Act, wires≔}
 use Rattle.model.specs.Wires.{refresh-to, refresh, refresh-all, mark-on, mark-readers-for, set-out}
 use Rattle.model.specs.Exec.{exec-gate}
-use Rattle.model.specs.Chain.{Calls, no-calls, Chained, run-chain}
+use Rattle.model.specs.Chain.{Calls, no-calls, Chained, run-calls}
+use Rattle.model.specs.Loops.{operate, run-nested, run-body, run-chain}
 use Rattle.model.specs.Settle.{calm, check-on, most-checks, publish-writes, settle}
 use Rattle.model.specs.Opening.{start, open-tick}
 use Rattle.model.specs.Unit.{World, run-unit, finish-chain}
@@ -34,7 +35,8 @@ use Rattle.model.proofs.Marking.{marking-never-runs-out}
 use Rattle.model.proofs.Placing.{Ordered, ordered, order-suffices}
 use Rattle.model.proofs.Refreshing.{refreshing-never-runs-out}
 use Rattle.model.proofs.Settling.{settling-never-runs-out, settled}
-use Rattle.model.proofs.Chains.{chain-ended, unit-ended, finish-stop}
+use Rattle.model.proofs.Running.{operate-falls}
+use Rattle.model.proofs.Chains.{rounds-suffice, chain-ended, unit-ended, finish-stop}
 
 -- ---- the layout (Laid): of the circuit of any words
 
@@ -96,7 +98,13 @@ pub roomy :
 roomy areas cb sb h = let a = accepted areas cb sb h in few-roomy (circuit (words cb)) (few cb (words cb) (a .sizes) (a .gates))
 
 module _ (c : Circuit) where
-  -- ---- chains (Chains): without a stop, all calls are made
+  -- ---- chains (Chains): the rounds of a run, as many as steps are left and one, suffice; without a stop, all calls are made
+
+  pub steps-suffice :
+      (deep : ℕ) (inside : Bool) (under : ℕ) (r : Chained) (more : ℕ) →
+      run-calls (operate c (run-body c deep) inside) inside under (suc (r .left) + more) r ≡ run-nested c (run-body c deep) inside under r
+  unfolding run-nested
+  steps-suffice deep inside under = rounds-suffice (operate c (run-body c deep) inside) (operate-falls c deep inside) inside under
 
   pub chain-done : (left : ℕ) (q : Calls) (s : State) → run-chain c left q s .stop ≡ 0 → run-chain c left q s .calls ≡ no-calls
   chain-done = chain-ended c

@@ -2,26 +2,27 @@
 use mathlib.Core.Path.{_≡_, refl, sym, ap, subst, _∙_}
 use mathlib.Core.Bool.{Bool, true, false, _||_, true≢false, or-true}
 use mathlib.Core.List.{List, [], _∷_}
-use Prim.Native.Nat.{ℕ}
+use Prim.Native.Nat.{ℕ, _<_}
 use native.Mathlib.Omega.{arith}
 use lib.Dec.{eqb}
-use lib.ListN.{set, length-set}
+use lib.ListN.{length, set, length-set, length-map}
 use borrow.Author.Tests.{eqb-true}
 use Rattle.schedule.specs.Promise.{[·], _∷·_}
 use Rattle.schedule.proofs.Members.{all-append}
 use Rattle.model.specs.declared.Value.{Value}
 use Rattle.model.specs.Base.{if_then_else_, snoc, among}
 use Rattle.model.specs.Kinds.{kinds-opened}
-use Rattle.model.specs.Circuit.{Circuit, kind-of-gate, gate-at-output}
-use Rattle.model.specs.State.{Wires, State, outs≔, written≔, written-outside≔, unions-passed≔}
+use Rattle.model.specs.Circuit.{Circuit, kind-of-gate, output, gate-at-output}
+use Rattle.model.specs.State.{Wires, State, outs≔, written≔, written-outside≔, unions-passed≔, breaking≔, runs-left≔, wires≔}
 use Rattle.model.specs.Wires.{shown, show}
 use Rattle.model.specs.Delays.{Started}
-use Rattle.model.specs.Exec.{Stepped, fires-next, ends, var, write-once, record-write, exec-Buffer, exec-Stopwatch, exec-Queue, exec-VarGet, exec-VarSet, exec-Branch, exec-Union, exec-Toggle, exec-Cycle, exec-SendEvent, exec-kind, exec-gate}
-use Rattle.model.specs.Chain.{Calls, run-chain}
+use Rattle.model.specs.Exec.{Stepped, fires-next, ends, set-output, var, write-once, record-write, exec-Buffer, exec-Stopwatch, exec-Queue, exec-VarGet, exec-VarSet, exec-Branch, exec-Union, exec-Toggle, exec-Cycle, exec-SendEvent, exec-Break, exec-kind, exec-gate}
+use Rattle.model.specs.Chain.{Calls}
+use Rattle.model.specs.Loops.{no-unions, unions-of, runs-left-to, break-set, show-loop, run-chain}
 use Rattle.model.proofs.Lists.{if-both, if-by, among-first}
 use Rattle.model.proofs.Sized.{Sized-wires, show-sized}
-use Rattle.model.proofs.Walks.{run-chain-keeps}
-use Rattle.model.proofs.Kept.{outside-sized, passed-sized, write-once-sized, named}
+use Rattle.model.proofs.Running.{Steps-keep, run-chain-keeps}
+use Rattle.model.proofs.Kept.{outside-sized, passed-sized, break-sized, runs-sized, write-once-sized, named}
 use Rattle.model.proofs.Roomy.{few-roomy}
 use Rattle.model.proofs.Reals.{Real, truth-real, int-real, zero-real}
 use Rattle.model.proofs.Wired.{Wired}
@@ -128,6 +129,47 @@ module _ (c : Circuit) (W : Wired c) where
     recorded-fine true late w g v e r f = write-fine late w g v e r f
     recorded-fine false late w g v e r f = write-fine late _ g v e r (outside-fine late w (gate-at-output c (var c g)) f)
 
+    -- ---- what a Loop notes of its runs
+
+    passed-fine : (late : List ℕ) (w : Wires) (x : List Bool) → length x ≡ length (w .unions-passed) → Fine c t late w → Fine c t late (unions-passed≔ w x)
+    unfolding unions-passed≔ shown
+    passed-fine late w x e f =
+        record {
+          sized = passed-sized c x e (f .sized);
+          written = f .written;
+          pulses = f .pulses;
+          real = f .real;
+          length-finite = f .length-finite;
+          uptime-real = f .uptime-real;
+          right = alike c t late [] w (unions-passed≔ w x) refl refl refl refl refl (f .right);
+        }
+
+    break-fine : (late : List ℕ) (w : Wires) (b : Bool) → Fine c t late w → Fine c t late (breaking≔ w b)
+    unfolding breaking≔ shown
+    break-fine late w b f =
+        record {
+          sized = break-sized c b (f .sized);
+          written = f .written;
+          pulses = f .pulses;
+          real = f .real;
+          length-finite = f .length-finite;
+          uptime-real = f .uptime-real;
+          right = alike c t late [] w (breaking≔ w b) refl refl refl refl refl (f .right);
+        }
+
+    runs-fine : (late : List ℕ) (w : Wires) (n : ℕ) → Fine c t late w → Fine c t late (runs-left≔ w n)
+    unfolding runs-left≔ shown
+    runs-fine late w n f =
+        record {
+          sized = runs-sized c n (f .sized);
+          written = f .written;
+          pulses = f .pulses;
+          real = f .real;
+          length-finite = f .length-finite;
+          uptime-real = f .uptime-real;
+          right = alike c t late [] w (runs-left≔ w n) refl refl refl refl refl (f .right);
+        }
+
     -- ---- a step, by kind
 
     abbrev Stepped-going : Stepped → Type 0
@@ -135,6 +177,16 @@ module _ (c : Circuit) (W : Wired c) where
 
     going : {late : List ℕ} {s : State} → Sound c t late s → Going t s
     going {late} z = record { late = late; sound = z }
+
+    passed-length : {s : State} → Going t s → length (s .wires .unions-passed) ≡ length (c .kinds)
+    passed-length z = z .sound .wires .sized .memory .passed
+
+    passed-going : (s : State) (x : List Bool) → length x ≡ length (s .wires .unions-passed) → Going t s → Going t (wires≔ s (unions-passed≔ (s .wires) x))
+    passed-going s x e z = going (wires-sound c (z .sound) (passed-fine (z .late) (s .wires) x e (z .sound .wires)))
+
+    break-going : (s : State) (b : Bool) → Going t s → Going t (break-set b s)
+    unfolding break-set
+    break-going s b z = going (wires-sound c (z .sound) (break-fine (z .late) (s .wires) b (z .sound .wires)))
 
     Buffer-going : (s : State) (g : ℕ) → Going t s → Stepped-going (exec-Buffer c s g)
     unfolding exec-Buffer ends
@@ -170,19 +222,8 @@ module _ (c : Circuit) (W : Wired c) where
     Branch-going s g z = going (readied-sound c W g 1 1 (z .sound))
 
     Union-going : (s : State) (g : ℕ) → Going t s → Stepped-going (exec-Union c s g)
-    unfolding exec-Union fires-next ends unions-passed≔ shown
-    Union-going s g z =
-        let f = z .sound .wires in
-        if-both Stepped-going _ z
-        (going (wires-sound c (z .sound) (record {
-          sized = passed-sized c _ (length-set (s .wires .unions-passed) g true) (f .sized);
-          written = f .written;
-          pulses = f .pulses;
-          real = f .real;
-          length-finite = f .length-finite;
-          uptime-real = f .uptime-real;
-          right = alike c t (z .late) [] (s .wires) (unions-passed≔ (s .wires) (set (s .wires .unions-passed) g true)) refl refl refl refl refl (f .right);
-        })))
+    unfolding exec-Union fires-next ends
+    Union-going s g z = if-both Stepped-going _ z (passed-going s _ (length-set (s .wires .unions-passed) g true) z)
 
     Toggle-going : (s : State) (g : ℕ) → kind-of-gate c g ≡ 22 → Going t s → Stepped-going (exec-Toggle c s g)
     unfolding exec-Toggle fires-next kinds-opened
@@ -200,7 +241,7 @@ module _ (c : Circuit) (W : Wired c) where
         if-both (Going t) _ (going y) (going (outbox-sound c _ (all-append (y .outbox) (_∷·_ (read-row-fine c W _ g 2 8 (omega arith) y) [·])) y))
 
     exec-kind-going : (inside : Bool) (s : State) (g p : ℕ) → Going t s → Stepped-going (exec-kind c inside (kind-of-gate c g) s g p)
-    unfolding exec-kind fires-next ends
+    unfolding exec-kind fires-next ends exec-Break break-set
     exec-kind-going inside s g p z =
         let k = kind-of-gate c g in
         if-both Stepped-going _ z
@@ -214,11 +255,34 @@ module _ (c : Circuit) (W : Wired c) where
         (if-both Stepped-going _ (Union-going s g z)
         (if-by Stepped-going (eqb k 22) (λ e. Toggle-going s g (eqb-true k 22 e) z) λ _.
         (if-by Stepped-going (eqb k 23) (λ e. Cycle-going s g p (eqb-true k 23 e) z) λ _.
-        (if-both Stepped-going _ (SendEvent-going s g z) z)))))))))))
+        (if-both Stepped-going _ (SendEvent-going s g z) (if-both Stepped-going _ (break-going s true z) z))))))))))))
 
     pub exec-gate-going : (inside : Bool) (s : State) (i : ℕ) → Going t s → Stepped-going (exec-gate c inside s i)
     unfolding exec-gate
     exec-gate-going inside s i z = exec-kind-going inside s _ _ z
 
+    -- ---- a chain, and the Loops that it runs
+
+    shown-going : (s : State) (g p : ℕ) (v : Value) → eqb (kind-of-gate c g) 29 ≡ true → p < 4 → Real v → Going t s → Going t (set-output c s (output c g p) v)
+    unfolding kinds-opened
+    shown-going s g p v k l r z = going (set-output-sound c W _ _ (other-output c (W .laid) g 29 p (eqb-true _ 29 k) refl l) r (z .sound))
+
+    steps-going : Steps-keep c (Going t)
+    unfolding no-unions unions-of runs-left-to show-loop
+    steps-going =
+        record {
+          step = λ inside n s i z. exec-gate-going inside s i z;
+          loop-step = λ n s z. z;
+          inputs-read = λ n s g z. going (readied-sound c W g 1 3 (z .sound));
+          broken = λ n s b z. break-going s b z;
+          counted = λ n s m z. going (wires-sound c (z .sound) (runs-fine (z .late) (s .wires) m (z .sound .wires)));
+          index-shown = λ n s g i k z. going (set-output-sound c W _ _ (W .index-other g k) (int-real i) (z .sound));
+          body-entered = λ n s z. passed-going s _ (length-map (s .wires .unions-passed) _) z;
+          body-left = λ m n s u z y. passed-going u _ (passed-length z ∙ sym (passed-length y)) y;
+          loop-shown = λ n s g done aborted k z.
+              shown-going _ g 3 _ k (omega arith) (truth-real false)
+              (shown-going _ g 2 _ k (omega arith) (truth-real aborted) (shown-going _ g 1 _ k (omega arith) (int-real done) z));
+        }
+
     pub run-chain-going : (left : ℕ) (q : Calls) (s : State) → Going t s → Going t (run-chain c left q s .state)
-    run-chain-going = run-chain-keeps c (Going t) exec-gate-going
+    run-chain-going = run-chain-keeps c (Going t) steps-going

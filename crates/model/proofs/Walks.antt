@@ -1,5 +1,5 @@
--- What each step keeps, a chain keeps; what each check keeps, settling keeps; what each change of the wires and the small states keeps, the opening of a tick keeps.
--- Each is first a law of facts that go by a number, of which each step, each check and each gate that moves on uses up one (`spends`).
+-- What each check keeps, settling keeps; what each change of the wires and the small states keeps, the opening of a tick keeps.
+-- Each is first a law of facts that go by a number, of which each check and each gate that moves on uses up one (`spends`).
 use mathlib.Core.Path.{_≡_, refl}
 use mathlib.Core.Bool.{Bool, true, false, not, _&&_}
 use mathlib.Core.List.{List, [], _∷_, _++_}
@@ -17,54 +17,11 @@ use Rattle.model.specs.State.{Wires, Delay, Act, State, wires≔}
 use Rattle.model.specs.Wires.{ready, set-outs, invalidate}
 use Rattle.model.specs.Delays.{Moved}
 use Rattle.model.specs.Exec.{Stepped, count-changed, delay≔, readied, exec-gate}
-use Rattle.model.specs.Chain.{Calls, Popped, pop, fit, Chained, chained, push-calls, run-chain, runaway}
 use Rattle.model.specs.Settle.{Settled, taken, check, check-on, settle}
 use Rattle.model.specs.Opening.{Opened, raised-to, fire, begin-tick, lower, advanced, advance-buffer, advance-clock, advance-timer, before-settling, open-tick}
 use Rattle.model.proofs.Lists.{if-both, each-keeps, each-spends, each-keeps-all, map-all, all-of}
 
 module _ (c : Circuit) where
-  -- ---- a chain and its forks
-
-  -- by the steps that the tick may still make
-  module _ (P : ℕ → State → Type 0) (step : (inside : Bool) (n : ℕ) (s : State) (i : ℕ) → P (suc n) s → P n (exec-gate c inside s i .state)) where
-    abbrev Chained-spends : Chained → Type 0
-    Chained-spends r = P (r .left) (r .state)
-
-    pub run-chain-spends : (left : ℕ) (q : Calls) (s : State) → P left s → Chained-spends (run-chain c left q s)
-    unfolding run-chain chained
-    run-chain-spends zero q s p = go (pop (q .stack) (q .forks))
-      where
-        go : (x : Option Popped) → Chained-spends (elim x as (λ _. Chained) [ none ↦ chained s 0 0 q | some t ↦ chained s 0 runaway q ])
-        go none = p
-        go (some t) = p
-    run-chain-spends (suc left) q s p = go (pop (q .stack) (q .forks)) (λ r t y. run-chain-spends left r t y)
-      where
-        go :
-            (x : Option Popped) → ((r : Calls) (t : State) → P left t → Chained-spends (run-chain c left r t)) →
-            Chained-spends (elim x as (λ _. Chained) [
-              | none ↦ chained s (suc left) 0 q
-              | some t ↦
-                  let d = exec-gate c false s (t .input) in
-                  let r = push-calls c (d .next) (t .rest) in
-                  elim (fit r && not (d .full)) [ true ↦ run-chain c left r (d .state) | false ↦ chained (d .state) left list-full r ]
-            ])
-        go none rec = p
-        go (some t) rec =
-            let d = exec-gate c false s (t .input) in
-            let r = push-calls c (d .next) (t .rest) in
-            fits (fit r && not (d .full)) d r (step false left s (t .input) p)
-          where
-            fits :
-                (b : Bool) (d : Stepped) (r : Calls) → P left (d .state) →
-                Chained-spends (elim b as (λ _. Chained) [ true ↦ run-chain c left r (d .state) | false ↦ chained (d .state) left list-full r ])
-            fits true d r y = rec r (d .state) y
-            fits false d r y = y
-
-  pub run-chain-keeps :
-      (P : State → Type 0) → ((inside : Bool) (s : State) (i : ℕ) → P s → P (exec-gate c inside s i .state)) →
-      (left : ℕ) (q : Calls) (s : State) → P s → P (run-chain c left q s .state)
-  run-chain-keeps P step = run-chain-spends (λ _. P) (λ inside _. step inside)
-
   -- ---- settling
 
   -- the first that waits is taken and checked

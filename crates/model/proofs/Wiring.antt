@@ -137,6 +137,13 @@ part-size : (size : ℕ → ℕ) → size 0 ≡ 0 → (ks : List ℕ) (g : ℕ) 
 part-size size e ks g = ap (λ d. getD (map size ks) g d) (sym e) ∙ List·getD-map size ks g 0
 
 -- a gate that has a kind is one of the circuit's
+-- each member of a list that passes a test
+all-at : (p : ℕ → Bool) (xs : List ℕ) → all p xs ≡ true → (i : ℕ) → i < length xs → p (getD xs i 0) ≡ true
+unfolding all
+all-at p [] h i l = absurd (omega (arith, l))
+all-at p (x ∷ xs) h zero l = both-true (p x) (all p xs) h .0
+all-at p (x ∷ xs) h (suc i) l = all-at p xs (both-true (p x) (all p xs) h .1) i (omega (arith, l))
+
 kind-in : (c : Circuit) (g : ℕ) → 0 < kind-of-gate c g → g < length (c .kinds)
 unfolding kind-of-gate
 kind-in c g l = go (ltb g (length (c .kinds))) refl
@@ -366,6 +373,16 @@ module _ (ws : List ℕ) where
                 let m : 0 < length (kind-at (kind-of-gate c b) .outs) = rw k (omega arith) in
                 rw (toZ-pos w64 b a) (ap (λ x. pure (kind-of-gate c x)) (laid ws .output-of b 0 m) ∙ ap pure k)
 
+  -- no gate is a Loop
+  no-loop : question-3 ws (circuit ws) ≡ true → (g : ℕ) → eqb (kind-of-gate (circuit ws) g) 29 ≡ true → ⊥
+  unfolding question-3 kind-of-gate within
+  no-loop q g e =
+      let c = circuit ws in
+      let k = eqb-true (kind-of-gate c g) 29 e in
+      let a = both-true (all (within 1 28) (c .kinds)) _ (both-true (all (within 1 28) (c .kinds) && all (within 0 0) (c .bodies)) _ q .0) .0 in
+      let h = all-at (within 1 28) (c .kinds) a g (kind-in c g (omega (arith, k))) in
+      true≢false (sym (rw k at h))
+
   -- ---- the constants
 
   module _ (q₂ : question-2 ws ≡ true) where
@@ -400,6 +417,7 @@ wired areas cb sb a =
       stopwatches = all-keep (λ g. eqb (getD (c .kinds) g 0) 15) (from 0 (length (c .kinds)));
       receivers = all-keep (λ g. receiving (getD (c .kinds) g 0)) (from 0 (length (c .kinds)));
       var-other = var-other ws cb (a .sizes) (a .inputs) (a .gates);
+      index-other = λ g e. absurd (no-loop ws (a .gates) g e);
       stored = stored-real ws (a .constants);
     }
   where

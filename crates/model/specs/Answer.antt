@@ -17,6 +17,7 @@ use Rattle.model.specs.Wires.{wires-opened}
 use Rattle.model.specs.Delays.{delays-opened}
 use Rattle.model.specs.Exec.{exec-opened}
 use Rattle.model.specs.Chain.{chain-opened}
+use Rattle.model.specs.Loops.{loops-opened}
 use Rattle.model.specs.Settle.{settle-opened}
 use Rattle.model.specs.Opening.{opening-opened}
 use Rattle.model.specs.Unit.{unit-opened}
@@ -69,5 +70,5 @@ area-after (played p) area = replicate (length area) 0
 
 -- opens the whole definition, for proofs by computation
 unfoldable pub model-opened : ℕ
-unfolding words bytes schedule-opened base-opened value-opened kinds-opened circuit-opened script-opened state-opened wires-opened delays-opened exec-opened chain-opened settle-opened opening-opened unit-opened record-opened closing-opened run-opened questions-opened play answer-to answer checked number log-after area-after
+unfolding words bytes schedule-opened base-opened value-opened kinds-opened circuit-opened script-opened state-opened wires-opened delays-opened exec-opened chain-opened loops-opened settle-opened opening-opened unit-opened record-opened closing-opened run-opened questions-opened play answer-to answer checked number log-after area-after
 model-opened = 0

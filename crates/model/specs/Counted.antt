@@ -8,7 +8,7 @@ use Rattle.model.specs.Circuit.{Circuit, most-gates, circuit}
 use Rattle.model.specs.Script.{Given}
 use Rattle.model.specs.State.{Act, State, wires≔}
 use Rattle.model.specs.Wires.{refresh-all}
-use Rattle.model.specs.Chain.{run-chain}
+use Rattle.model.specs.Loops.{run-chain}
 use Rattle.model.specs.Settle.{calm, check-on, most-checks, publish-writes}
 use Rattle.model.specs.Opening.{before-settling}
 use Rattle.model.specs.Unit.{World, begin, enter, run-unit}

@@ -11,7 +11,7 @@ use Rattle.model.specs.declared.Value.the-variants.{Int, Float, Bool as 
 use Rattle.model.specs.Base.{if_then_else_, each, snoc, among, from}
 use Rattle.model.specs.Value.{truthy, as-int, as-float}
 use Rattle.model.specs.Circuit.{Circuit, most-gates, kind-of-gate, input, output, gate-at-input, gate-at-output, setting}
-use Rattle.model.specs.State.{Wires, Countdown, Delay, idle, fires≔, State, written≔, written-outside≔, unions-passed≔, wires≔, delays≔, outbox≔, changed≔}
+use Rattle.model.specs.State.{Wires, Countdown, Delay, idle, fires≔, State, written≔, written-outside≔, unions-passed≔, breaking≔, wires≔, delays≔, outbox≔, changed≔}
 use Rattle.model.specs.Wires.{shown, show, look, ready, set-out}
 use Rattle.model.specs.Delays.{nat, Started, in-ticks, in-seconds, countdown-ticks, countdown-seconds, queue-record, pressed}
 
@@ -166,6 +166,10 @@ module _ (c : Circuit) where
       (if among g (map (λ m. m .gate) (s .outbox)) || leb most-gates (length (s .outbox)) then s else outbox≔ s (snoc (s .outbox) (record { gate = g; row = read-row s g 2 8 })))
       (output c g 0)
 
+  -- the loop whose body is running ends after this run of it, which goes on
+  unfoldable pub exec-Break : State → ℕ → Stepped
+  exec-Break s g = fires-next (wires≔ s (breaking≔ (s .wires) true)) (output c g 0)
+
   -- by the kind k of gate g; `inside` says whether a body is running
   unfoldable pub exec-kind : Bool → ℕ → State → ℕ → ℕ → Stepped
   exec-kind inside k s g p =
@@ -181,6 +185,7 @@ module _ (c : Circuit) where
       else if eqb k 22 then exec-Toggle s g
       else if eqb k 23 then exec-Cycle s g p
       else if eqb k 24 || eqb k 25 then exec-SendEvent s g
+      else if eqb k 31 then exec-Break s g
       else ends s
 
   -- the gate that has input i
@@ -188,5 +193,5 @@ module _ (c : Circuit) where
   exec-gate inside s i = exec-kind inside (kind-of-gate c (gate-at-input c i)) s (gate-at-input c i) (i - input c (gate-at-input c i) 0)
 
   unfoldable pub exec-opened : ℕ
-  unfolding fires-next ends tally count-changed remainder cycle-next delay delay≔ set-output readied read read-row countdown var exec-Buffer exec-Stopwatch exec-Queue exec-VarGet write-once record-write exec-VarSet exec-Branch exec-Union exec-Toggle exec-Cycle exec-SendEvent exec-kind exec-gate
+  unfolding fires-next ends tally count-changed remainder cycle-next delay delay≔ set-output readied read read-row countdown var exec-Buffer exec-Stopwatch exec-Queue exec-VarGet write-once record-write exec-VarSet exec-Branch exec-Union exec-Toggle exec-Cycle exec-SendEvent exec-Break exec-kind exec-gate
   exec-opened = 0

@@ -17,7 +17,7 @@ use Rattle.model.specs.Kinds.{pure}
 use Rattle.model.specs.Circuit.{Circuit, circuit, kind-of-gate, input, source, stored-in, gate-at-output}
 use Rattle.model.specs.State.{Wires, Act}
 use Rattle.model.specs.Wires.{shown, refresh}
-use Rattle.model.specs.Chain.{run-chain}
+use Rattle.model.specs.Loops.{run-chain}
 use Rattle.model.specs.Unit.{World, begin, enter}
 use Rattle.model.specs.Run.{ticks-get, machine}
 use Rattle.model.specs.Questions.{value-output}

@@ -8,6 +8,7 @@ pub mod Wires
 pub mod Delays
 pub mod Exec
 pub mod Chain
+pub mod Loops
 pub mod Settle
 pub mod Opening
 pub mod Unit

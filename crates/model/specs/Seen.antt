@@ -13,7 +13,7 @@ use Rattle.model.specs.Circuit.{Circuit, circuit}
 use Rattle.model.specs.Script.{script}
 use Rattle.model.specs.State.{Wires}
 use Rattle.model.specs.Wires.{shown, is-dirty}
-use Rattle.model.specs.Chain.{run-chain}
+use Rattle.model.specs.Loops.{run-chain}
 use Rattle.model.specs.Unit.{begin, enter}
 use Rattle.model.specs.Run.{Allowed, allowed, machine, world-at-start, ticks-of}
 use Rattle.model.specs.Answer.{checked, model-opened}

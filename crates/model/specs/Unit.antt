@@ -9,7 +9,8 @@ use Rattle.model.specs.Base.{if_then_else_}
 use Rattle.model.specs.Circuit.{Circuit, kind-of-gate, input, output}
 use Rattle.model.specs.State.{Act, State, wires≔}
 use Rattle.model.specs.Wires.{set-outs}
-use Rattle.model.specs.Chain.{Calls, no-calls, Chained, push-calls, run-chain}
+use Rattle.model.specs.Chain.{Calls, no-calls, Chained, push-calls}
+use Rattle.model.specs.Loops.{run-chain}
 use Rattle.model.specs.Settle.{publish-writes, settle}
 
 -- What a unit and a tick hand on: the state, the steps that the tick may still make, the bytes of the log that are free, and the words of the record

@@ -1,0 +1,216 @@
+-- What every small change of a chain keeps, the chain keeps, with its forks and all that its Loops run: one walk over chain, operation, Loop and body.
+use mathlib.Core.Path.{_≡_, refl, subst}
+use mathlib.Core.Bool.{Bool, true, false}
+use mathlib.Core.Option.{Option, none, some}
+use Prim.Native.Nat.{ℕ, zero, suc, _≤_}
+use native.Mathlib.Omega.{arith}
+use lib.Dec.{eqb}
+use lib.IntN.{ℤ}
+use lib.ListN.{length}
+use borrow.Author.Tests.{eqb-true}
+use Rattle.schedule.specs.Schedule.{list-full}
+use Rattle.model.specs.declared.Value.the-variants.{Int}
+use Rattle.model.specs.Circuit.{Circuit, kind-of-gate, entry-of-loop, output, gate-at-input}
+use Rattle.model.specs.State.{State}
+use Rattle.model.specs.Exec.{set-output, readied, exec-gate}
+use Rattle.model.specs.Chain.{Calls, Popped, pop, Chained, chained, with-state, unless-stopped, next, make-step, run-calls, fire-output, make-call, runaway}
+use Rattle.model.specs.Loops.{index, no-unions, unions-of, runs-left-to, break-set, Looped, looped, goes-on, Body, loop-on, show-loop, loop-over, run-loop, operate, run-nested, begin-body, run-body, run-chain}
+use Rattle.model.proofs.Lists.{if-by}
+
+-- where it may have stopped
+pub unless-both : (P : Chained → Type 0) (f : Chained → Chained) (r : Chained) → P (f r) → P r → P (unless-stopped f r)
+unfolding unless-stopped
+unless-both P f r p q = go (eqb (r .stop) 0)
+  where
+    go : (b : Bool) → P (elim b as (λ _. Chained) [ true ↦ f r | false ↦ r ])
+    go true = p
+    go false = q
+
+-- a call is taken only where nothing has stopped
+pub next-running : (inside : Bool) (under : ℕ) (r : Chained) (t : Popped) → next inside under r ≡ some t → r .stop ≡ 0
+unfolding next
+next-running inside under r t = go (eqb (r .stop) 0) (eqb-true (r .stop) 0)
+  where
+    go :
+        (b : Bool) → (b ≡ true → r .stop ≡ 0) →
+        (elim b as (λ _. Option Popped) [ true ↦ pop inside under (r .calls .stack) (r .calls .forks) | false ↦ none ]) ≡ some t → r .stop ≡ 0
+    go true e h = e refl
+    go false e h = let z : _≡_ {A = ℕ} 0 1 = cc in absurd (omega arith)
+
+-- A fact about runs that every change keeps. Where a Loop is at work, its gate is one.
+pub record Run-keeps (c : Circuit) (P : Chained → Type 0) : Type 0 where
+  -- a call is taken off, one step is used up, and the gate makes it; a Loop's own step; and where no step is left
+  pub step : (inside : Bool) (i : ℕ) (s : State) (left : ℕ) (q t : Calls) → P (chained s (suc left) 0 q) → P (make-call c inside i (chained s left 0 t))
+  pub loop-step : (s : State) (left : ℕ) (q t : Calls) → P (chained s (suc left) 0 q) → P (chained s left 0 t)
+  pub no-step : (s : State) (q t : Calls) → P (chained s 0 0 q) → P (chained s 0 runaway t)
+  -- an output is fired
+  pub fired : (o : ℕ) (r : Chained) → P r → P (fire-output c o r)
+  -- a Loop begins: its inputs are read, and a Break is set or not
+  pub inputs-read : (g : ℕ) (r : Chained) → P r → P (with-state r (readied c (r .state) g 1 3))
+  pub broken : (b : Bool) (r : Chained) → P r → P (with-state r (break-set b (r .state)))
+  -- a run of its body is counted, begins and ends; one that is nested too deep is none
+  pub counted : (n : ℕ) (r : Chained) → P r → P (with-state r (runs-left-to n (r .state)))
+  pub index-shown :
+      (g i : ℕ) (r : Chained) → eqb (kind-of-gate c g) 29 ≡ true → P r →
+      P (with-state r (no-unions (set-output c (r .state) (output c (entry-of-loop c g) 1) (Int i))))
+  pub body-left : (r q : Chained) → P r → P q → P (with-state q (unions-of (r .state) (q .state)))
+  pub too-deep : (r : Chained) → P r → P (chained (r .state) (r .left) list-full (r .calls))
+  -- the Loop's runs are over
+  pub loop-shown : (g done : ℕ) (aborted : Bool) (r : Chained) → eqb (kind-of-gate c g) 29 ≡ true → P r → P (with-state r (show-loop c g done aborted (r .state)))
+
+module _ (c : Circuit) (P : Chained → Type 0) (keep : Run-keeps c P) where
+  abbrev Keeps : (Chained → Chained) → Type 0
+  Keeps f = (r : Chained) → P r → P (f r)
+
+  abbrev Body-keeps : Body → Type 0
+  Body-keeps body = (g i : ℕ) → eqb (kind-of-gate c g) 29 ≡ true → Keeps (body g i)
+
+  module _ (body : Body) (runs : Body-keeps body) where
+    loop-on-keeps :
+        (g : ℕ) (first step : ℤ) (more done : ℕ) (r : Chained) → eqb (kind-of-gate c g) 29 ≡ true → P r → P (loop-on c body g first step more done r .after)
+    unfolding loop-on looped
+    loop-on-keeps g first step zero done r k p = p
+    loop-on-keeps g first step (suc more) done r k p = go (r .state .wires .runs-left) (λ q h. loop-on-keeps g first step more (suc done) q k h)
+      where
+        on :
+            (b : Bool) (q : Chained) → P q → ((q : Chained) → P q → P (loop-on c body g first step more (suc done) q .after)) →
+            P ((elim b as (λ _. Looped) [ true ↦ loop-on c body g first step more (suc done) q | false ↦ looped q (suc done) false ]) .after)
+        on true q h rec = rec q h
+        on false q h rec = h
+
+        go :
+            (n : ℕ) → ((q : Chained) → P q → P (loop-on c body g first step more (suc done) q .after)) →
+            P ((elim n as (λ _. Looped) [
+              | zero ↦ looped r done true
+              | suc n ↦
+                  let q = body g (index first done step) (with-state r (runs-left-to n (r .state))) in
+                  elim (goes-on q) [ true ↦ loop-on c body g first step more (suc done) q | false ↦ looped q (suc done) false ]
+            ]) .after)
+        go zero rec = p
+        go (suc n) rec =
+            let q = body g (index first done step) (with-state r (runs-left-to n (r .state))) in
+            on (goes-on q) q (runs g (index first done step) k _ (keep .counted n r p)) rec
+
+    run-loop-keeps : (g : ℕ) → eqb (kind-of-gate c g) 29 ≡ true → Keeps (run-loop c body g)
+    unfolding run-loop loop-over chained
+    run-loop-keeps g k r p =
+        let q = loop-on-keeps g _ _ _ 0 _ k (keep .broken false _ (keep .inputs-read g r p)) in
+        unless-both P _ _ (keep .loop-shown g _ _ _ k (keep .broken _ _ q)) q
+
+    -- a call made, with the step that it takes
+    operate-keeps : (inside : Bool) (i : ℕ) (s : State) (left : ℕ) (q t : Calls) → P (chained s (suc left) 0 q) → P (operate c body inside i (chained s left 0 t))
+    unfolding operate
+    operate-keeps inside i s left q t p =
+        if-by P (eqb (kind-of-gate c (gate-at-input c i)) 29)
+        (λ k. let z = run-loop-keeps (gate-at-input c i) k _ (keep .loop-step s left q t p) in unless-both P _ _ (keep .fired _ _ z) z)
+        (λ _. keep .step inside i s left q t p)
+
+    made-step : (inside : Bool) (t : Popped) (r : Chained) → r .stop ≡ 0 → P r → P (make-step (operate c body inside) t r)
+    unfolding make-step chained
+    made-step inside t r e p = go (r .left) (subst (λ n. P (chained (r .state) (r .left) n (r .calls))) e p)
+      where
+        go : (n : ℕ) → P (chained (r .state) n 0 (r .calls)) →
+            P (elim n as (λ _. Chained) [ zero ↦ chained (r .state) 0 runaway (t .rest) | suc left ↦ operate c body inside (t .input) (chained (r .state) left 0 (t .rest)) ])
+        go zero p = keep .no-step (r .state) (r .calls) (t .rest) p
+        go (suc left) p = operate-keeps inside (t .input) (r .state) left (r .calls) (t .rest) p
+
+    run-calls-keeps : (inside : Bool) (under n : ℕ) → Keeps (run-calls (operate c body inside) inside under n)
+    unfolding run-calls
+    run-calls-keeps inside under zero r p = p
+    run-calls-keeps inside under (suc n) r p = go (next inside under r) (next-running inside under r) (λ q h. run-calls-keeps inside under n q h)
+      where
+        go :
+            (x : Option Popped) → ((t : Popped) → x ≡ some t → r .stop ≡ 0) → Keeps (run-calls (operate c body inside) inside under n) →
+            P (elim x as (λ _. Chained) [ none ↦ r | some t ↦ run-calls (operate c body inside) inside under n (make-step (operate c body inside) t r) ])
+        go none e rec = p
+        go (some t) e rec = rec _ (made-step inside t r (e t refl) p)
+
+    run-nested-keeps : (inside : Bool) (under : ℕ) → Keeps (run-nested c body inside under)
+    unfolding run-nested
+    run-nested-keeps inside under r p = run-calls-keeps inside under (suc (r .left)) r p
+
+  run-body-keeps : (deep : ℕ) → Body-keeps (run-body c deep)
+  unfolding run-body begin-body
+  run-body-keeps zero g i k r p = keep .too-deep r p
+  run-body-keeps (suc deep) g i k r p =
+      keep .body-left r _ p (run-nested-keeps (run-body c deep) (run-body-keeps deep) true _ _ (keep .fired _ _ (keep .index-shown g i r k p)))
+
+  pub run-chain-kept : (left : ℕ) (q : Calls) (s : State) → P (chained s left 0 q) → P (run-chain c left q s)
+  unfolding run-chain
+  run-chain-kept left q s p = run-nested-keeps _ (run-body-keeps (length (c .kinds))) false 0 _ p
+
+-- ---- the steps that are left never rise
+
+falling : (c : Circuit) (most : ℕ) → Run-keeps c (λ r. r .left ≤ most)
+unfolding chained make-call fire-output
+falling c most =
+    record {
+      step = λ inside i s left q t p. omega (arith, p);
+      loop-step = λ s left q t p. omega (arith, p);
+      no-step = λ s q t p. p;
+      fired = λ o r p. p;
+      inputs-read = λ g r p. p;
+      broken = λ b r p. p;
+      counted = λ n r p. p;
+      index-shown = λ g i r k p. p;
+      body-left = λ r q p z. z;
+      too-deep = λ r p. p;
+      loop-shown = λ g done aborted r k p. p;
+    }
+
+pub operate-falls :
+    (c : Circuit) (deep : ℕ) (inside : Bool) (i : ℕ) (s : State) (left : ℕ) (q : Calls) → operate c (run-body c deep) inside i (chained s left 0 q) .left ≤ left
+unfolding operate chained make-call fire-output
+operate-falls c deep inside i s left q =
+    let P : Chained → Type 0 = λ r. r .left ≤ left in
+    if-by P (eqb (kind-of-gate c (gate-at-input c i)) 29)
+    (λ k.
+    let z = run-loop-keeps c P (falling c left) (run-body c deep) (run-body-keeps c P (falling c left) deep) (gate-at-input c i) k (chained s left 0 q) (omega arith) in
+    unless-both P _ _ z z)
+    (λ _. omega arith)
+
+-- ---- facts about the state, by the steps that the tick may still make
+
+-- what each change keeps; each step uses up one
+pub record Steps-spend (c : Circuit) (P : ℕ → State → Type 0) : Type 0 where
+  pub step : (inside : Bool) (n : ℕ) (s : State) (i : ℕ) → P (suc n) s → P n (exec-gate c inside s i .state)
+  pub loop-step : (n : ℕ) (s : State) → P (suc n) s → P n s
+  -- a Loop begins
+  pub inputs-read : (n : ℕ) (s : State) (g : ℕ) → P n s → P n (readied c s g 1 3)
+  pub broken : (n : ℕ) (s : State) (b : Bool) → P n s → P n (break-set b s)
+  -- a run of its body begins and ends
+  pub counted : (n : ℕ) (s : State) (m : ℕ) → P n s → P n (runs-left-to m s)
+  pub index-shown : (n : ℕ) (s : State) (g i : ℕ) → eqb (kind-of-gate c g) 29 ≡ true → P n s → P n (set-output c s (output c (entry-of-loop c g) 1) (Int i))
+  pub body-entered : (n : ℕ) (s : State) → P n s → P n (no-unions s)
+  pub body-left : (m n : ℕ) (s t : State) → P m s → P n t → P n (unions-of s t)
+  -- the Loop's runs are over
+  pub loop-shown : (n : ℕ) (s : State) (g done : ℕ) (aborted : Bool) → eqb (kind-of-gate c g) 29 ≡ true → P n s → P n (show-loop c g done aborted s)
+
+module _ (c : Circuit) (P : ℕ → State → Type 0) (k : Steps-spend c P) where
+  by-steps : Run-keeps c (λ r. P (r .left) (r .state))
+  unfolding chained make-call fire-output
+  by-steps =
+      record {
+        step = λ inside i s left q t p. k .step inside left s i p;
+        loop-step = λ s left q t p. k .loop-step left s p;
+        no-step = λ s q t p. p;
+        fired = λ o r p. p;
+        inputs-read = λ g r p. k .inputs-read _ _ g p;
+        broken = λ b r p. k .broken _ _ b p;
+        counted = λ n r p. k .counted _ _ n p;
+        index-shown = λ g i r e p. k .body-entered _ _ (k .index-shown _ _ g i e p);
+        body-left = λ r q p z. k .body-left _ _ _ _ p z;
+        too-deep = λ r p. p;
+        loop-shown = λ g done aborted r e p. k .loop-shown _ _ g done aborted e p;
+      }
+
+  pub run-chain-spends : (left : ℕ) (q : Calls) (s : State) → P left s → P (run-chain c left q s .left) (run-chain c left q s .state)
+  unfolding chained
+  run-chain-spends left q s p = run-chain-kept c _ by-steps left q s p
+
+-- a fact that goes by the state alone
+abbrev pub Steps-keep : Circuit → (State → Type 0) → Type 0
+Steps-keep c P = Steps-spend c (λ _. P)
+
+pub run-chain-keeps : (c : Circuit) (P : State → Type 0) → Steps-keep c P → (left : ℕ) (q : Calls) (s : State) → P s → P (run-chain c left q s .state)
+run-chain-keeps c P k = run-chain-spends c (λ _. P) k
