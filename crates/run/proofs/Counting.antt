@@ -4,7 +4,7 @@ use mathlib.Core.Bool.{Bool, true}
 use mathlib.Core.List.{List, [], _∷_}
 use mathlib.Core.Option.{Option}
 use Prim.Native.Nat.{ℕ, suc}
-use Rattle.schedule.specs.Schedule.{Raise, Outcome, Closed, plain, Activation, tick}
+use Rattle.schedule.specs.Schedule.{Raise, When, Outcome, Closed, plain, Activation, tick}
 use Rattle.schedule.specs.Promise.{All, [·], _∷·_}
 use Rattle.schedule.specs.Keeping.{Did-keep}
 use Rattle.schedule.proofs.Keeps.{tick-keeps}
