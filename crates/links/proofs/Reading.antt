@@ -99,6 +99,10 @@ module _ (l : List ℕ) (g x : ℕ) (e : x ≡ getD (entries l 0 64 gates-at) g 
   unfolding output net gate-digit digit
   gate-output p h = (ap (λ a. a + p) (listed-over (digit 3) _ _ g 0 x e), omega arith)
 
+-- a rank has the 16 bits of a digit
+pub rank-small : (l : List ℕ) (g : ℕ) → rank-of-gate (net l) g < 65536
+rank-small l g = let x = getD (entries l 0 64 gates-at) g 0 in omega (arith, gate-rank l g x refl)
+
 module _ (l : List ℕ) (i x : ℕ) (e : x ≡ getD (entries l 2 640 inputs-at) i 0) where
   pub input-gate : x % 65536 ≡ gate-at-input (net l) i
   unfolding gate-at-input net input-digit digit

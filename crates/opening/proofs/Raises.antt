@@ -4,7 +4,7 @@ use mathlib.Core.List.{List, [], _∷_, _++_, map}
 use mathlib.Core.Bool.{Bool, true, false}
 use denote.Enum.Declared.{tagOf}
 use types.Run.{OneOf, miss}
-use Rattle.schedule.specs.Schedule.{Raise, Place, to-pending, Filed, full, filed}
+use Rattle.schedule.specs.Schedule.{Raise, Place, to-pending, When, Filed, full, filed}
 use Rattle.lists.specs.declared.Filed.{Filed as Answer}
 use Rattle.lists.specs.declared.Filed.the-variants.{Full, Done}
 use Rattle.lists.proofs.Filed.{the-type as Answers}
@@ -13,7 +13,7 @@ use Rattle.model.specs.State.{Act, State}
 use Rattle.model.specs.Opening.{raised-to}
 use Rattle.units.specs.declared.Place.the-variants.{Pending}
 use Rattle.units.specs.View.{Lists}
-use Rattle.units.specs.Raising.{activate, Went, raise-into}
+use Rattle.units.specs.Raising.{activate, place-for, Went, raise-into}
 use Rattle.opening.specs.Opening.{put-to}
 use Rattle.opening.specs.Stages.{Put, put-all, is-full}
 
@@ -122,19 +122,19 @@ raise-put c p (a ∷ acts) l s = go (λ k. raise-put c p acts k s) (put-to c p a
     go rec full = refl
     go rec (filed k) = rec k
 
--- what settling raises is pending
+-- what settling raises is pending, however it is raised
 pub raise-pending :
-    (c : Circuit) (rs : List (Raise State Act (Unit {0}))) (l : Lists) (s : State) →
-    raise-into (put-to c) (map (λ r. record { at = r .at; act = r .act; place = to-pending }) rs) l s ≡ raise-into (λ _. activate c Pending) rs l s
-unfolding raise-into put-to
+    (c : Circuit) (rs : List (Raise State Act When)) (l : Lists) (s : State) →
+    raise-into (put-to c) (map (λ r. record { at = r .at; act = r .act; place = to-pending }) rs) l s ≡ raise-into (λ p. activate c (place-for p Pending)) rs l s
+unfolding raise-into put-to place-for
 raise-pending c [] l s = refl
 raise-pending c (r ∷ rs) l s = go (λ k. raise-pending c rs k s) (activate c Pending (r .act) l)
   where
-    go : ((k : Lists) → raise-into (put-to c) (map (λ x. record { at = x .at; act = x .act; place = to-pending }) rs) k s ≡ raise-into (λ _. activate c Pending) rs k s) →
+    go : ((k : Lists) → raise-into (put-to c) (map (λ x. record { at = x .at; act = x .act; place = to-pending }) rs) k s ≡ raise-into (λ p. activate c (place-for p Pending)) rs k s) →
         (q : Filed Lists) →
         _≡_ {A = Went}
         (elim q [ full ↦ record { state = r .at; lists = l; answer = Full } | filed k ↦ raise-into (put-to c) (map (λ x. record { at = x .at; act = x .act; place = to-pending }) rs) k s ])
-        (elim q [ full ↦ record { state = r .at; lists = l; answer = Full } | filed k ↦ raise-into (λ _. activate c Pending) rs k s ])
+        (elim q [ full ↦ record { state = r .at; lists = l; answer = Full } | filed k ↦ raise-into (λ p. activate c (place-for p Pending)) rs k s ])
     go rec full = refl
     go rec (filed k) = rec k
 

@@ -1,11 +1,11 @@
 -- What the areas' lists do is what the scheduler does: `activate`, and raising one after the other.
-use Prim.Native.Nat.{ℕ}
+use Prim.Native.Nat.{ℕ, _<_}
 use mathlib.Core.Path.{_≡_, refl, sym, ap, _∙_}
 use mathlib.Core.Bool.{Bool, true, false, cond}
 use mathlib.Core.List.{List, [], _∷_, _++_, map}
 use lib.Dec.{leb, ltb}
 use lib.ListN.{length, length-map}
-use Rattle.schedule.specs.Schedule.{Raise, Filed, full, filed, room, most-waiting, most-delivered, list-full, Setup, Activation, Place, to-late, to-delivered, to-pending, push, push-all, carries, activate-late, activate-main, activate-open, Raising, raise-on, raise-all}
+use Rattle.schedule.specs.Schedule.{Raise, When, by-rank as ranked, put-off, Filed, full, filed, room, most-waiting, most-delivered, list-full, Setup, Activation, Place, to-late, to-delivered, to-pending, push, push-all, carries, activate-late, activate-main, activate-open, Raising, raise-on, raise-all}
 use Rattle.lists.specs.declared.Filed.the-variants.{Full}
 use Rattle.model.specs.Base.{snoc}
 use Rattle.model.specs.Circuit.{Circuit, rank-of-gate}
@@ -13,7 +13,9 @@ use Rattle.model.specs.State.{Act, State}
 use Rattle.model.specs.Unit.{World, state≔, raises-in}
 use Rattle.units.specs.declared.Place.the-variants.{Late, After}
 use Rattle.units.specs.View.{Lists}
-use Rattle.units.specs.Raising.{late≔, delivered≔, pending≔, carried≔, by-rank, all-by-rank, activate, deliver, Went, raise-into}
+use Rattle.units.specs.Raising.{late≔, delivered≔, pending≔, carried≔, by-rank, all-by-rank, activate, place-for, deliver, Went, raise-into}
+use Rattle.units.specs.Lent.{carry}
+use Rattle.units.proofs.Places.{put-off-carried}
 use Rattle.opening.specs.Opening.{put-to}
 use Rattle.unit.specs.Unit.{stop-of}
 use Rattle.passes.specs.Waiting.{bare, waiting, for-late, for-main, for-both}
@@ -69,18 +71,26 @@ module _ (c : Circuit) where
 
   -- ---- `activate`
 
-  pub late-files : (u : E) (a : Act) (l : Lists) → activate-late S u (w a) (for-late c l) ≡ through (for-late c) (activate c Late a l)
-  unfolding activate-late activate
-  late-files u a l =
+  pub late-files : (u : E) (p : When) (a : Act) (l : Lists) → activate-late S u p (w a) (for-late c l) ≡ through (for-late c) (activate c (place-for p Late) a l)
+  unfolding activate-late activate place-for
+  late-files u p a l =
       ap (λ (x : List E). room (map w (l .late)) most-waiting (record { late = x; delivered = map w (l .delivered) })) (push-by-rank a (l .late))
       ∙ room-through (for-late c) (l .late) most-waiting (late≔ l (by-rank c a (l .late)))
 
-  pub main-files : (u : E) (a : Act) (l : Lists) → activate-main S u (w a) (for-main c l) ≡ through (for-main c) (activate c (After (rank-of-gate c (u .act .gate))) a l)
-  unfolding activate-main activate carries
-  main-files u a l =
+  carry-files : (a : Act) (l : Lists) → room (map w (l .carried)) most-waiting (record { pending = map w (l .pending); carried = map w (l .carried) ++ (w a ∷ []) }) ≡ through (for-main c) (carry a l)
+  carry-files a l =
+      ap (λ (x : List E). room (map w (l .carried)) most-waiting (record { pending = map w (l .pending); carried = x })) (sym (map-snoc w (l .carried) a))
+      ∙ room-through (for-main c) (l .carried) most-waiting (carried≔ l (snoc (l .carried) a))
+
+  -- where every rank has 16 bits
+  pub main-files :
+      ((g : ℕ) → rank-of-gate c g < 65536) → (u : E) (p : When) (a : Act) (l : Lists) →
+      activate-main S u p (w a) (for-main c l) ≡ through (for-main c) (activate c (place-for p (After (rank-of-gate c (u .act .gate)))) a l)
+  unfolding activate-main activate carries place-for
+  main-files small u put-off a l = carry-files a l ∙ ap (through (for-main c)) (sym (put-off-carried c (rank-of-gate c (u .act .gate)) a l (small (a .gate))))
+  main-files small u ranked a l =
       cond-through (for-main c) (leb (rank-of-gate c (a .gate)) (rank-of-gate c (u .act .gate))) _ _
-      (ap (λ (x : List E). room (map w (l .carried)) most-waiting (record { pending = map w (l .pending); carried = x })) (sym (map-snoc w (l .carried) a))
-      ∙ room-through (for-main c) (l .carried) most-waiting (carried≔ l (snoc (l .carried) a)))
+      (carry-files a l)
       (ap (λ (x : List E). room (map w (l .pending)) most-waiting (record { pending = x; carried = map w (l .carried) })) (push-by-rank a (l .pending))
       ∙ room-through (for-main c) (l .pending) most-waiting (pending≔ l (by-rank c a (l .pending))))
 

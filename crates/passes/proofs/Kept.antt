@@ -14,7 +14,7 @@ use Rattle.model.specs.Chain.{Chained, run-chain}
 use Rattle.model.specs.Unit.{begin, enter}
 use Rattle.units.specs.declared.Place.the-variants.{Late}
 use Rattle.units.specs.View.{Lists}
-use Rattle.units.specs.Raising.{activate, deliver, Went, raise-into}
+use Rattle.units.specs.Raising.{activate, place-for, deliver, Went, raise-into}
 use Rattle.settling.specs.Settling.{filed-into}
 use Rattle.opening.specs.Opening.{put-to}
 use Rattle.unit.specs.Unit.{with-left, finished, finished-chain, ran}
@@ -69,14 +69,14 @@ module _ (c : Circuit) where
 
   -- a unit of the late pass leaves what waits for the main pass
   pub ran-later : (left : ℕ) (a : Act) (s : State) (l : Lists) → later (ran c Late left a s l .lists) ≡ later l
-  unfolding ran finished-chain finished with-left filed-into if_then_else_
+  unfolding ran finished-chain finished with-left filed-into place-for if_then_else_
   ran-later left a s l = go (run-chain c left (begin c a) (enter c s a))
     where
       go : (r : Chained) → later (finished-chain c Late r l .lists) ≡ later l
       go r = by (eqb (r .stop) 0) refl
         where
           by : (b : Bool) → eqb (r .stop) 0 ≡ b → later (finished-chain c Late r l .lists) ≡ later l
-          by true e = rw e (into-keeps later (λ _. activate c Late) (λ _. late-same) _ l _)
+          by true e = rw e (into-keeps later (λ p. activate c (place-for p Late)) (λ _. late-same) _ l _)
           by false e = rw e refl
 
   -- the opening carries nothing

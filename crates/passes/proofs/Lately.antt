@@ -64,7 +64,7 @@ module _ (c : Circuit) where
   took-late (b ∷ k) d p q x e = let f : x ≡ b = cc in rw f refl
 
   abbrev pub Going-late : Contents → Contents → World → ℕ → ℕ → Type 0
-  Going-late a b w left n = Going c (for-late c) (next-late (bare c)) (activate-late (bare c)) (λ _. Late) (λ u x l. late-files c (waiting c u) x l) a b w left n
+  Going-late a b w left n = Going c (for-late c) (next-late (bare c)) (activate-late (bare c)) a b w left n
 
 -- The late pass under way since the areas a, with so many steps that the tick might make: b are the areas now, n units may still begin, and the tick may make so many steps more.
 pub record Lately (c : Circuit) (a b : Contents) (left₀ left n : ℕ) : Type 0 where
@@ -88,7 +88,7 @@ module _ (c : Circuit) where
   pub late-first : (a : Contents) (left n : ℕ) → n ≡ units-left a → Lately c a a left left n
   late-first a left n e =
       record {
-        going = λ w s f. subst (λ (m : ℕ). Going-late c a a w left m) (sym e) (going-first c (for-late c) (next-late (bare c)) (activate-late (bare c)) (λ _. Late) (λ u x l. late-files c (waiting c u) x l) a w left s f);
+        going = λ w s f. subst (λ (m : ℕ). Going-late c a a w left m) (sym e) (going-first c (for-late c) (next-late (bare c)) (activate-late (bare c)) a w left s f);
         later = refl;
       }
 
@@ -104,7 +104,7 @@ module _ (c : Circuit) where
         let p : none ≡ next-in (U .lists) = ap (act-next c (U .events)) (sym h) ∙ t .next in
         let l = U .lists in
         let same : U₁ ≡ U = t .rest ∙ ap (with-lists U) (rest-empty (l .late) (l .delivered) (l .pending) (l .carried) p) in (
-          λ w s v. turn-none c (for-late c) (next-late (bare c)) (activate-late (bare c)) (λ _. Late) (λ u x l₁. late-files c (waiting c u) x l₁) vs U U₁ D a r w left n same (empty-late c (l .late) (l .delivered) (l .pending) (l .carried) p) f o (g .going w s v),
+          λ w s v. turn-none c (for-late c) (next-late (bare c)) (activate-late (bare c)) vs U U₁ D a r w left n same (empty-late c (l .late) (l .delivered) (l .pending) (l .carried) p) f o (g .going w s v),
           both-later (U₁ .lists) (a .lists) (ap (λ (u : Units). later (u .lists)) same ∙ g .later),
         )
 
@@ -128,7 +128,7 @@ module _ (c : Circuit) where
       late-on s =
           let l = U .lists in
           record {
-            going = λ w i j. turn-on c (for-late c) (next-late (bare c)) (activate-late (bare c)) (λ _. Late) (λ u x l₁. late-files c (waiting c u) x l₁) vs U U₁ D a b₁ r w left act-here (rest-in l) (t .rest) (took-late c (l .late) (l .delivered) (l .pending) (l .carried) act-here taken-here) works-here n s z (g .going w i j);
+            going = λ w i j. turn-on c (for-late c) (next-late (bare c)) (activate-late (bare c)) (λ _. Late) (λ u. late-files c (waiting c u)) vs U U₁ D a b₁ r w left act-here (rest-in l) (t .rest) (took-late c (l .late) (l .delivered) (l .pending) (l .carried) act-here taken-here) works-here n s z (g .going w i j);
             later = later-here;
           }
 
@@ -137,7 +137,7 @@ module _ (c : Circuit) where
       unfolding late-pass
       late-stop s =
           let l = U .lists in (
-            λ w i j. turn-stop c (for-late c) (next-late (bare c)) (activate-late (bare c)) (λ _. Late) (λ u x l₁. late-files c (waiting c u) x l₁) vs U U₁ D a b₁ r w left act-here (rest-in l) (t .rest) (took-late c (l .late) (l .delivered) (l .pending) (l .carried) act-here taken-here) works-here n s z (g .going w i j),
+            λ w i j. turn-stop c (for-late c) (next-late (bare c)) (activate-late (bare c)) (λ _. Late) (λ u. late-files c (waiting c u)) vs U U₁ D a b₁ r w left act-here (rest-in l) (t .rest) (took-late c (l .late) (l .delivered) (l .pending) (l .carried) act-here taken-here) works-here n s z (g .going w i j),
             both-later (b₁ .lists) (a .lists) later-here,
           )
 
@@ -146,6 +146,6 @@ module _ (c : Circuit) where
   unfolding late-pass
   late-end a b r left₀ left n z e g =
       let l = b .lists in (
-        λ w i j. turn-over c (for-late c) (next-late (bare c)) (activate-late (bare c)) (λ _. Late) (λ u x l₁. late-files c (waiting c u) x l₁) a b r w left n (next-in l) (empty-late c (l .late) (l .delivered) (l .pending) (l .carried)) (rest-in l) (took-late c (l .late) (l .delivered) (l .pending) (l .carried)) (e .0) (e .1) z (g .going w i j),
+        λ w i j. turn-over c (for-late c) (next-late (bare c)) (activate-late (bare c)) a b r w left n (next-in l) (empty-late c (l .late) (l .delivered) (l .pending) (l .carried)) (rest-in l) (took-late c (l .late) (l .delivered) (l .pending) (l .carried)) (e .0) (e .1) z (g .going w i j),
         both-later (b .lists) (a .lists) (g .later),
       )

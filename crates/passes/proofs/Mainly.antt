@@ -52,7 +52,7 @@ module _ (c : Circuit) where
   after u = After (rank-of-gate c (u .gate))
 
   abbrev pub Going-main : Contents → Contents → World → ℕ → ℕ → Type 0
-  Going-main a b w left n = Going c (for-main c) (next-main (bare c)) (activate-main (bare c)) after (λ u x l. main-files c (waiting c u) x l) a b w left n
+  Going-main a b w left n = Going c (for-main c) (next-main (bare c)) (activate-main (bare c)) a b w left n
 
 -- The main pass under way since the areas a, with so many steps that the tick might make: b are the areas now, n units may still begin, and the tick may make so many steps more.
 pub record Mainly (c : Circuit) (a b : Contents) (left₀ left n : ℕ) : Type 0 where
@@ -71,7 +71,7 @@ module _ (c : Circuit) where
   pub main-first : (a : Contents) (left n : ℕ) → n ≡ units-left a → Mainly c a a left left n
   main-first a left n e =
       record {
-        going = λ w s f. subst (λ (m : ℕ). Going-main c a a w left m) (sym e) (going-first c (for-main c) (next-main (bare c)) (activate-main (bare c)) (after c) (λ u x l. main-files c (waiting c u) x l) a w left s f);
+        going = λ w s f. subst (λ (m : ℕ). Going-main c a a w left m) (sym e) (going-first c (for-main c) (next-main (bare c)) (activate-main (bare c)) a w left s f);
       }
 
   module _ (vs : Values) (U U₁ : Units) (D : Delays) (a : Contents) (left₀ left n : ℕ) (m : Taken) (t : (act-taken (act-of c) m ≡ first-of (U .lists .pending)) × (U₁ ≡ with-lists U (rest-main (U .lists)))) (z : 0 < n) (g : Mainly c a (together vs U D) left₀ left n) where
@@ -85,9 +85,9 @@ module _ (c : Circuit) where
     main-none r h f o w i j =
         let p : none ≡ first-of (U .lists .pending) = ap (act-taken (act-of c)) (sym h) ∙ t .0 in
         let same : U₁ ≡ U = t .1 ∙ ap (λ (k : List Unit-act). with-lists U (pending≔ (U .lists) k)) (drop-none (U .lists .pending) p) in
-        turn-none c (for-main c) (next-main (bare c)) (activate-main (bare c)) (after c) (λ u x l. main-files c (waiting c u) x l) vs U U₁ D a r w left n same (empty-main c (U .lists .pending) (U .lists .carried) p) f o (g .going w i j)
+        turn-none c (for-main c) (next-main (bare c)) (activate-main (bare c)) vs U U₁ D a r w left n same (empty-main c (U .lists .pending) (U .lists .carried) p) f o (g .going w i j)
 
-    module _ (b₁ : Contents) (r : Ran) (y v reached : ℕ) (h : m ≡ Entry y) (ev : (v ≡ gate-of y) × (v < 65536)) (er : reached ≡ rank-of-gate c v) (q : Works b₁ r (one-begun (together vs U₁ D .kept) (act-in c (U₁ .events) (Waiting y))) (ran c (After reached) left (act-in c (U₁ .events) (Waiting y)) (together vs U₁ D .state) (U₁ .lists))) where
+    module _ (small : (g : ℕ) → rank-of-gate c g < 65536) (b₁ : Contents) (r : Ran) (y v reached : ℕ) (h : m ≡ Entry y) (ev : (v ≡ gate-of y) × (v < 65536)) (er : reached ≡ rank-of-gate c v) (q : Works b₁ r (one-begun (together vs U₁ D .kept) (act-in c (U₁ .events) (Waiting y))) (ran c (After reached) left (act-in c (U₁ .events) (Waiting y)) (together vs U₁ D .state) (U₁ .lists))) where
       taken-here : some (act-of c y) ≡ first-of (U .lists .pending)
       unfolding act-taken
       taken-here = ap (act-taken (act-of c)) (sym h) ∙ t .0
@@ -104,18 +104,18 @@ module _ (c : Circuit) where
       pub main-on : r .stop ≡ 0 → Mainly c a b₁ left₀ (r .left) (n - 1)
       main-on s =
           record {
-            going = λ w i j. turn-on c (for-main c) (next-main (bare c)) (activate-main (bare c)) (after c) (λ u x l. main-files c (waiting c u) x l) vs U U₁ D a b₁ r w left (act-of c y) (rest-main (U .lists)) (t .1) (took-main c (U .lists .pending) (U .lists .carried) (act-of c y) taken-here) works-here n s z (g .going w i j);
+            going = λ w i j. turn-on c (for-main c) (next-main (bare c)) (activate-main (bare c)) (after c) (λ u. main-files c small (waiting c u)) vs U U₁ D a b₁ r w left (act-of c y) (rest-main (U .lists)) (t .1) (took-main c (U .lists .pending) (U .lists .carried) (act-of c y) taken-here) works-here n s z (g .going w i j);
           }
 
       -- it came to a stop
       pub main-stop : (r .stop ≡ 0 → ⊥) → Main-done c a b₁ r left₀
       unfolding main-pass
       main-stop s w i j =
-          turn-stop c (for-main c) (next-main (bare c)) (activate-main (bare c)) (after c) (λ u x l. main-files c (waiting c u) x l) vs U U₁ D a b₁ r w left (act-of c y) (rest-main (U .lists)) (t .1) (took-main c (U .lists .pending) (U .lists .carried) (act-of c y) taken-here) works-here n s z (g .going w i j)
+          turn-stop c (for-main c) (next-main (bare c)) (activate-main (bare c)) (after c) (λ u. main-files c small (waiting c u)) vs U U₁ D a b₁ r w left (act-of c y) (rest-main (U .lists)) (t .1) (took-main c (U .lists .pending) (U .lists .carried) (act-of c y) taken-here) works-here n s z (g .going w i j)
 
   -- none may begin any more
   pub main-end : (a b : Contents) (r : Ran) (left₀ left n : ℕ) → n ≤ 0 → (r .left ≡ left) × (r .stop ≡ over (first-of (b .lists .pending))) → Mainly c a b left₀ left n → Main-done c a b r left₀
   unfolding main-pass
   main-end a b r left₀ left n z e g w i j =
       let l = b .lists in
-      turn-over c (for-main c) (next-main (bare c)) (activate-main (bare c)) (after c) (λ u x l₁. main-files c (waiting c u) x l₁) a b r w left n (first-of (l .pending)) (empty-main c (l .pending) (l .carried)) (rest-main l) (took-main c (l .pending) (l .carried)) (e .0) (e .1) z (g .going w i j)
+      turn-over c (for-main c) (next-main (bare c)) (activate-main (bare c)) a b r w left n (first-of (l .pending)) (empty-main c (l .pending) (l .carried)) (rest-main l) (took-main c (l .pending) (l .carried)) (e .0) (e .1) z (g .going w i j)

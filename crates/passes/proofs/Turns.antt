@@ -4,7 +4,7 @@ use mathlib.Core.Path.{_≡_, refl, sym, ap, _∙_}
 use mathlib.Core.Bool.{Bool, true, false}
 use mathlib.Core.List.{List, [], _∷_, _++_, append-assoc}
 use lib.Dec.{eqb}
-use Rattle.schedule.specs.Schedule.{Filed, Setup, Activation, list-full, Took, empty, took, Raising, raise-all, Passed, no-turn, pass, acts}
+use Rattle.schedule.specs.Schedule.{When, Filed, Setup, Activation, list-full, Took, empty, took, Raising, raise-all, Passed, no-turn, pass, acts}
 use Rattle.model.specs.Base.{if_then_else_}
 use Rattle.model.specs.Circuit.{Circuit}
 use Rattle.model.specs.State.{Act, wires≔}
@@ -14,7 +14,7 @@ use Rattle.model.specs.Unit.{World, state≔, run-unit, finish-chain}
 use Rattle.model.specs.Run.{body}
 use Rattle.units.specs.declared.Place.{Place}
 use Rattle.units.specs.View.{Lists}
-use Rattle.units.specs.Raising.{activate}
+use Rattle.units.specs.Raising.{activate, place-for}
 use Rattle.settling.specs.Settling.{filed-into}
 use Rattle.unit.specs.Unit.{Result, with-left, finished, finished-chain, ran}
 use Rattle.passes.specs.Waiting.{bare, waiting}
@@ -35,20 +35,20 @@ module _ (c : Circuit) where
     pub world : k .world ≡ state≔ v (z .left) (z .state)
     pub stop : k .stop ≡ z .stop
 
-  module _ {Q : Type 0} (h : Lists → Q) (to : Place) (there : E → Q → Filed Q) (files : (a : Act) (l : Lists) → there (waiting c a) (h l) ≡ through h (activate c to a l)) where
+  module _ {Q : Type 0} (h : Lists → Q) (to : Place) (there : When → E → Q → Filed Q) (files : (p : When) (a : Act) (l : Lists) → there p (waiting c a) (h l) ≡ through h (activate c (place-for p to) a l)) where
     pub chain-raises : (v : World) (r : Chained) (l : Lists) →
         let d = finish-chain c v r in
-        Raises h (raise-all S (λ _. there) (d .raises) tt (h l) (d .world) (d .stop)) v (finished-chain c to r l)
+        Raises h (raise-all S there (d .raises) tt (h l) (d .world) (d .stop)) v (finished-chain c to r l)
     unfolding finish-chain finished-chain finished if_then_else_ with-left filed-into raise-all
     chain-raises v r l = go (eqb (r .stop) 0) refl
       where
         go :
             (b : Bool) → eqb (r .stop) 0 ≡ b →
             let d = finish-chain c v r in
-            Raises h (raise-all S (λ _. there) (d .raises) tt (h l) (d .world) (d .stop)) v (finished-chain c to r l)
+            Raises h (raise-all S there (d .raises) tt (h l) (d .world) (d .stop)) v (finished-chain c to r l)
         go true e =
             let z = settle c (wires≔ (r .state) (publish-writes c (r .state .wires))) in
-            let i = raised-as c h (λ _. there) (λ _. activate c to) (λ _. files) v (r .left) (z .raises) l (z .state) in
+            let i = raised-as c h there (λ p. activate c (place-for p to)) files v (r .left) (z .raises) l (z .state) in
             rw e (record { queue = i .queue; world = i .world; stop = i .stop })
         go false e = rw e (record { queue = refl; world = refl; stop = refl })
 
@@ -75,16 +75,17 @@ module _ (c : Circuit) where
         begun = i .begun ∙ ap (λ (x : List Act). before ++ x) (j .begun) ∙ sym (append-assoc before then₁ (acts S (r .turns)));
       }
 
-  module _ {Q : Type 0} (h : Lists → Q) (next : Q → Took E Q) (act : E → E → Q → Filed Q) (to : Act → Place) (files : (u a : Act) (l : Lists) → act (waiting c u) (waiting c a) (h l) ≡ through h (activate c (to u) a l)) where
-    -- the next one begins and runs
-    pub turn :
-        (n : ℕ) (w : World) (l : Lists) (a : Act) (rest : Lists) → next (h l) ≡ took (waiting c a) (h rest) →
-        let z = ran c (to a) (w .left) a (w .state) rest in
-        Like (pass S next act (suc n) tt (h l) w 0) (pass S next act n tt (h (z .lists)) (state≔ w (z .left) (z .state)) (z .stop)) (a ∷ [])
-    unfolding pass body run-unit ran
-    turn n w l a rest e =
-        let i = chain-raises h (to a) (act (waiting c a)) (files a) w (run-unit c w a) rest in
-        rw (e, i .queue, i .world, i .stop) (record { world = refl; queue = refl; stop = refl; left = refl; begun = refl })
+  module _ {Q : Type 0} (h : Lists → Q) (next : Q → Took E Q) (act : E → When → E → Q → Filed Q) where
+    module _ (to : Act → Place) (files : (u : Act) (p : When) (a : Act) (l : Lists) → act (waiting c u) p (waiting c a) (h l) ≡ through h (activate c (place-for p (to u)) a l)) where
+      -- the next one begins and runs
+      pub turn :
+          (n : ℕ) (w : World) (l : Lists) (a : Act) (rest : Lists) → next (h l) ≡ took (waiting c a) (h rest) →
+          let z = ran c (to a) (w .left) a (w .state) rest in
+          Like (pass S next act (suc n) tt (h l) w 0) (pass S next act n tt (h (z .lists)) (state≔ w (z .left) (z .state)) (z .stop)) (a ∷ [])
+      unfolding pass body run-unit ran
+      turn n w l a rest e =
+          let i = chain-raises h (to a) (act (waiting c a)) (files a) w (run-unit c w a) rest in
+          rw (e, i .queue, i .world, i .stop) (record { world = refl; queue = refl; stop = refl; left = refl; begun = refl })
 
     -- nothing waits
     pub no-more : (n : ℕ) (w : World) (l : Lists) → next (h l) ≡ empty → pass S next act n tt (h l) w 0 ≡ no-turn S n tt (h l) w 0

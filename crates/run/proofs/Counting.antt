@@ -4,7 +4,7 @@ use mathlib.Core.Bool.{Bool, true}
 use mathlib.Core.List.{List, [], _∷_}
 use mathlib.Core.Option.{Option}
 use Prim.Native.Nat.{ℕ, suc}
-use Rattle.schedule.specs.Schedule.{Raise, Outcome, Closed, plain, Activation, tick}
+use Rattle.schedule.specs.Schedule.{Raise, When, Outcome, Closed, plain, Activation, tick}
 use Rattle.schedule.specs.Promise.{All, [·], _∷·_}
 use Rattle.schedule.specs.Keeping.{Did-keep}
 use Rattle.schedule.proofs.Keeps.{tick-keeps}
@@ -205,9 +205,9 @@ module _ (c : Circuit) (n : ℕ) where
   unfolding calm
   calm-at z = record { state = z; raises = [·] }
 
-  raise-at : {s : State} (g form : ℕ) → State-at n s → Settled-at (raise s g form)
+  raise-at : {s : State} (when : When) (g form : ℕ) → State-at n s → Settled-at (raise when s g form)
   unfolding raise
-  raise-at g form z = record { state = z; raises = _∷·_ z [·] }
+  raise-at when g form z = record { state = z; raises = _∷·_ z [·] }
 
   pulse-at : {w : Wires} (o : ℕ) → Wires-at n w → Wires-at n (pulse c w o)
   unfolding pulse
@@ -218,7 +218,7 @@ module _ (c : Circuit) (n : ℕ) where
   check-at s i z =
       let y = wires-at (wires-at z (ready-at (s .wires) i (z .wires))) (last-at _ (ready-at (s .wires) i (z .wires))) in
       if-both Settled-at _ (calm-at y)
-      (detect-keeps c Settled-at _ (gate-at-input c i) (calm-at y) (λ form. raise-at _ form y)
+      (detect-keeps c Settled-at _ (gate-at-input c i) (calm-at y) (λ when form. raise-at when _ form y)
       (λ o k e u l. calm-at (wires-at y (pulse-at _ (y .wires)))) (λ d b. calm-at (count-at b (delay-at _ d y))) _ _ _)
 
   check-on-at : (m : ℕ) (z : Settled) → Settled-at z → Settled-at (check-on c m z)

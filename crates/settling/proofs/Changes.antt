@@ -10,6 +10,7 @@ use borrow.Author.Tests.{ne-eqb, leb-true, leb-false}
 use types.Run.{OneOf}
 use lib.Dec.{eqb, leb}
 use lib.ListN.{getD, set}
+use Rattle.schedule.specs.Schedule.{by-rank}
 use Rattle.model.specs.declared.Value.{Value}
 use Rattle.model.specs.declared.Value.the-variants.{Nothing}
 use Rattle.model.specs.Base.{if_then_else_}
@@ -135,34 +136,34 @@ module _ (c : Circuit) (v : Values) (g : ℕ) (was now : Value) (e : Edge) (ee :
 -- ---- raising a gate
 
 -- an entry's raise
-pub entry-raise : (c : Circuit) (g form x : ℕ) (s : State) → x ≡ entry-of g form 0 → g < 65536 → form < 65536 → settled c s (Entry x) ≡ raise s g form
+pub entry-raise : (c : Circuit) (g form x : ℕ) (s : State) → x ≡ entry-of g form 0 → g < 65536 → form < 65536 → settled c s (Entry x) ≡ raise by-rank s g form
 unfolding settled raise
 entry-raise c g form x s ex hg hf = rw (ex, entry-act c g form hg hf)
 
 -- an EdgeExec
 module _ (g : ℕ) (was now : Value) (e : Edge) (ee : Moves-so e was now) where
   pub raise-hits :
-      (p x : ℕ) → p < 2 → Hits e p → x ≡ entry-of g (32 + p) 0 → g < 65536 → (c : Circuit) (s : State) → settled c s (Entry x) ≡ edge c s was now (λ t o. raise t g (32 + o))
+      (p x : ℕ) → p < 2 → Hits e p → x ≡ entry-of g (32 + p) 0 → g < 65536 → (c : Circuit) (s : State) → settled c s (Entry x) ≡ edge c s was now (λ t o. raise by-rank t g (32 + o))
   raise-hits p x k h ex hg c s =
-      entry-raise c g (32 + p) x s ex hg (omega arith) ∙ h s (λ t o. raise t g (32 + o)) ∙ ee c s (λ t o. raise t g (32 + o))
+      entry-raise c g (32 + p) x s ex hg (omega arith) ∙ h s (λ t o. raise by-rank t g (32 + o)) ∙ ee c s (λ t o. raise by-rank t g (32 + o))
 
-  pub raise-stays : e ≡ Level → g < 65536 → (c : Circuit) (s : State) → settled c s NoRaise ≡ edge c s was now (λ t o. raise t g (32 + o))
+  pub raise-stays : e ≡ Level → g < 65536 → (c : Circuit) (s : State) → settled c s NoRaise ≡ edge c s was now (λ t o. raise by-rank t g (32 + o))
   unfolding settled calm
-  raise-stays h hg c s = level-hits e h s (λ t o. raise t g (32 + o)) ∙ ee c s (λ t o. raise t g (32 + o))
+  raise-stays h hg c s = level-hits e h s (λ t o. raise by-rank t g (32 + o)) ∙ ee c s (λ t o. raise by-rank t g (32 + o))
 
 -- an exec pin
 module _ (c : Circuit) (g i : ℕ) (now : Value) (t : Bool) (et : t ≡ truthy now) where
   pub pin-true :
       (n p x : ℕ) → t ≡ true → (n ≡ input c g 0) × (n < 131072) → p ≡ i - n → x ≡ entry-of g (16 + p % 65536) 0 → g < 65536 → (truthy now ≡ true → i < 640) → (s : State) →
-      settled c s (Entry x) ≡ (if truthy now then raise s g (16 + (i - input c g 0)) else calm s)
+      settled c s (Entry x) ≡ (if truthy now then raise by-rank s g (16 + (i - input c g 0)) else calm s)
   unfolding if_then_else_
   pin-true n p x h en ep ex hg hi s =
       let k : truthy now ≡ true = sym et ∙ h in
       let small : i < 640 = hi k in
       let ef : 16 + p % 65536 ≡ 16 + (i - n) = omega arith in
-      rw k (entry-raise c g (16 + p % 65536) x s ex hg (omega arith) ∙ ap (raise s g) (ef ∙ ap (λ (y : ℕ). 16 + (i - y)) (en .0)))
+      rw k (entry-raise c g (16 + p % 65536) x s ex hg (omega arith) ∙ ap (raise by-rank s g) (ef ∙ ap (λ (y : ℕ). 16 + (i - y)) (en .0)))
 
-  pub pin-false : t ≡ false → g < 65536 → (truthy now ≡ true → i < 640) → (s : State) → settled c s NoRaise ≡ (if truthy now then raise s g (16 + (i - input c g 0)) else calm s)
+  pub pin-false : t ≡ false → g < 65536 → (truthy now ≡ true → i < 640) → (s : State) → settled c s NoRaise ≡ (if truthy now then raise by-rank s g (16 + (i - input c g 0)) else calm s)
   unfolding if_then_else_ settled calm
   pin-false h hg hi s = let k : truthy now ≡ false = sym et ∙ h in rw k
 
@@ -181,7 +182,7 @@ gate-small l i = omega (arith, input-gate l i (getD (entries l 2 640 inputs-at) 
 
 -- the definition at each kind
 module _ (c : Circuit) (s : State) (g p : ℕ) (was now : Value) (k : ℕ) where
-  kind-6 : k ≡ 6 → detect c k s g p was now ≡ raise s g 0
+  kind-6 : k ≡ 6 → detect c k s g p was now ≡ raise by-rank s g 0
   unfolding detect if_then_else_
   kind-6 e = rw e
 
@@ -193,7 +194,7 @@ module _ (c : Circuit) (s : State) (g p : ℕ) (was now : Value) (k : ℕ) where
   unfolding detect if_then_else_
   kind-8 e = rw e
 
-  kind-9 : k ≡ 9 → detect c k s g p was now ≡ edge c s was now (λ t o. raise t g (32 + o))
+  kind-9 : k ≡ 9 → detect c k s g p was now ≡ edge c s was now (λ t o. raise by-rank t g (32 + o))
   unfolding detect if_then_else_
   kind-9 e = rw e
 
@@ -202,7 +203,7 @@ module _ (c : Circuit) (s : State) (g p : ℕ) (was now : Value) (k : ℕ) where
   kind-buffer h = ⊎-elim (λ e. rw e) (λ e. rw e) h
 
   kind-other :
-      ((((Unit {0} × (k ≡ 6 → ⊥)) × (k ≡ 7 → ⊥)) × (k ≡ 8 → ⊥)) × (k ≡ 9 → ⊥)) × (OneOf (10 ∷ 12 ∷ []) k → ⊥) → detect c k s g p was now ≡ (if truthy now then raise s g (16 + p) else calm s)
+      ((((Unit {0} × (k ≡ 6 → ⊥)) × (k ≡ 7 → ⊥)) × (k ≡ 8 → ⊥)) × (k ≡ 9 → ⊥)) × (OneOf (10 ∷ 12 ∷ []) k → ⊥) → detect c k s g p was now ≡ (if truthy now then raise by-rank s g (16 + p) else calm s)
   unfolding detect if_then_else_
   kind-other f =
       rw (
@@ -244,7 +245,7 @@ module _ (l : List ℕ) (v : Values) (d : Delays) (i g k : ℕ) (was now : Value
       (rw (ew, eo .0) (sym (kind-8 (net l) s g _ was now k e) ∙ known s), rw ew))
 
   pub change-9 :
-      (r : Raised) → k ≡ 9 → (g < 65536 → (c : Circuit) (s : State) → settled c s r ≡ edge c s was now (λ t o. raise t g (32 + o))) → (truthy now ≡ true → i < 640) →
+      (r : Raised) → k ≡ 9 → (g < 65536 → (c : Circuit) (s : State) → settled c s r ≡ edge c s was now (λ t o. raise by-rank t g (32 + o))) → (truthy now ≡ true → i < 640) →
       Acts (net l) v d v d (acted (net l) i was now) r
   change-9 r e h hi =
       acts-by (net l) v v d d (acted (net l) i was now) r (λ u.
@@ -262,7 +263,7 @@ module _ (l : List ℕ) (v : Values) (d : Delays) (i g k : ℕ) (was now : Value
 
   pub change-pin :
       (r : Raised) → ((((Unit {0} × (k ≡ 6 → ⊥)) × (k ≡ 7 → ⊥)) × (k ≡ 8 → ⊥)) × (k ≡ 9 → ⊥)) × (OneOf (10 ∷ 12 ∷ []) k → ⊥) →
-      (g < 65536 → (truthy now ≡ true → i < 640) → (s : State) → settled (net l) s r ≡ (if truthy now then raise s g (16 + (i - input (net l) g 0)) else calm s)) →
+      (g < 65536 → (truthy now ≡ true → i < 640) → (s : State) → settled (net l) s r ≡ (if truthy now then raise by-rank s g (16 + (i - input (net l) g 0)) else calm s)) →
       (truthy now ≡ true → i < 640) → Acts (net l) v d v d (acted (net l) i was now) r
   change-pin r f h hi =
       acts-by (net l) v v d d (acted (net l) i was now) r (λ u.

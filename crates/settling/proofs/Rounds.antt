@@ -5,7 +5,7 @@ use mathlib.Core.Bool.{false}
 use mathlib.Core.List.{List, [], _∷_, _++_, append-nil, append-assoc}
 use native.Mathlib.Omega.{arith}
 use lib.ListN.{set}
-use Rattle.schedule.specs.Schedule.{Raise, Filed, full, filed}
+use Rattle.schedule.specs.Schedule.{Raise, When, Filed, full, filed}
 use Rattle.lists.specs.declared.Filed.{Filed as Answer}
 use Rattle.lists.specs.declared.Filed.the-variants.{Full, Done}
 use Rattle.model.specs.Circuit.{Circuit}
@@ -78,14 +78,14 @@ module _ (c : Circuit) where
 
   -- what was raised before comes first
   pub raised-before :
-      (n : ℕ) (s : State) (rs : List (Raise State Act (Unit {0}))) →
+      (n : ℕ) (s : State) (rs : List (Raise State Act When)) →
       check-on c n (record { state = s; raises = rs }) ≡ record { state = check-on c n (calm s) .state; raises = rs ++ check-on c n (calm s) .raises }
   unfolding check-on calm
   raised-before zero s rs = rw (append-nil rs)
   raised-before (suc n) s rs = go (λ t qs. raised-before n t qs) (s .wires .to-check)
     where
       go :
-          ((t : State) (qs : List (Raise State Act (Unit {0}))) → check-on c n (record { state = t; raises = qs }) ≡ record { state = check-on c n (calm t) .state; raises = qs ++ check-on c n (calm t) .raises }) →
+          ((t : State) (qs : List (Raise State Act When)) → check-on c n (record { state = t; raises = qs }) ≡ record { state = check-on c n (calm t) .state; raises = qs ++ check-on c n (calm t) .raises }) →
           (x : List ℕ) →
           first-on x (record { state = s; raises = rs }) (λ i is. check-on c n (record { state = check c (to-be-checked s i is) i .state; raises = rs ++ check c (to-be-checked s i is) i .raises }))
           ≡ record {

@@ -8,6 +8,7 @@ use native.Mathlib.Nat.{mul-le-mul}
 use native.Mathlib.Omega.{arith}
 use native.Mathlib.Numerals.{add-one}
 use lib.ListN.{length, set}
+use Rattle.schedule.specs.Schedule.{by-rank}
 use Rattle.lists.specs.declared.Filed.{Filed as Answer}
 use Rattle.lists.specs.declared.Filed.the-variants.{Full as NoRoom, Done as Room}
 use Rattle.model.specs.Circuit.{Circuit}
@@ -21,7 +22,8 @@ use Rattle.wires.specs.Checks.{waiting, oldest, taken}
 use Rattle.states.specs.View.{Delays}
 use Rattle.units.specs.declared.Place.{Place}
 use Rattle.units.specs.View.{act-of, Lists, Units}
-use Rattle.units.specs.Raising.{with-lists, activate, answer, lists-after, Went, raise-into}
+use Rattle.units.specs.Raising.{with-lists, activate, place-for, answer, lists-after, Went, raise-into}
+use Rattle.units.proofs.Places.{ranked-for}
 use Rattle.areas.specs.Areas.{Contents, together, with-went}
 use Rattle.settling.specs.declared.Raised.{Raised}
 use Rattle.settling.specs.declared.Raised.the-variants.{Nothing as NoRaise, Entry}
@@ -50,11 +52,11 @@ module _ (c : Circuit) (to : Place) where
     where
       by-answer :
           (a : Answer) → filed-into c to z l .answer ≡ a →
-          raise-into (λ _. activate c to) (z .raises ++ check-on c n (calm (z .state)) .raises) l (check-on c n (calm (z .state)) .state)
+          raise-into (λ p. activate c (place-for p to)) (z .raises ++ check-on c n (calm (z .state)) .raises) l (check-on c n (calm (z .state)) .state)
           ≡ (elim a [ NoRoom ↦ filed-into c to z l | Room ↦ goes-on c to n (filed-into c to z l .state) (filed-into c to z l .lists) ])
-      by-answer NoRoom h = raised-full (λ _. activate c to) (z .raises) (check-on c n (calm (z .state)) .raises) l (z .state) (check-on c n (calm (z .state)) .state) h
+      by-answer NoRoom h = raised-full (λ p. activate c (place-for p to)) (z .raises) (check-on c n (calm (z .state)) .raises) l (z .state) (check-on c n (calm (z .state)) .state) h
       by-answer Room h =
-          let p = raised-on (λ _. activate c to) (z .raises) (check-on c n (calm (z .state)) .raises) l (z .state) (check-on c n (calm (z .state)) .state) h in
+          let p = raised-on (λ p. activate c (place-for p to)) (z .raises) (check-on c n (calm (z .state)) .raises) l (z .state) (check-on c n (calm (z .state)) .state) h in
           p .1 ∙ ap (λ (t : State). goes-on c to n t (filed-into c to z l .lists)) (sym (p .0))
 
   -- a round, then the others
@@ -127,6 +129,12 @@ module _ (c : Circuit) (to : Place) (v v₁ : Values) (u : Units) (d : Delays) (
         round-is ∙ ap (λ (z : Settled). some (filed-into c to z (u .lists))) (sym (acts u .1) ∙ ap (settled c (found .state)) er) in
         (ap round-answer (sym p), acts u .0 ∙ ap (after-round (together v u d)) (sym p))
 
+    -- what filing x there comes to
+    abbrev went-to : ℕ → Place → Went
+    went-to x y =
+        let k = activate c y (act-of c x) (u .lists) in
+        record { state = found .state; lists = lists-after (u .lists) k; answer = answer k }
+
     pub next-entry :
         (x : ℕ) (q : Round) (u₂ : Units) → r ≡ Entry x →
         (q ≡ answer-of (answer (activate c to (act-of c x) (u .lists)))) × (u₂ ≡ with-lists u (lists-after (u .lists) (activate c to (act-of c x) (u .lists)))) →
@@ -134,10 +142,11 @@ module _ (c : Circuit) (to : Place) (v v₁ : Values) (u : Units) (d : Delays) (
     unfolding filed-into settled round-answer after-round wires≔
     next-entry x q u₂ er eq =
         let k = activate c to (act-of c x) (u .lists) in
-        let p : round-of c to (together v u d .state) (u .lists) ≡ some (record { state = found .state; lists = lists-after (u .lists) k; answer = answer k }) =
+        let p : round-of c to (together v u d .state) (u .lists) ≡ some (went-to x to) =
         round-is
         ∙ ap (λ (z : Settled). some (filed-into c to z (u .lists))) (sym (acts u .1) ∙ ap (settled c (found .state)) er)
-        ∙ ap (λ (w : Went). some w) (raised-one (λ _. activate c to) tt (act-of c x) (u .lists) (found .state)) in
+        ∙ ap (λ (w : Went). some w) (raised-one (λ p. activate c (place-for p to)) by-rank (act-of c x) (u .lists) (found .state))
+        ∙ ap (λ (y : Place). some (went-to x y)) (ranked-for to) in
         (eq .0 ∙ ap round-answer (sym p), ap (λ (y : Units). together v₂ y e) (eq .1) ∙ acts (with-lists u (lists-after (u .lists) k)) .0 ∙ ap (after-round (together v u d)) (sym p))
 
 -- ---- one turn of the loop

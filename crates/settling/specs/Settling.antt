@@ -1,19 +1,20 @@
 -- What the code's check answers, and what settling leads to where what it raises is filed as it goes.
 use mathlib.Core.List.{[], _∷_}
+use Rattle.schedule.specs.Schedule.{by-rank}
 use Rattle.model.specs.Circuit.{Circuit}
 use Rattle.model.specs.State.{State}
 use Rattle.model.specs.Settle.{Settled}
 use Rattle.units.specs.declared.Place.{Place}
 use Rattle.units.specs.View.{act-of, Lists}
-use Rattle.units.specs.Raising.{activate, Went, raise-into}
+use Rattle.units.specs.Raising.{activate, place-for, Went, raise-into}
 use Rattle.settling.specs.declared.Raised.{Raised}
 use Rattle.settling.specs.declared.Raised.the-variants.{Nothing, Entry}
 
 -- a state and an answer, as the definition has them: what is raised is raised at that state
 unfoldable pub settled : Circuit → State → Raised → Settled
 settled c s Nothing = record { state = s; raises = [] }
-settled c s (Entry x) = record { state = s; raises = record { at = s; act = act-of c x; place = tt } ∷ [] }
+settled c s (Entry x) = record { state = s; raises = record { at = s; act = act-of c x; place = by-rank } ∷ [] }
 
--- what was raised, filed in order, up to the first that finds its list full
+-- what was raised, filed in order as it was raised, up to the first that finds its list full
 unfoldable pub filed-into : Circuit → Place → Settled → Lists → Went
-filed-into c to z l = raise-into (λ _. activate c to) (z .raises) l (z .state)
+filed-into c to z l = raise-into (λ p. activate c (place-for p to)) (z .raises) l (z .state)

@@ -3,6 +3,7 @@ ghost use mathlib.Core.Path.{_≡_};
 ghost use mathlib.Core.Bool.{true};
 ghost use Prim.Native.Nat.{ℕ, _+_, _-_, _<_};
 ghost use Rattle.words.specs.Slices.{was};
+ghost use Rattle.schedule.specs.Schedule.{by-rank};
 ghost use Rattle.model.specs.Base.{if_then_else_};
 ghost use Rattle.model.specs.Value.{truthy};
 ghost use Rattle.model.specs.Circuit.{Circuit, input, output, most-inputs};
@@ -103,7 +104,7 @@ fn edge_pulse(links: &[usize], values: &mut [u8], g: usize, was: Value, v: Value
 
 // An EdgeExec: it is raised, by its output for the direction.
 fn edge_raised(g: usize, was: Value, v: Value) -> Raised
-    ensures { λ r. ⌜ (Short g → (c : Circuit) (s : State) → settled c s r ≡ edge c s was v (λ t o. raise t g (32 + o))) ⌝ }
+    ensures { λ r. ⌜ (Short g → (c : Circuit) (s : State) → settled c s r ≡ edge c s was v (λ t o. raise by-rank t g (32 + o))) ⌝ }
 {
     let e = edge_of(was, v);
     match e {
@@ -116,7 +117,7 @@ fn edge_raised(g: usize, was: Value, v: Value) -> Raised
 // Input i of gate g, an exec pin: the gate is raised where the value is true.
 fn pin_raised(links: &[usize], g: usize, i: usize, v: Value) -> Raised
     requires { ⌜ Linked links ⌝ }
-    ensures { λ r. ⌜ (Short g → (truthy v ≡ true → i < most-inputs) → (s : State) → settled (net-of links) s r ≡ (if truthy v then raise s g (16 + (i - input (net-of links) g 0)) else calm s)) ⌝ }
+    ensures { λ r. ⌜ (Short g → (truthy v ≡ true → i < most-inputs) → (s : State) → settled (net-of links) s r ≡ (if truthy v then raise by-rank s g (16 + (i - input (net-of links) g 0)) else calm s)) ⌝ }
 {
     if truthy(v) {
         let p = less(i, input(links, g, 0));

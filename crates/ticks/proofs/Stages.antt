@@ -9,18 +9,16 @@ use Rattle.schedule.specs.Schedule.{log-full, no-turn, next-late, next-main, ac
 use Rattle.lists.specs.declared.Filed.{Filed as Answer}
 use Rattle.lists.specs.declared.Filed.the-variants.{Full, Done}
 use Rattle.model.specs.Base.{if_then_else_}
-use Rattle.model.specs.Circuit.{Circuit, rank-of-gate}
+use Rattle.model.specs.Circuit.{Circuit}
 use Rattle.model.specs.Wires.{refresh-all}
 use Rattle.model.specs.Unit.{World, state≔}
 use Rattle.wires.specs.View.{Values, with-wires}
-use Rattle.units.specs.declared.Place.the-variants.{Late, After}
 use Rattle.units.specs.View.{Lists, Units}
 use Rattle.areas.specs.Areas.{Contents}
 use Rattle.chain.specs.declared.Ran.{Ran}
 use Rattle.unit.specs.Unit.{stop-of}
-use Rattle.passes.specs.Waiting.{bare, waiting, for-late, for-main}
+use Rattle.passes.specs.Waiting.{bare, for-late, for-main}
 use Rattle.passes.specs.Passes.{with-begun, units-left, Passes}
-use Rattle.passes.proofs.Filing.{late-files, main-files}
 use Rattle.passes.proofs.Turns.{stopped}
 use Rattle.log.specs.declared.Head.{Head}
 use Rattle.log.specs.declared.Written.{Written}
@@ -52,7 +50,7 @@ late-stopped c a left o h =
     rw h
     (record {
       passes = λ w e f.
-          rw (stopped c (for-late c) (next-late (bare c)) (activate-late (bare c)) (λ _. Late) (λ u b l. late-files c (waiting c u) b l) (units-left a) 12 w (a .lists) (λ z. omega (arith, z)))
+          rw (stopped c (for-late c) (next-late (bare c)) (activate-late (bare c)) (units-left a) 12 w (a .lists) (λ z. omega (arith, z)))
           (no-turns c (for-late c) a left 12 w e f);
       pending = refl;
       carried = refl;
@@ -72,7 +70,7 @@ unfolding main-pass
 main-stopped c a r h =
     record {
       passes = λ w e f.
-          rw (stopped c (for-main c) (next-main (bare c)) (activate-main (bare c)) (λ u. After (rank-of-gate c (u .gate))) (λ u b l. main-files c (waiting c u) b l) (units-left a) (r .stop) w (a .lists) h)
+          rw (stopped c (for-main c) (next-main (bare c)) (activate-main (bare c)) (units-left a) (r .stop) w (a .lists) h)
           (no-turns c (for-main c) a (r .left) (r .stop) w e f);
     }
 

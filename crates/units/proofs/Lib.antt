@@ -7,6 +7,8 @@ pub mod Ranks
 -- filing is the scheduler's pushing
 pub mod Pushing
 pub mod Filing
+-- the place of what is put off
+pub mod Places
 pub mod Ticks
 pub mod Calling
 pub mod Beginning

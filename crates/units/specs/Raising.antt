@@ -1,8 +1,9 @@
 -- Where what is raised goes: `activate`, over lists of what waits, and raising one after the other, up to the first that finds its list full.
+use Prim.Native.Nat.{ℕ}
 use mathlib.Core.Bool.{cond}
 use mathlib.Core.List.{List, [], _∷_}
 use lib.Dec.{leb}
-use Rattle.schedule.specs.Schedule.{Raise, Filed, full, filed, room, most-waiting, most-delivered}
+use Rattle.schedule.specs.Schedule.{Raise, When, by-rank as ranked, put-off, Filed, full, filed, room, most-waiting, most-delivered}
 use Rattle.lists.specs.declared.Filed.{Filed as Answer}
 use Rattle.lists.specs.declared.Filed.the-variants.{Full, Done}
 use Rattle.model.specs.Base.{snoc}
@@ -50,6 +51,17 @@ module _ (c : Circuit) where
       (leb (rank-of-gate c (a .gate)) r)
       (room (l .carried) most-waiting (carried≔ l (snoc (l .carried) a)))
       (room (l .pending) most-waiting (pending≔ l (by-rank a (l .pending))))
+
+-- no rank is above this: a cell of the links has 16 bits for it
+abbrev pub most-rank : ℕ
+most-rank = 65535
+
+-- The place of what is raised so, where `to` is that of what is raised by rank: put off in the main pass it is carried whatever its rank, as after the highest there is.
+unfoldable pub place-for : When → Place → Place
+place-for p Late = Late
+place-for p Pending = Pending
+place-for ranked (After r) = After r
+place-for put-off (After r) = After most-rank
 
 -- an event is delivered behind the others
 unfoldable pub deliver : Act → Lists → Filed Lists
