@@ -58,38 +58,38 @@ ranged {A} entry r arms a b k o l h e =
 
 -- ---- past the table
 
-past : (k : ℕ) → 29 ≤ k → kind-at k ≡ kind-at 0
+past : (k : ℕ) → 32 ≤ k → kind-at k ≡ kind-at 0
 unfolding kind-at table
 past zero h = absurd (omega arith)
 past (suc k) h = List·getD-eq-default table (record { ins = []; outs = [] }) {n = k} (omega arith)
 
--- From a on: each entry is r beside the keys up to 28, and r where there is no kind.
+-- From a on: each entry is r beside the keys up to 31, and r where there is no kind.
 pub last :
     {A : Type 0} (entry : Kind → A) (r : A) (arms : List (List ℕ)) (a k : ℕ) → Others arms k → a ≤ k →
-    map (beside arms entry r) (from a (29 - a)) ≡ replicate (29 - a) r → r ≡ entry (kind-at 0) → r ≡ entry (kind-at k)
-last entry r arms a k o l e z = go (leb k 28) refl
+    map (beside arms entry r) (from a (32 - a)) ≡ replicate (32 - a) r → r ≡ entry (kind-at 0) → r ≡ entry (kind-at k)
+last entry r arms a k o l e z = go (leb k 31) refl
   where
-    go : (b : Bool) → leb k 28 ≡ b → r ≡ entry (kind-at k)
-    go true t = ranged entry r arms a 29 k o l (omega (arith, leb-true k 28 t)) e
-    go false t = z ∙ sym (ap entry (past k (leb-false k 28 t)))
+    go : (b : Bool) → leb k 31 ≡ b → r ≡ entry (kind-at k)
+    go true t = ranged entry r arms a 32 k o l (omega (arith, leb-true k 31 t)) e
+    go false t = z ∙ sym (ap entry (past k (leb-false k 31 t)))
 
 -- ---- what holds of every kind
 
 -- Two entries that are the same in every row, and where there is no kind.
 pub everywhere :
-    {A : Type 0} (f g : Kind → A) (k : ℕ) → map (λ j. f (kind-at j)) (from 0 29) ≡ map (λ j. g (kind-at j)) (from 0 29) → f (kind-at k) ≡ g (kind-at k)
-everywhere {A} f g k e = go (leb k 28) refl
+    {A : Type 0} (f g : Kind → A) (k : ℕ) → map (λ j. f (kind-at j)) (from 0 32) ≡ map (λ j. g (kind-at j)) (from 0 32) → f (kind-at k) ≡ g (kind-at k)
+everywhere {A} f g k e = go (leb k 31) refl
   where
-    at-row : (j : ℕ) → j ≤ 28 → f (kind-at j) ≡ g (kind-at j)
+    at-row : (j : ℕ) → j ≤ 31 → f (kind-at j) ≡ g (kind-at j)
     at-row j h =
         let i : 0 + j ≡ j = omega arith in
         let d : A = f (kind-at 0) in
-        sym (map-from (λ j. f (kind-at j)) 0 29 j d (omega arith) ∙ ap (λ (j : ℕ). f (kind-at j)) i) ∙ ap (λ (xs : List A). getD xs j d) e
-        ∙ (map-from (λ j. g (kind-at j)) 0 29 j d (omega arith) ∙ ap (λ (j : ℕ). g (kind-at j)) i)
+        sym (map-from (λ j. f (kind-at j)) 0 32 j d (omega arith) ∙ ap (λ (j : ℕ). f (kind-at j)) i) ∙ ap (λ (xs : List A). getD xs j d) e
+        ∙ (map-from (λ j. g (kind-at j)) 0 32 j d (omega arith) ∙ ap (λ (j : ℕ). g (kind-at j)) i)
 
-    go : (b : Bool) → leb k 28 ≡ b → f (kind-at k) ≡ g (kind-at k)
-    go true t = at-row k (leb-true k 28 t)
-    go false t = let p : kind-at k ≡ kind-at 0 = past k (leb-false k 28 t) in ap f p ∙ at-row 0 (omega arith) ∙ sym (ap g p)
+    go : (b : Bool) → leb k 31 ≡ b → f (kind-at k) ≡ g (kind-at k)
+    go true t = at-row k (leb-true k 31 t)
+    go false t = let p : kind-at k ≡ kind-at 0 = past k (leb-false k 31 t) in ap f p ∙ at-row 0 (omega arith) ∙ sym (ap g p)
 
 pub few-inputs : (k : ℕ) → length (kind-at k .ins) ≤ 10
 unfolding kinds-opened base-opened
@@ -120,13 +120,13 @@ later-inputs k p l = go (ltb p 10) refl
     go true t = sym (in-places value value 3 10 p (kind-at k .ins) l (ltb-true p 10 t) (all-values k))
     go false t = sym (List·getD-eq-default (kind-at k .ins) value {n = p} (omega (arith, ltb-false p 10 t, few-inputs k)))
 
-all-third : (k : ℕ) → places fires 3 9 (kind-at k .outs) ≡ replicate 6 (getD (kind-at k .outs) 3 fires)
+all-fifth : (k : ℕ) → places fires 4 9 (kind-at k .outs) ≡ replicate 5 (getD (kind-at k .outs) 4 fires)
 unfolding kinds-opened base-opened
-all-third k = everywhere (λ x. places fires 3 9 (x .outs)) (λ x. replicate 6 (getD (x .outs) 3 fires)) k refl
+all-fifth k = everywhere (λ x. places fires 4 9 (x .outs)) (λ x. replicate 5 (getD (x .outs) 4 fires)) k refl
 
--- Outputs 3 to 8 are alike.
-pub later-outputs : (k p : ℕ) → 3 ≤ p → p < 9 → getD (kind-at k .outs) p fires ≡ getD (kind-at k .outs) 3 fires
-later-outputs k p l h = in-places fires (getD (kind-at k .outs) 3 fires) 3 9 p (kind-at k .outs) l h (all-third k)
+-- Outputs 4 to 8 are alike.
+pub later-outputs : (k p : ℕ) → 4 ≤ p → p < 9 → getD (kind-at k .outs) p fires ≡ getD (kind-at k .outs) 4 fires
+later-outputs k p l h = in-places fires (getD (kind-at k .outs) 4 fires) 4 9 p (kind-at k .outs) l h (all-fifth k)
 
 -- There are no outputs from 9 on.
 pub past-outputs : (k p : ℕ) → 9 ≤ p → fires ≡ getD (kind-at k .outs) p fires
@@ -138,3 +138,11 @@ from-three zero o = absurd (o .0 .0 .1 refl)
 from-three (suc zero) o = absurd (o .0 .1 refl)
 from-three (suc (suc zero)) o = absurd (o .1 refl)
 from-three (suc (suc (suc p))) o = omega arith
+
+-- Nor 3.
+pub from-four : (p : ℕ) → Others ((3 ∷ []) ∷ (2 ∷ []) ∷ (1 ∷ []) ∷ (0 ∷ []) ∷ []) p → 4 ≤ p
+from-four zero o = absurd (o .0 .0 .0 .1 refl)
+from-four (suc zero) o = absurd (o .0 .0 .1 refl)
+from-four (suc (suc zero)) o = absurd (o .0 .1 refl)
+from-four (suc (suc (suc zero))) o = absurd (o .1 refl)
+from-four (suc (suc (suc (suc p)))) o = omega arith

@@ -1,4 +1,4 @@
-// The 28 kinds of gates: how many inputs and outputs each has, and what each of them is. A number that is no kind's has none.
+// The 31 kinds of gates: how many inputs and outputs each has, and what each of them is. A number that is no kind's has none.
 ghost use mathlib.Core.Path.{_≡_};
 ghost use lib.ListN.{length, getD};
 ghost use Rattle.model.specs.Kinds.{kind-at, pure, value, fires};
@@ -8,7 +8,7 @@ use crate::numbers::*;
 
 pub mod numbers;
 
-// What an input is. The last five are settings, named for what their constants have to be.
+// What an input is. The last six are settings, named for what their constants have to be.
 pub enum Pin {
     Exec,
     ExecOnly,
@@ -20,6 +20,7 @@ pub enum Pin {
     Seconds,
     Variable,
     Channel,
+    Loop,
 }
 
 // What an output is.
@@ -34,10 +35,10 @@ pub fn inputs(kind: u64) -> usize
     ensures { λ r. ⌜ r ≡ length (kind-at kind .ins) ⌝ }
 {
     match kind {
-        2 | 5..=9 | 21..=22 | 26..=27 => 1,
+        2 | 5..=9 | 21..=22 | 26..=27 | 30..=31 => 1,
         18 | 20 => 2,
         1 | 10..=14 | 19 | 23 => 3,
-        15 => 4,
+        15 | 29 => 4,
         16..=17 | 24..=25 => 10,
         _ => 0,
     }
@@ -48,9 +49,10 @@ pub fn outputs(kind: u64) -> usize
     ensures { λ r. ⌜ r ≡ length (kind-at kind .outs) ⌝ }
 {
     match kind {
-        1..=6 | 8 | 10..=14 | 19 | 21 | 24..=25 => 1,
-        7 | 9 | 15 | 18 | 20 | 22 | 28 => 2,
+        1..=6 | 8 | 10..=14 | 19 | 21 | 24..=25 | 31 => 1,
+        7 | 9 | 15 | 18 | 20 | 22 | 28 | 30 => 2,
         23 => 3,
+        29 => 4,
         16..=17 | 26..=27 => 9,
         _ => 0,
     }
@@ -76,7 +78,8 @@ pub fn out_at(kind: u64, p: usize) -> Out
         0 => first_output(kind),
         1 => second_output(kind),
         2 => third_output(kind),
-        3..=8 => later_output(kind),
+        3 => fourth_output(kind),
+        4..=8 => later_output(kind),
         _ => Out::Fires,
     }
 }
@@ -104,8 +107,9 @@ fn first_input(kind: u64) -> Pin
         5 => Pin::Anything,
         6..=10 | 12 => Pin::Watched,
         11 | 13 => Pin::ExecOnly,
-        15..=25 => Pin::Exec,
+        15..=25 | 29 | 31 => Pin::Exec,
         26..=27 => Pin::Channel,
+        30 => Pin::Loop,
         _ => Pin::Value,
     }
 }
@@ -152,7 +156,7 @@ fn second_output(kind: u64) -> Out
     ensures { λ r. ⌜ out-of r ≡ getD (kind-at kind .outs) 1 fires ⌝ }
 {
     match kind {
-        7 | 16..=18 | 22 | 26..=28 => Out::Shows,
+        7 | 16..=18 | 22 | 26..=30 => Out::Shows,
         _ => Out::Fires,
     }
 }
@@ -162,14 +166,24 @@ fn third_output(kind: u64) -> Out
     ensures { λ r. ⌜ out-of r ≡ getD (kind-at kind .outs) 2 fires ⌝ }
 {
     match kind {
-        16..=17 | 23 | 26..=27 => Out::Shows,
+        16..=17 | 23 | 26..=27 | 29 => Out::Shows,
         _ => Out::Fires,
     }
 }
 
-// What outputs 3 to 8 are.
-fn later_output(kind: u64) -> Out
+// What output 3 is.
+fn fourth_output(kind: u64) -> Out
     ensures { λ r. ⌜ out-of r ≡ getD (kind-at kind .outs) 3 fires ⌝ }
+{
+    match kind {
+        16..=17 | 26..=27 | 29 => Out::Shows,
+        _ => Out::Fires,
+    }
+}
+
+// What outputs 4 to 8 are.
+fn later_output(kind: u64) -> Out
+    ensures { λ r. ⌜ out-of r ≡ getD (kind-at kind .outs) 4 fires ⌝ }
 {
     match kind {
         16..=17 | 26..=27 => Out::Shows,

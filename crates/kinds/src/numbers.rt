@@ -1,4 +1,4 @@
-// The numbers of the 28 kinds.
+// The numbers of the 31 kinds.
 pub const SELECT: u64 = 1;
 
 pub const REROUTE: u64 = 2;
@@ -54,3 +54,9 @@ pub const EVENT_CUSTOM: u64 = 26;
 pub const EVENT_CUSTOM_GLOBAL: u64 = 27;
 
 pub const WORLD_EVENT: u64 = 28;
+
+pub const LOOP: u64 = 29;
+
+pub const LOOP_ENTRY: u64 = 30;
+
+pub const BREAK: u64 = 31;

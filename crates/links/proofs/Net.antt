@@ -1,5 +1,5 @@
 -- The links that are written for a circuit show that circuit again: `net-cells`.
-use Prim.Native.Nat.{ℕ, _+_, _-_, _*_, _/_, _%_, _≤_, _<_, min}
+use Prim.Native.Nat.{ℕ, zero, suc, _+_, _-_, _*_, _/_, _%_, _≤_, _<_, min}
 use mathlib.Core.Path.{_≡_, refl, sym, ap, ap₂, _∙_}
 use mathlib.Core.Bool.{Bool, true, false, true≢false, _&&_}
 use mathlib.Core.List.{List, [], _∷_, map}
@@ -14,17 +14,17 @@ use Rattle.model.specs.declared.Value.the-variants.{Nothing}
 use Rattle.model.specs.Base.{if_then_else_, keep, all, joined, both, from, starts}
 use Rattle.model.specs.Value.{value-of, kind-of, content-of, bit}
 use Rattle.model.specs.Kinds.{value, fires, kind-at, time-source, buffering, receiving}
-use Rattle.model.specs.Circuit.{Call, Circuit, circuit, part, word-at, minus-one, source-of, reads, listed-call, calls-from, gates-such, kind-of-gate, input, output, gate-at-input, gate-at-output}
+use Rattle.model.specs.Circuit.{Call, Circuit, circuit, part, word-at, minus-one, source-of, reads, listed-call, calls-from, names, gates-such, kind-of-gate, input, output, gate-at-input, gate-at-output}
 use Rattle.model.specs.Questions.{within, question-1, question-3}
 use Rattle.model.proofs.Lists.{both-true, bit-most, both-length, from-length}
 use Rattle.model.proofs.Sizes.{all-within, sizes}
 use Rattle.model.proofs.Roomy.{few}
 use Rattle.model.proofs.Laid.{starts-length, part-most, Laid, laid, Full, filled}
 use Rattle.value.proofs.Laws.{made-again}
-use Rattle.links.specs.Links.{gates-at, sources-at, stored-kinds-at, stored-contents-at, inputs-at, outputs-at, rows-at, readers-at, calls-at, constant-kinds-at, constant-contents-at, packed, digit, word-of-gates, gates-of-word, source-cell, call-cell, gate-cells, row-cells, named, count-cells, cells, listed, call-of, cell, gate-digit, input-digit, row-digit, kind-in, net}
-use Rattle.links.proofs.Tables.{listed-is, both-at, both-most, map-at, base, table-sizes, Room, [·], _∷·_, table-read, digit-0, digit-1, Small, gate-cells-length, Four, four, rows-read, starts-small, counts-small, firsts-small, by-owner, bit-read, word-read, shares, joined-map}
+use Rattle.links.specs.Links.{gates-at, sources-at, stored-kinds-at, stored-contents-at, inputs-at, outputs-at, rows-at, readers-at, calls-at, constant-kinds-at, constant-contents-at, packed, digit, paired, kind-size, input-size, word-of-gates, gates-of-word, source-cell, call-cell, gate-cells, row-cells, named, count-cells, cells, listed, call-of, cell, gate-digit, gate-kind, gate-body, gate-first, gate-entry, input-digit, row-digit, kind-in, net}
+use Rattle.links.proofs.Tables.{listed-is, both-at, both-most, map-at, base, table-sizes, Room, [·], _∷·_, table-read, digit-0, digit-1, Under, Small, paired-at, gate-cells-length, Four, four, rows-read, starts-under, counts-under, firsts-under, by-owner, bit-read, word-read, shares, joined-map}
 
--- ---- what makes a circuit come back: no table is overfull, and each digit is below 65,536
+-- ---- what makes a circuit come back: no table is overfull, and each number fits its digit, or its part of one
 
 -- each place belongs to a part, of which it is the element that its distance from the part's first place tells
 abbrev Placed : {A : Type 0} → (ℕ → List A) → A → List ℕ → List ℕ → List ℕ → List A → Type 0
@@ -39,9 +39,11 @@ pub record Fitting (c : Circuit) : Type 0 where
   pub names : length (named (c .constants)) ≤ 64
   pub inputs : length (c .pins) ≤ 640
   pub outputs : length (c .outputs) ≤ 576
-  pub kinds : Small (c .kinds)
+  pub kinds : Under 256 (c .kinds)
   pub ranks : Small (c .ranks)
-  pub first-inputs : Small (c .first-input)
+  pub bodies : Under 256 (c .bodies)
+  pub entries : Under 64 (c .entries)
+  pub first-inputs : Under 1024 (c .first-input)
   pub first-outputs : Small (c .first-output)
   pub pins : Placed (λ k. kind-at k .ins) value (c .kinds) (c .gate-of-input) (c .first-input) (c .pins)
   pub outs : Placed (λ k. kind-at k .outs) fires (c .kinds) (c .gate-of-output) (c .first-output) (c .outputs)
@@ -76,11 +78,18 @@ module _ (c : Circuit) (L : Laid c) (F : Full c) (T : Fitting c) where
   call-counts : List ℕ
   call-counts = map (λ k. length k) (c .calls)
 
+  -- the digits that two numbers of each gate share
+  kinds-and-bodies : List ℕ
+  kinds-and-bodies = both (paired kind-size) (c .kinds) (c .bodies)
+
+  inputs-and-entries : List ℕ
+  inputs-and-entries = both (paired input-size) (c .first-input) (c .entries)
+
   -- what is written into each table
   tables : List (List ℕ)
   tables =
       count-cells c
-      ∷ gate-cells (c .kinds) (c .ranks) (c .first-input) (c .first-output)
+      ∷ gate-cells kinds-and-bodies (c .ranks) inputs-and-entries (c .first-output)
       ∷ map source-cell (c .sources)
       ∷ map kind-of (c .stored)
       ∷ map content-of (c .stored)
@@ -117,8 +126,22 @@ module _ (c : Circuit) (L : Laid c) (F : Full c) (T : Fitting c) where
   inputs-length : length (both (λ g w. packed g (bit w) 0 0) (c .gate-of-input) (c .watched)) ≡ length (c .pins)
   inputs-length = both-length (λ g w. packed g (bit w) 0 0) (c .gate-of-input) (c .watched) (L .gates-of-inputs ∙ sym (F .watched)) ∙ L .gates-of-inputs
 
-  gates-length : length (gate-cells (c .kinds) (c .ranks) (c .first-input) (c .first-output)) ≡ length (c .kinds)
-  gates-length = gate-cells-length (c .kinds) (c .ranks) (c .first-input) (c .first-output) (F .ranks) (L .first-inputs) (L .first-outputs)
+  firsts-alike : length (c .entries) ≡ length (c .first-input)
+  firsts-alike = F .entries ∙ sym (L .first-inputs)
+
+  bodies-length : length kinds-and-bodies ≡ length (c .kinds)
+  unfolding kinds-and-bodies
+  bodies-length = both-length (paired kind-size) (c .kinds) (c .bodies) (sym (F .bodies))
+
+  entries-length : length inputs-and-entries ≡ length (c .kinds)
+  unfolding inputs-and-entries
+  entries-length = both-length (paired input-size) (c .first-input) (c .entries) (sym firsts-alike) ∙ L .first-inputs
+
+  gates-length : length (gate-cells kinds-and-bodies (c .ranks) inputs-and-entries (c .first-output)) ≡ length (c .kinds)
+  gates-length =
+      gate-cells-length kinds-and-bodies (c .ranks) inputs-and-entries (c .first-output) (F .ranks ∙ sym bodies-length) (entries-length ∙ sym bodies-length)
+      (L .first-outputs ∙ sym bodies-length)
+      ∙ bodies-length
 
   few-counts : length (count-cells c) ≤ 16
   unfolding count-cells
@@ -143,7 +166,7 @@ module _ (c : Circuit) (L : Laid c) (F : Full c) (T : Fitting c) where
 
   -- cell i of table t
   known : (t i : ℕ) → i < getD table-sizes t 0 → cell (cells c) (base table-sizes t + i) ≡ getD (getD tables t []) i 0
-  unfolding cells table-sizes tables both
+  unfolding cells table-sizes tables both kinds-and-bodies inputs-and-entries
   known t i h = table-read room t i h
 
   -- the counts
@@ -171,30 +194,63 @@ module _ (c : Circuit) (L : Laid c) (F : Full c) (T : Fitting c) where
   word-back n gs h e b = ap gates-of-word (sym (ap (cell (cells c)) (zero-add n)) ∙ known 0 n h ∙ e) ∙ b
 
   -- the gates
-  gate-known : (g : ℕ) → g < length (c .kinds) → cell (cells c) (gates-at + g) ≡ getD (gate-cells (c .kinds) (c .ranks) (c .first-input) (c .first-output)) g 0
+  gate-known : (g : ℕ) → g < length kinds-and-bodies → cell (cells c) (gates-at + g) ≡ getD (gate-cells kinds-and-bodies (c .ranks) inputs-and-entries (c .first-output)) g 0
   unfolding table-sizes tables
-  gate-known g h = known 1 g (omega (arith, T .gates))
+  gate-known g h = known 1 g (omega (arith, T .gates, bodies-length))
 
-  gates-back : Four (λ g. cell (cells c) (gates-at + g)) (c .kinds) (c .ranks) (c .first-input) (c .first-output)
+  body-at : (g : ℕ) → getD kinds-and-bodies g 0 ≡ paired kind-size (getD (c .kinds) g 0) (getD (c .bodies) g 0)
+  unfolding kinds-and-bodies
+  body-at g = paired-at kind-size (c .kinds) (c .bodies) g (F .bodies)
+
+  entry-at : (g : ℕ) → getD inputs-and-entries g 0 ≡ paired input-size (getD (c .first-input) g 0) (getD (c .entries) g 0)
+  unfolding inputs-and-entries
+  entry-at g = paired-at input-size (c .first-input) (c .entries) g firsts-alike
+
+  bodies-fit : Small kinds-and-bodies
+  unfolding paired
+  bodies-fit g = omega (arith, body-at g, T .kinds g, T .bodies g)
+
+  entries-fit : Small inputs-and-entries
+  unfolding paired
+  entries-fit g = omega (arith, entry-at g, T .first-inputs g, T .entries g)
+
+  gates-back : Four (λ g. cell (cells c) (gates-at + g)) kinds-and-bodies (c .ranks) inputs-and-entries (c .first-output)
   gates-back =
-      four (c .kinds) (c .ranks) (c .first-input) (c .first-output) (F .ranks) (L .first-inputs) (L .first-outputs) (λ g. cell (cells c) (gates-at + g)) gate-known
-      (T .kinds) (T .ranks) (T .first-inputs) (T .first-outputs)
+      four kinds-and-bodies (c .ranks) inputs-and-entries (c .first-output) (F .ranks ∙ sym bodies-length) (entries-length ∙ sym bodies-length)
+      (L .first-outputs ∙ sym bodies-length) (λ g. cell (cells c) (gates-at + g)) gate-known bodies-fit (T .ranks) entries-fit (T .first-outputs)
 
-  kinds-back : listed (min (cell (cells c) 0) 64) (gate-digit (cells c) 0) ≡ c .kinds
-  unfolding gate-digit
-  kinds-back = listed-is 0 _ _ (c .kinds) gate-count (gates-back .first)
+  -- of each gate
+  module _ (g : ℕ) (h : g < length (c .kinds)) where
+    in-cells : g < length kinds-and-bodies
+    in-cells = omega (arith, bodies-length)
 
-  ranks-back : listed (min (cell (cells c) 0) 64) (gate-digit (cells c) 1) ≡ c .ranks
-  unfolding gate-digit
-  ranks-back = listed-is 0 _ _ (c .ranks) (gate-count ∙ sym (F .ranks)) (λ g h. gates-back .second g (omega (arith, F .ranks)))
+    kind-back : gate-kind (cells c) g ≡ getD (c .kinds) g 0
+    unfolding gate-kind gate-digit paired
+    kind-back = omega (arith, gates-back .first g in-cells, body-at g, T .kinds g)
 
-  first-input-back : listed (min (cell (cells c) 0) 64) (gate-digit (cells c) 2) ≡ c .first-input
-  unfolding gate-digit
-  first-input-back = listed-is 0 _ _ (c .first-input) (gate-count ∙ sym (L .first-inputs)) (λ g h. gates-back .third g (omega (arith, L .first-inputs)))
+    body-back : gate-body (cells c) g ≡ getD (c .bodies) g 0
+    unfolding gate-body gate-digit paired
+    body-back = omega (arith, gates-back .first g in-cells, body-at g, T .kinds g)
 
-  first-output-back : listed (min (cell (cells c) 0) 64) (gate-digit (cells c) 3) ≡ c .first-output
-  unfolding gate-digit
-  first-output-back = listed-is 0 _ _ (c .first-output) (gate-count ∙ sym (L .first-outputs)) (λ g h. gates-back .fourth g (omega (arith, L .first-outputs)))
+    first-back : gate-first (cells c) g ≡ getD (c .first-input) g 0
+    unfolding gate-first gate-digit paired
+    first-back = omega (arith, gates-back .third g in-cells, entry-at g, T .first-inputs g)
+
+    entry-back : gate-entry (cells c) g ≡ getD (c .entries) g 0
+    unfolding gate-entry gate-digit paired
+    entry-back = omega (arith, gates-back .third g in-cells, entry-at g, T .first-inputs g)
+
+    rank-back : gate-digit (cells c) 1 g ≡ getD (c .ranks) g 0
+    unfolding gate-digit
+    rank-back = gates-back .second g in-cells
+
+    output-back : gate-digit (cells c) 3 g ≡ getD (c .first-output) g 0
+    unfolding gate-digit
+    output-back = gates-back .fourth g in-cells
+
+  -- of all
+  gates-listed : (f : ℕ → ℕ) (xs : List ℕ) → length xs ≡ length (c .kinds) → ((g : ℕ) → g < length (c .kinds) → f g ≡ getD xs g 0) → listed (min (cell (cells c) 0) 64) f ≡ xs
+  gates-listed f xs e h = listed-is 0 f _ xs (gate-count ∙ sym e) (λ g k. h g (omega arith))
 
   -- the inputs
   input-known : (i : ℕ) → i < length (c .pins) → cell (cells c) (inputs-at + i) ≡ packed (getD (c .gate-of-input) i 0) (bit (getD (c .watched) i false)) 0 0
@@ -227,15 +283,15 @@ module _ (c : Circuit) (L : Laid c) (F : Full c) (T : Fitting c) where
 
   pins-back :
       listed (min (cell (cells c) 2) 640)
-      (λ i. getD (kind-in (cells c) (input-digit (cells c) 0 i) .ins) (i - gate-digit (cells c) 2 (input-digit (cells c) 0 i)) value)
+      (λ i. getD (kind-in (cells c) (input-digit (cells c) 0 i) .ins) (i - gate-first (cells c) (input-digit (cells c) 0 i)) value)
       ≡ c .pins
-  unfolding kind-in gate-digit
+  unfolding kind-in
   pins-back =
       listed-is value _ _ (c .pins) input-count
       (λ i h.
       let p = T .pins i h in
-      ap (λ g. getD (kind-in (cells c) g .ins) (i - gate-digit (cells c) 2 g) value) (input-gate i h)
-      ∙ ap₂ (λ k n. getD (kind-at k .ins) (i - n) value) (gates-back .first _ (p .0)) (gates-back .third _ (p .0))
+      ap (λ g. getD (kind-in (cells c) g .ins) (i - gate-first (cells c) g) value) (input-gate i h)
+      ∙ ap₂ (λ k n. getD (kind-at k .ins) (i - n) value) (kind-back _ (p .0)) (first-back _ (p .0))
       ∙ p .1)
 
   sources-back : listed (min (cell (cells c) 2) 640) (λ i. source-of (cell (cells c) (sources-at + i))) ≡ c .sources
@@ -281,13 +337,13 @@ module _ (c : Circuit) (L : Laid c) (F : Full c) (T : Fitting c) where
       listed (min (cell (cells c) 3) 576)
       (λ o. getD (kind-in (cells c) (cell (cells c) (outputs-at + o)) .outs) (o - gate-digit (cells c) 3 (cell (cells c) (outputs-at + o))) fires)
       ≡ c .outputs
-  unfolding kind-in gate-digit
+  unfolding kind-in
   outputs-back =
       listed-is fires _ _ (c .outputs) output-count
       (λ o h.
       let p = T .outs o h in
       ap (λ g. getD (kind-in (cells c) g .outs) (o - gate-digit (cells c) 3 g) fires) (output-gate o h)
-      ∙ ap₂ (λ k n. getD (kind-at k .outs) (o - n) fires) (gates-back .first _ (p .0)) (gates-back .fourth _ (p .0))
+      ∙ ap₂ (λ k n. getD (kind-at k .outs) (o - n) fires) (kind-back _ (p .0)) (output-back _ (p .0))
       ∙ p .1)
 
   row-known :
@@ -303,7 +359,7 @@ module _ (c : Circuit) (L : Laid c) (F : Full c) (T : Fitting c) where
       let k : length (joined (c .calls)) < 65536 = omega (arith, T .calls) in
       four (starts 0 reader-counts) reader-counts (starts 0 call-counts) call-counts (reader-counts-length ∙ sym reader-starts-length)
       (call-starts-length ∙ sym reader-starts-length) (call-counts-length ∙ sym reader-starts-length) (λ o. cell (cells c) (rows-at + o)) row-known
-      (starts-small (c .readers) r) (counts-small (c .readers) r) (starts-small (c .calls) k) (counts-small (c .calls) k)
+      (starts-under 65536 (c .readers) r) (counts-under 65536 (c .readers) r) (starts-under 65536 (c .calls) k) (counts-under 65536 (c .calls) k)
 
   readers-back :
       listed (min (cell (cells c) 3) 576)
@@ -332,10 +388,12 @@ module _ (c : Circuit) (L : Laid c) (F : Full c) (T : Fitting c) where
       λ j.
       record {
         constants = constants-back j;
-        kinds = kinds-back j;
-        ranks = ranks-back j;
-        first-input = first-input-back j;
-        first-output = first-output-back j;
+        kinds = gates-listed (gate-kind (cells c)) (c .kinds) refl kind-back j;
+        ranks = gates-listed (gate-digit (cells c) 1) (c .ranks) (F .ranks) rank-back j;
+        bodies = gates-listed (gate-body (cells c)) (c .bodies) (F .bodies) body-back j;
+        entries = gates-listed (gate-entry (cells c)) (c .entries) (F .entries) entry-back j;
+        first-input = gates-listed (gate-first (cells c)) (c .first-input) (L .first-inputs) first-back j;
+        first-output = gates-listed (gate-digit (cells c) 3) (c .first-output) (L .first-outputs) output-back j;
         pins = pins-back j;
         gate-of-input = gate-of-input-back j;
         sources = sources-back j;
@@ -371,6 +429,22 @@ reads-one ss i o p = go (getD ss i none)
     go : (s : Option ℕ) → (elim s [ none ↦ false | some q ↦ eqb o q ]) ≡ true → (elim s [ none ↦ false | some q ↦ eqb p q ]) ≡ true → o ≡ p
     go none h k = absurd (true≢false (sym h))
     go (some q) h k = eqb-true o q h ∙ sym (eqb-true p q k)
+
+-- what is below n wherever it is worked out
+under-map : (n : ℕ) (f : ℕ → ℕ) → 0 < n → ((x : ℕ) → f x < n) → (xs : List ℕ) → Under n (map f xs)
+under-map n f z h [] i = z
+under-map n f z h (x ∷ xs) zero = h x
+under-map n f z h (x ∷ xs) (suc i) = under-map n f z h xs i
+
+-- the first of n numbers from a on that passes a test
+first-kept : (m : ℕ) (p : ℕ → Bool) (a n : ℕ) → 0 < m → a + n ≤ m → getD (keep p (from a n)) 0 0 < m
+unfolding keep from if_then_else_
+first-kept m p a zero z l = z
+first-kept m p a (suc n) z l = go (p a) (first-kept m p (suc a) n z (omega arith))
+  where
+    go : (b : Bool) → getD (keep p (from (suc a) n)) 0 0 < m → getD (if b then a ∷ keep p (from (suc a) n) else keep p (from (suc a) n)) 0 0 < m
+    go true h = omega arith
+    go false h = h
 
 module _ (bytes ws : List ℕ) (q : question-1 bytes ws ≡ true) (r : question-3 ws (circuit ws) ≡ true) where
   few-gates : length (circuit ws .kinds) ≤ 64
@@ -416,14 +490,23 @@ module _ (bytes ws : List ℕ) (q : question-1 bytes ws ≡ true) (r : question-
         sizes bytes ws q .calls,
       )
 
+  -- an entry is a gate
+  small-entries : Under 64 (circuit ws .entries)
+  unfolding circuit word-at
+  small-entries =
+      let G = word-at ws 0 in
+      let named-by : ℕ → ℕ → Bool = names (circuit ws .kinds) (circuit ws .stored) (circuit ws .first-input) in
+      under-map 64 (λ g. getD (keep (named-by g) (from 0 G)) 0 0) (omega arith)
+      (λ g. first-kept 64 (named-by g) 0 G (omega arith) (omega (arith, sizes bytes ws q .gates))) (from 0 G)
+
   fitting : Fitting (circuit ws)
   unfolding circuit word-at question-3 gates-such named gate-at-input gate-at-output input output kind-of-gate
   fitting =
       let ks = circuit ws .kinds in
       let K = word-at ws 1 in
       let small-kinds = all (within 1 28) ks in
-      let small-ranks = all (within 0 65535) (circuit ws .ranks) in
-      let h = both-true small-kinds small-ranks (both-true (small-kinds && small-ranks) _ r .0) in
+      let small-bodies = all (within 0 0) (circuit ws .bodies) in
+      let h = both-true small-kinds small-bodies (both-true (small-kinds && small-bodies) _ r .0) in
       record {
         gates = few-gates;
         constants = refl;
@@ -431,9 +514,11 @@ module _ (bytes ws : List ℕ) (q : question-1 bytes ws ≡ true) (r : question-
         inputs = few-inputs;
         outputs = few-outputs;
         kinds = λ i. omega (arith, all-within 1 28 ks (h .0) i);
-        ranks = λ i. omega (arith, all-within 0 65535 (circuit ws .ranks) (h .1) i);
-        first-inputs = firsts-small (λ k. kind-at k .ins) ks (omega (arith, few-inputs));
-        first-outputs = firsts-small (λ k. kind-at k .outs) ks (omega (arith, few-outputs));
+        ranks = under-map 65536 (λ w. w % 65536) (omega arith) (λ w. omega arith) (part ws (4 + 2 * K + word-at ws 0) (word-at ws 0));
+        bodies = λ i. omega (arith, all-within 0 0 (circuit ws .bodies) (h .1) i);
+        entries = small-entries;
+        first-inputs = firsts-under (λ k. kind-at k .ins) 1024 ks (omega (arith, few-inputs));
+        first-outputs = firsts-under (λ k. kind-at k .outs) 65536 ks (omega (arith, few-outputs));
         pins = by-owner (λ k. kind-at k .ins) value ks (circuit ws .gate-of-input) (circuit ws .first-input) refl (laid ws .input-of);
         outs = by-owner (λ k. kind-at k .outs) fires ks (circuit ws .gate-of-output) (circuit ws .first-output) refl (laid ws .output-of);
         sources = sources-again;

@@ -10,13 +10,13 @@ use lib.Dec.{eqb}
 use lib.ListN.{length, getD, length-map, List·getD-eq-default}
 use borrow.Author.Tests.{eq-eqb, ne-eqb}
 use Rattle.model.specs.Base.{if_then_else_, each, from}
-use Rattle.model.specs.Circuit.{minus-one, source-of, kind-of-gate, rank-of-gate, input, output, gate-at-input, source, gate-at-output, watching, stored-in, setting, readers-of, calls-of, Call}
+use Rattle.model.specs.Circuit.{minus-one, source-of, kind-of-gate, rank-of-gate, entry-of-loop, input, output, gate-at-input, source, gate-at-output, watching, stored-in, setting, readers-of, calls-of, Call}
 use Rattle.model.specs.declared.Value.{Value}
 use Rattle.model.specs.declared.Value.the-variants.{Nothing}
 use Rattle.model.specs.Value.{value-of}
 use Rattle.model.specs.Kinds.{In, value, Out, fires, kind-at}
 use Rattle.model.proofs.Lists.{map-from, from-length}
-use Rattle.links.specs.Links.{gates-at, sources-at, stored-kinds-at, stored-contents-at, inputs-at, outputs-at, rows-at, readers-at, calls-at, constant-kinds-at, constant-contents-at, entries, digit, listed, cell, gate-digit, input-digit, row-digit, kind-in, net, row-at, first-reader, reader-count, reader-at, first-call, call-count, target, call-of, gates-of-word, output-read}
+use Rattle.links.specs.Links.{gates-at, sources-at, stored-kinds-at, stored-contents-at, inputs-at, outputs-at, rows-at, readers-at, calls-at, constant-kinds-at, constant-contents-at, entries, digit, listed, cell, gate-digit, gate-kind as kind-digit, gate-first, gate-entry, input-digit, row-digit, kind-in, net, row-at, first-reader, reader-count, reader-at, first-call, call-count, target, call-of, gates-of-word, output-read}
 use Rattle.links.specs.declared.Read.{Read}
 use Rattle.links.specs.declared.Read.the-variants.{Output, Nothing as NoOutput}
 
@@ -83,17 +83,21 @@ unfolding digit
 first-digit x = omega arith
 
 module _ (l : List ℕ) (g x : ℕ) (e : x ≡ getD (entries l 0 64 gates-at) g 0) where
-  pub gate-kind : x % 65536 ≡ kind-of-gate (net l) g
-  unfolding kind-of-gate net gate-digit digit
-  gate-kind = first-digit x ∙ listed-over (digit 0) _ _ g 0 x e
+  pub gate-kind : x % 65536 % 256 ≡ kind-of-gate (net l) g
+  unfolding kind-of-gate net kind-digit gate-digit digit
+  gate-kind = ap (λ d. d % 256) (first-digit x) ∙ listed-over (λ y. digit 0 y % 256) _ _ g 0 x e
 
   pub gate-rank : x / 65536 % 65536 ≡ rank-of-gate (net l) g
   unfolding rank-of-gate net gate-digit digit
   gate-rank = listed-over (digit 1) _ _ g 0 x e
 
-  pub gate-input : (p : ℕ) → p < 65536 → (x / 4294967296 % 65536 + p ≡ input (net l) g p) × (x / 4294967296 % 65536 + p < 131072)
-  unfolding input net gate-digit digit
-  gate-input p h = (ap (λ a. a + p) (listed-over (digit 2) _ _ g 0 x e), omega arith)
+  pub loop-entry : x / 4294967296 % 65536 / 1024 ≡ entry-of-loop (net l) g
+  unfolding entry-of-loop net gate-entry gate-digit digit
+  loop-entry = listed-over (λ y. digit 2 y / 1024) _ _ g 0 x e
+
+  pub gate-input : (p : ℕ) → p < 65536 → (x / 4294967296 % 65536 % 1024 + p ≡ input (net l) g p) × (x / 4294967296 % 65536 % 1024 + p < 131072)
+  unfolding input net gate-first gate-digit digit
+  gate-input p h = (ap (λ a. a + p) (listed-over (λ y. digit 2 y % 1024) _ _ g 0 x e), omega arith)
 
   pub gate-output : (p : ℕ) → p < 65536 → (x / 281474976710656 % 65536 + p ≡ output (net l) g p) × (x / 281474976710656 % 65536 + p < 131072)
   unfolding output net gate-digit digit
@@ -212,16 +216,16 @@ module _ (l : List ℕ) (i n : ℕ) where
 
   pub pin-some :
       (x e p : ℕ) (r : In) → (n ≡ length (net l .pins)) × (n ≤ 640) → i < n →
-      x ≡ getD (entries l 2 640 inputs-at) i 0 → e ≡ cell l (gates-at + x % 65536) → p ≡ i - e / 4294967296 % 65536 →
-      r ≡ getD (kind-at (e % 65536) .ins) p value → r ≡ getD (net l .pins) i value
-  unfolding net kind-in gate-digit input-digit
+      x ≡ getD (entries l 2 640 inputs-at) i 0 → e ≡ cell l (gates-at + x % 65536) → p ≡ i - e / 4294967296 % 65536 % 1024 →
+      r ≡ getD (kind-at (e % 65536 % 256) .ins) p value → r ≡ getD (net l .pins) i value
+  unfolding net kind-in kind-digit gate-first gate-digit input-digit
   pin-some x e p r en h ex ee ep er =
       let m : n ≡ min (cell l 2) 640 = en .0 ∙ listed-length _ _ in
       let k : i < min (cell l 2) 640 = omega arith in
       let q : x ≡ cell l (inputs-at + i) = ex ∙ listed-in (min (cell l 2) 640) (λ j. cell l (inputs-at + j)) i 0 k in
       let g : e ≡ cell l (gates-at + digit 0 (cell l (inputs-at + i))) = ee ∙ ap (λ y. cell l (gates-at + y)) (first-digit x ∙ ap (digit 0) q) in
       er
-      ∙ ap₂ (λ a b. getD (kind-at a .ins) b value) (first-digit e ∙ ap (digit 0) g) (ep ∙ ap (λ y. i - y) (digit-two e ∙ ap (digit 2) g))
+      ∙ ap₂ (λ a b. getD (kind-at (a % 256) .ins) b value) (first-digit e ∙ ap (digit 0) g) (ep ∙ ap (λ y. i - y % 1024) (digit-two e ∙ ap (digit 2) g))
       ∙ sym (listed-in (min (cell l 2) 640) _ i value k)
 
   pub out-none : (n ≡ length (net l .outputs)) × (n ≤ 576) → n ≤ i → fires ≡ getD (net l .outputs) i fires
@@ -229,15 +233,15 @@ module _ (l : List ℕ) (i n : ℕ) where
 
   pub out-some :
       (x e p : ℕ) (r : Out) → (n ≡ length (net l .outputs)) × (n ≤ 576) → i < n → x ≡ gate-at-output (net l) i → e ≡ cell l (gates-at + x) →
-      p ≡ i - e / 281474976710656 % 65536 → r ≡ getD (kind-at (e % 65536) .outs) p fires → r ≡ getD (net l .outputs) i fires
-  unfolding net kind-in gate-digit gate-at-output
+      p ≡ i - e / 281474976710656 % 65536 → r ≡ getD (kind-at (e % 65536 % 256) .outs) p fires → r ≡ getD (net l .outputs) i fires
+  unfolding net kind-in kind-digit gate-digit gate-at-output
   out-some x e p r en h ex ee ep er =
       let m : n ≡ min (cell l 3) 576 = en .0 ∙ listed-length _ _ in
       let k : i < min (cell l 3) 576 = omega arith in
       let q : x ≡ cell l (outputs-at + i) = ex ∙ listed-in (min (cell l 3) 576) (λ j. cell l (outputs-at + j)) i 0 k in
       let g : e ≡ cell l (gates-at + cell l (outputs-at + i)) = ee ∙ ap (λ y. cell l (gates-at + y)) q in
       er
-      ∙ ap₂ (λ a b. getD (kind-at a .outs) b fires) (first-digit e ∙ ap (digit 0) g) (ep ∙ ap (λ y. i - y) (digit-three e ∙ ap (digit 3) g))
+      ∙ ap₂ (λ a b. getD (kind-at (a % 256) .outs) b fires) (first-digit e ∙ ap (digit 0) g) (ep ∙ ap (λ y. i - y) (digit-three e ∙ ap (digit 3) g))
       ∙ sym (listed-in (min (cell l 3) 576) _ i fires k)
 
 -- ---- readers and calls, row by row

@@ -3,7 +3,7 @@ use Prim.Native.Nat.{ℕ, zero, suc, _+_, _-_, _*_, _/_, _%_, _^_, _≤_, _<_}
 use mathlib.Core.Path.{_≡_, refl, sym, ap, ap₂, subst, _∙_}
 use mathlib.Core.Bool.{Bool, true, false}
 use mathlib.Core.List.{List, [], _∷_, _++_, map, map-map}
-use native.Mathlib.Nat.{zero-add, add-zero, pow-suc, pow-succ', one-mul, mul-add, mul-assoc, div-div-eq-div-mul, zero-div}
+use native.Mathlib.Nat.{zero-add, add-zero, mul-zero, pow-suc, pow-succ', one-mul, mul-add, mul-assoc, div-div-eq-div-mul, zero-div}
 use native.Mathlib.Omega.{arith}
 use lib.Dec.{eqb, ltb}
 use lib.ListN.{length, getD, replicate, length-append, length-replicate, length-map, List·getD-append}
@@ -13,7 +13,7 @@ use Rattle.model.specs.Base.{if_then_else_, keep, joined, both, from, sum, star
 use Rattle.model.specs.Value.{bit}
 use Rattle.model.proofs.Lists.{bit-most, all-same, both-length}
 use Rattle.model.proofs.Laid.{sum-lengths}
-use Rattle.links.specs.Links.{packed, digit, word-of-gates, gates-of-word, table-of, gate-cells, listed}
+use Rattle.links.specs.Links.{packed, digit, paired, word-of-gates, gates-of-word, table-of, gate-cells, listed}
 use Rattle.links.proofs.Reading.{listed-length, listed-in}
 
 -- ---- lists by their elements
@@ -107,9 +107,22 @@ module _ (a b c d : ℕ) (ha : a < 65536) (hb : b < 65536) (hc : c < 65536) (hd 
   unfolding digit packed
   digit-3 = omega arith
 
--- each number of the list is below 65,536
+-- each number of the list is below n
+abbrev pub Under : ℕ → List ℕ → Type 0
+Under n xs = (i : ℕ) → getD xs i 0 < n
+
+-- and below 65,536
 abbrev pub Small : List ℕ → Type 0
-Small xs = (i : ℕ) → getD xs i 0 < 65536
+Small xs = Under 65536 xs
+
+-- two lists of one length in one list
+pub paired-at : (n : ℕ) (xs ys : List ℕ) (i : ℕ) → length ys ≡ length xs → getD (both (paired n) xs ys) i 0 ≡ paired n (getD xs i 0) (getD ys i 0)
+unfolding both paired
+paired-at n [] [] i e = omega (arith, mul-zero n)
+paired-at n [] (y ∷ ys) i e = absurd (omega arith)
+paired-at n (x ∷ xs) [] i e = absurd (omega arith)
+paired-at n (x ∷ xs) (y ∷ ys) zero e = refl
+paired-at n (x ∷ xs) (y ∷ ys) (suc i) e = paired-at n xs ys i (omega arith)
 
 -- the digits of the cells f g are four lists
 pub record Four (f : ℕ → ℕ) (ks rs is os : List ℕ) : Type 0 where
@@ -222,18 +235,18 @@ member-most [] i = omega arith
 member-most (k ∷ ks) zero = omega arith
 member-most (k ∷ ks) (suc i) = omega (arith, member-most ks i)
 
-module _ {A : Type 0} (xs : List (List A)) (h : length (joined xs) < 65536) where
-  pub starts-small : Small (starts 0 (map (λ x. length x) xs))
-  starts-small i = omega (arith, starts-most 0 (map (λ x. length x) xs) i, sum-lengths xs)
+module _ {A : Type 0} (n : ℕ) (xs : List (List A)) (h : length (joined xs) < n) where
+  pub starts-under : Under n (starts 0 (map (λ x. length x) xs))
+  starts-under i = omega (arith, starts-most 0 (map (λ x. length x) xs) i, sum-lengths xs)
 
-  pub counts-small : Small (map (λ x. length x) xs)
-  counts-small i = omega (arith, member-most (map (λ x. length x) xs) i, sum-lengths xs)
+  pub counts-under : Under n (map (λ x. length x) xs)
+  counts-under i = omega (arith, member-most (map (λ x. length x) xs) i, sum-lengths xs)
 
 -- ---- rows that go by their kinds
 
 module _ {A : Type 0} (f : ℕ → List A) where
-  pub firsts-small : (ks : List ℕ) → length (joined (map f ks)) < 65536 → Small (starts 0 (map (λ k. length (f k)) ks))
-  firsts-small ks h i = subst (λ (ns : List ℕ). getD (starts 0 ns) i 0 < 65536) (map-map (λ x. length x) f ks) (starts-small (map f ks) h i)
+  pub firsts-under : (n : ℕ) (ks : List ℕ) → length (joined (map f ks)) < n → Under n (starts 0 (map (λ k. length (f k)) ks))
+  firsts-under n ks h i = subst (λ (ns : List ℕ). getD (starts 0 ns) i 0 < n) (map-map (λ x. length x) f ks) (starts-under n (map f ks) h i)
 
   row-exists : (xs : List (List A)) (o k : ℕ) → k < length (getD xs o []) → o < length xs
   row-exists [] o k h = absurd (omega arith)

@@ -31,7 +31,7 @@ most-constants = 64
 abbrev pub counts-at : ℕ
 counts-at = 0
 
--- 64 gates: kind, rank, first input, first output
+-- 64 gates: kind and body, rank, first input and entry, first output
 abbrev pub gates-at : ℕ
 gates-at = counts-at + 16
 
@@ -87,6 +87,18 @@ packed a b c d = a + 65536 * (b + 65536 * (c + 65536 * d))
 unfoldable pub digit : ℕ → ℕ → ℕ
 digit n x = x / 65536 ^ n % 65536
 
+-- A gate's kind and its body share a digit, kind + 256 × body,
+abbrev pub kind-size : ℕ
+kind-size = 256
+
+-- and so do its first input and its entry, first input + 1,024 × entry.
+abbrev pub input-size : ℕ
+input-size = 1024
+
+-- two numbers as one, of which the first is below n
+unfoldable pub paired : ℕ → ℕ → ℕ → ℕ
+paired n a b = a + n * b
+
 -- a word of gates: bit g is set where g is one of them
 unfoldable pub word-of-gates : List ℕ → ℕ
 word-of-gates [] = 0
@@ -111,7 +123,7 @@ source-cell (some o) = o
 unfoldable pub call-cell : Call → ℕ
 call-cell k = 2 * k .to + bit (k .remote)
 
--- the four numbers of each gate: kind, rank, first input, first output
+-- four numbers each, from four lists
 unfoldable pub gate-cells : List ℕ → List ℕ → List ℕ → List ℕ → List ℕ
 gate-cells ks rs is os = both (λ f p. f p) (both (λ f i. f i) (both packed ks rs) is) os
 
@@ -138,7 +150,8 @@ unfoldable pub cells : Circuit → List ℕ
 cells c =
     joined (
     table-of 16 (count-cells c)
-    ∷ table-of most-gates (gate-cells (c .kinds) (c .ranks) (c .first-input) (c .first-output))
+    ∷ table-of most-gates
+    (gate-cells (both (paired kind-size) (c .kinds) (c .bodies)) (c .ranks) (both (paired input-size) (c .first-input) (c .entries)) (c .first-output))
     ∷ table-of most-inputs (map source-cell (c .sources))
     ∷ table-of most-inputs (map kind-of (c .stored))
     ∷ table-of most-inputs (map content-of (c .stored))
@@ -174,6 +187,19 @@ module _ (l : List ℕ) where
   unfoldable pub gate-digit : ℕ → ℕ → ℕ
   gate-digit n g = digit n (cell (gates-at + g))
 
+  -- of gate g its kind, its body, its first input and its entry
+  unfoldable pub gate-kind : ℕ → ℕ
+  gate-kind g = gate-digit 0 g % kind-size
+
+  unfoldable pub gate-body : ℕ → ℕ
+  gate-body g = gate-digit 0 g / kind-size
+
+  unfoldable pub gate-first : ℕ → ℕ
+  gate-first g = gate-digit 2 g % input-size
+
+  unfoldable pub gate-entry : ℕ → ℕ
+  gate-entry g = gate-digit 2 g / input-size
+
   unfoldable pub input-digit : ℕ → ℕ → ℕ
   input-digit n i = digit n (cell (inputs-at + i))
 
@@ -182,7 +208,7 @@ module _ (l : List ℕ) where
 
   -- the kind of gate g, for any g
   unfoldable pub kind-in : ℕ → Kind
-  kind-in g = kind-at (gate-digit 0 g)
+  kind-in g = kind-at (gate-kind g)
 
   -- the circuit that the links show
   unfoldable pub net : Circuit
@@ -193,11 +219,13 @@ module _ (l : List ℕ) where
       let O = min (cell (counts-at + 3)) most-outputs in
       record {
         constants = Nothing ∷ listed K (λ k. value-of (cell (constant-kinds-at + k)) (cell (constant-contents-at + k)));
-        kinds = listed G (gate-digit 0);
+        kinds = listed G gate-kind;
         ranks = listed G (gate-digit 1);
-        first-input = listed G (gate-digit 2);
+        bodies = listed G gate-body;
+        entries = listed G gate-entry;
+        first-input = listed G gate-first;
         first-output = listed G (gate-digit 3);
-        pins = listed I (λ i. getD (kind-in (input-digit 0 i) .ins) (i - gate-digit 2 (input-digit 0 i)) value);
+        pins = listed I (λ i. getD (kind-in (input-digit 0 i) .ins) (i - gate-first (input-digit 0 i)) value);
         gate-of-input = listed I (input-digit 0);
         sources = listed I (λ i. source-of (cell (sources-at + i)));
         stored = listed I (λ i. value-of (cell (stored-kinds-at + i)) (cell (stored-contents-at + i)));
@@ -248,5 +276,5 @@ module _ (l : List ℕ) where
   target k = cell l (calls-at + k)
 
 unfoldable pub links-opened : ℕ
-unfolding packed digit word-of-gates gates-of-word table-of source-cell call-cell gate-cells row-cells named count-cells cells listed gate-digit input-digit row-digit kind-in net output-read row-at first-reader reader-count first-call call-count
+unfolding packed digit paired word-of-gates gates-of-word table-of source-cell call-cell gate-cells row-cells named count-cells cells listed gate-digit gate-kind gate-body gate-first gate-entry input-digit row-digit kind-in net output-read row-at first-reader reader-count first-call call-count
 links-opened = 0

@@ -69,3 +69,8 @@ pub const SECOND: usize = DIGIT;
 pub const THIRD: usize = SECOND * DIGIT;
 
 pub const FOURTH: usize = THIRD * DIGIT;
+
+// A gate's kind and its body share a digit, and so do its first input and its entry; bodies and entries begin here.
+pub const BODY: usize = 0x100;
+
+pub const ENTRY: usize = 0x400;

@@ -3,7 +3,7 @@ ghost use mathlib.Core.Path.{_≡_};
 ghost use Prim.Native.Nat.{_+_, _<_, _≤_, min};
 ghost use lib.ListN.{length, getD, drop};
 ghost use Rattle.words.specs.Slices.{before};
-ghost use Rattle.model.specs.Circuit.{kind-of-gate, rank-of-gate, input, output, gate-at-input, gate-at-output, watching, source, stored-in, setting, most-gates, most-inputs};
+ghost use Rattle.model.specs.Circuit.{kind-of-gate, rank-of-gate, entry-of-loop, input, output, gate-at-input, gate-at-output, watching, source, stored-in, setting, most-gates, most-inputs};
 ghost use Rattle.model.specs.declared.Value.the-variants.{Nothing};
 ghost use Rattle.model.specs.Kinds.{value, fires};
 ghost use Rattle.kinds.specs.Pins.{in-of, out-of};
@@ -135,7 +135,7 @@ pub fn kind_of_gate(links: &[usize], g: usize) -> u64
     requires { ⌜ Linked links ⌝ }
     ensures { λ r. ⌜ r ≡ kind-of-gate (net-of links) g ⌝ }
 {
-    (gate_entry(links, g) % DIGIT) as u64
+    (gate_entry(links, g) % DIGIT % BODY) as u64
 }
 
 // The rank of gate g, and 0 where there is none.
@@ -146,12 +146,20 @@ pub fn rank_of_gate(links: &[usize], g: usize) -> u64
     (gate_entry(links, g) / SECOND % DIGIT) as u64
 }
 
+// The entry of Loop g's body, and 0 where there is none.
+pub fn entry_of_loop(links: &[usize], g: usize) -> usize
+    requires { ⌜ Linked links ⌝ }
+    ensures { λ r. ⌜ r ≡ entry-of-loop (net-of links) g ⌝ }
+{
+    gate_entry(links, g) / THIRD % DIGIT / ENTRY
+}
+
 // Input p of gate g.
 pub fn input(links: &[usize], g: usize, p: usize) -> usize
     requires { ⌜ Linked links × Short p ⌝ }
     ensures { λ r. ⌜ (r ≡ input (net-of links) g p) × (r < 131072) ⌝ }
 {
-    gate_entry(links, g) / THIRD % DIGIT + p
+    gate_entry(links, g) / THIRD % DIGIT % ENTRY + p
 }
 
 // Output p of gate g.
@@ -182,8 +190,8 @@ pub fn pin_at(links: &[usize], i: usize) -> kinds::Pin
     }
     let g = input_entry(links, i) % DIGIT;
     let gate = cell(links, GATES, g);
-    let p = less(i, gate / THIRD % DIGIT);
-    kinds::pin_at((gate % DIGIT) as u64, p)
+    let p = less(i, gate / THIRD % DIGIT % ENTRY);
+    kinds::pin_at((gate % DIGIT % BODY) as u64, p)
 }
 
 // The gate that has input i, and 0 where there is none.
@@ -253,7 +261,7 @@ pub fn out_at(links: &[usize], o: usize) -> kinds::Out
     let g = gate_at_output(links, o);
     let gate = cell(links, GATES, g);
     let p = less(o, gate / FOURTH % DIGIT);
-    kinds::out_at((gate % DIGIT) as u64, p)
+    kinds::out_at((gate % DIGIT % BODY) as u64, p)
 }
 
 // The row of output o.

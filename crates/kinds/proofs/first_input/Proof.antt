@@ -16,7 +16,7 @@ entry = λ k. getD (k .ins) 0 value
 
 -- the keys of the arms, the last arm's first
 abbrev others : List (List ℕ)
-others = (11 ∷ 13 ∷ []) ∷ (12 ∷ []) ∷ (5 ∷ []) ∷ (2 ∷ []) ∷ []
+others = (30 ∷ []) ∷ (29 ∷ 31 ∷ []) ∷ (11 ∷ 13 ∷ []) ∷ (12 ∷ []) ∷ (5 ∷ []) ∷ (2 ∷ []) ∷ []
 
 returns : tie.Need-returns
 unfolding kinds-opened base-opened in-of
@@ -31,8 +31,8 @@ unfolding kinds-opened base-opened in-of
 returns-3 c = keyed entry _ (11 ∷ 13 ∷ []) _ (c .match .keys4) refl
 
 returns-4 : tie.Need-returns-4
-unfolding kinds-opened base-opened in-of beside
-returns-4 c = ranged entry _ others _ _ _ (c .before .before .before .before .match .rest) (c .before .if3 .left) (c .if4 .taken) refl
+unfolding kinds-opened base-opened in-of
+returns-4 c = keyed entry _ (30 ∷ []) _ (c .match .keys6) refl
 
 returns-5 : tie.Need-returns-5
 unfolding kinds-opened base-opened in-of beside
@@ -52,11 +52,19 @@ returns-8 c = last entry _ others _ _ (c .before .before .before .before .before
 
 returns-9 : tie.Need-returns-9
 unfolding kinds-opened base-opened in-of
-returns-9 c = keyed entry _ (12 ∷ []) _ (c .match .keys3) refl
+returns-9 c = keyed entry _ (29 ∷ 31 ∷ []) _ (c .match .keys5) refl
 
 returns-10 : tie.Need-returns-10
 unfolding kinds-opened base-opened in-of beside
-returns-10 c = ranged entry _ others _ _ _ (c .before .before .match .rest) (c .before .if1 .left) (c .if2 .taken) refl
+returns-10 c = ranged entry _ others _ _ _ (c .before .before .before .before .match .rest) (c .before .if3 .left) (c .if4 .taken) refl
+
+returns-11 : tie.Need-returns-11
+unfolding kinds-opened base-opened in-of
+returns-11 c = keyed entry _ (12 ∷ []) _ (c .match .keys3) refl
+
+returns-12 : tie.Need-returns-12
+unfolding kinds-opened base-opened in-of beside
+returns-12 c = ranged entry _ others _ _ _ (c .before .before .match .rest) (c .before .if1 .left) (c .if2 .taken) refl
 
 pub first-input-spec : {M : Type 1} → statement M
 first-input-spec =
@@ -71,4 +79,6 @@ first-input-spec =
     returns-7
     returns-8
     returns-9
-    returns-10)
+    returns-10
+    returns-11
+    returns-12)

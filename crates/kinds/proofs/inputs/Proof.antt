@@ -15,7 +15,7 @@ entry = λ k. length (k .ins)
 
 -- the keys of the arms, the last arm's first
 abbrev others : List (List ℕ)
-others = (15 ∷ []) ∷ (1 ∷ 19 ∷ 23 ∷ []) ∷ (18 ∷ 20 ∷ []) ∷ (2 ∷ []) ∷ []
+others = (15 ∷ 29 ∷ []) ∷ (1 ∷ 19 ∷ 23 ∷ []) ∷ (18 ∷ 20 ∷ []) ∷ (2 ∷ []) ∷ []
 
 returns : tie.Need-returns
 unfolding kinds-opened base-opened
@@ -23,47 +23,55 @@ returns c = keyed entry _ (18 ∷ 20 ∷ []) _ (c .match .keys2) refl
 
 returns-2 : tie.Need-returns-2
 unfolding kinds-opened base-opened
-returns-2 c = keyed entry _ (15 ∷ []) _ (c .match .keys4) refl
+returns-2 c = keyed entry _ (15 ∷ 29 ∷ []) _ (c .match .keys4) refl
 
 returns-3 : tie.Need-returns-3
 unfolding kinds-opened base-opened beside
-returns-3 c = ranged entry _ others _ _ _ (c .before .before .before .before .match .rest) (c .before .if3 .left) (c .if4 .taken) refl
+returns-3 c = ranged entry _ others _ _ _ (c .before .before .before .before .before .match .rest) (c .before .if4 .left) (c .if5 .taken) refl
 
 returns-4 : tie.Need-returns-4
 unfolding kinds-opened base-opened beside
-returns-4 c = ranged entry _ others _ _ _ (c .before .before .before .before .before .before .match .rest) (c .before .if5 .left) (c .if6 .taken) refl
+returns-4 c = ranged entry _ others _ _ _ (c .before .before .match .rest) (c .before .if1 .left) (c .if6 .taken) refl
 
 returns-5 : tie.Need-returns-5
 unfolding kinds-opened base-opened beside
-returns-5 c = ranged entry _ others _ _ _ (c .before .match .rest) zero-le (c .if1 .taken) refl
+returns-5 c = ranged entry _ others _ _ _ (c .before .before .match .rest) zero-le (c .if2 .taken) refl
 
 returns-6 : tie.Need-returns-6
 unfolding kinds-opened base-opened beside
-returns-6 c = last entry _ others _ _ (c .before .before .before .before .before .before .before .match .rest) (c .if7 .left) refl refl
+returns-6 c = ranged entry _ others _ _ _ (c .before .before .before .before .match .rest) (c .before .if7 .left) (c .if8 .taken) refl
 
 returns-7 : tie.Need-returns-7
-unfolding kinds-opened base-opened
-returns-7 c = keyed entry _ (2 ∷ []) _ (c .match .keys1) refl
+unfolding kinds-opened base-opened beside
+returns-7 c = last entry _ others _ _ (c .before .before .before .before .before .match .rest) (c .if9 .left) refl refl
 
 returns-8 : tie.Need-returns-8
-unfolding kinds-opened base-opened beside
-returns-8 c = ranged entry _ others _ _ _ (c .before .before .match .rest) (c .before .if1 .left) (c .if2 .taken) refl
+unfolding kinds-opened base-opened
+returns-8 c = keyed entry _ (2 ∷ []) _ (c .match .keys1) refl
 
 returns-9 : tie.Need-returns-9
 unfolding kinds-opened base-opened beside
-returns-9 c = ranged entry _ others _ _ _ (c .before .before .before .before .before .match .rest) (c .before .if4 .left) (c .if5 .taken) refl
+returns-9 c = ranged entry _ others _ _ _ (c .before .before .before .match .rest) (c .before .if2 .left) (c .if3 .taken) refl
 
 returns-10 : tie.Need-returns-10
 unfolding kinds-opened base-opened beside
-returns-10 c = ranged entry _ others _ _ _ (c .before .before .before .before .before .before .before .match .rest) (c .before .if6 .left) (c .if7 .taken) refl
+returns-10 c = ranged entry _ others _ _ _ (c .before .before .before .before .before .match .rest) (c .if5 .left) (c .before .before .before .before .if1 .taken) refl
 
 returns-11 : tie.Need-returns-11
-unfolding kinds-opened base-opened
-returns-11 c = keyed entry _ (1 ∷ 19 ∷ 23 ∷ []) _ (c .match .keys3) refl
+unfolding kinds-opened base-opened beside
+returns-11 c = ranged entry _ others _ _ _ (c .before .before .before .match .rest) (c .before .if6 .left) (c .if7 .taken) refl
 
 returns-12 : tie.Need-returns-12
 unfolding kinds-opened base-opened beside
-returns-12 c = ranged entry _ others _ _ _ (c .before .before .before .match .rest) (c .before .if2 .left) (c .if3 .taken) refl
+returns-12 c = ranged entry _ others _ _ _ (c .before .before .before .before .before .match .rest) (c .before .if8 .left) (c .if9 .taken) refl
+
+returns-13 : tie.Need-returns-13
+unfolding kinds-opened base-opened
+returns-13 c = keyed entry _ (1 ∷ 19 ∷ 23 ∷ []) _ (c .match .keys3) refl
+
+returns-14 : tie.Need-returns-14
+unfolding kinds-opened base-opened beside
+returns-14 c = ranged entry _ others _ _ _ (c .before .before .before .before .match .rest) (c .before .if3 .left) (c .if4 .taken) refl
 
 pub inputs-spec : {M : Type 1} → statement M
 inputs-spec =
@@ -80,4 +88,6 @@ inputs-spec =
     returns-9
     returns-10
     returns-11
-    returns-12)
+    returns-12
+    returns-13
+    returns-14)

@@ -12,7 +12,7 @@ use Rattle.kinds.proofs.later_output.Tie as tie
 
 -- the table's entry
 abbrev entry : Kind → Out
-entry = λ k. getD (k .outs) 3 fires
+entry = λ k. getD (k .outs) 4 fires
 
 -- the keys of the arms, the last arm's first
 abbrev others : List (List ℕ)

@@ -1,8 +1,8 @@
--- `kinds::out_at` meets its contract: outputs 3 to 8 of a kind are alike, and there are no more than nine. Assumes nothing.
+-- `kinds::out_at` meets its contract: outputs 4 to 8 of a kind are alike, and there are no more than nine. Assumes nothing.
 use mathlib.Core.Path.{sym, _∙_}
 use borrow.Author.Needs.{needs}
 use Rattle.kinds.specs.Pins.{out-of}
-use Rattle.kinds.proofs.Laws.{later-outputs, past-outputs, from-three}
+use Rattle.kinds.proofs.Laws.{later-outputs, past-outputs, from-four}
 use Rattle.kinds.proofs.out_at.Statement.{statement}
 use Rattle.kinds.proofs.out_at.Tie as tie
 
@@ -14,6 +14,9 @@ second-output-requires c κs = search needs
 
 third-output-requires : tie.Need-third-output-requires
 third-output-requires c κs = search needs
+
+fourth-output-requires : tie.Need-fourth-output-requires
+fourth-output-requires c κs = search needs
 
 later-output-requires : tie.Need-later-output-requires
 later-output-requires c κs = search needs
@@ -28,11 +31,14 @@ returns-3 : tie.Need-returns-3
 returns-3 c = rw (c .before .match .keys3) (c .third-output .ensures)
 
 returns-4 : tie.Need-returns-4
-returns-4 c = c .later-output .ensures ∙ sym (later-outputs _ _ (from-three _ (c .before .before .match .rest)) (c .before .if1 .taken))
+returns-4 c = rw (c .before .match .keys4) (c .fourth-output .ensures)
 
 returns-5 : tie.Need-returns-5
+returns-5 c = c .later-output .ensures ∙ sym (later-outputs _ _ (from-four _ (c .before .before .match .rest)) (c .before .if1 .taken))
+
+returns-6 : tie.Need-returns-6
 unfolding out-of
-returns-5 c = past-outputs _ _ (c .if1 .left)
+returns-6 c = past-outputs _ _ (c .if1 .left)
 
 pub out-at-spec : {M : Type 1} → statement M
 out-at-spec =
@@ -41,9 +47,11 @@ out-at-spec =
     first-output-requires
     second-output-requires
     third-output-requires
+    fourth-output-requires
     later-output-requires
     returns
     returns-2
     returns-3
     returns-4
-    returns-5)
+    returns-5
+    returns-6)

@@ -15,43 +15,47 @@ entry = λ k. length (k .outs)
 
 -- the keys of the arms, the last arm's first
 abbrev others : List (List ℕ)
-others = (23 ∷ []) ∷ (7 ∷ 9 ∷ 15 ∷ 18 ∷ 20 ∷ 22 ∷ 28 ∷ []) ∷ (8 ∷ 19 ∷ 21 ∷ []) ∷ []
+others = (29 ∷ []) ∷ (23 ∷ []) ∷ (7 ∷ 9 ∷ 15 ∷ 18 ∷ 20 ∷ 22 ∷ 28 ∷ 30 ∷ []) ∷ (8 ∷ 19 ∷ 21 ∷ 31 ∷ []) ∷ []
 
 returns : tie.Need-returns
 unfolding kinds-opened base-opened
-returns c = keyed entry _ (7 ∷ 9 ∷ 15 ∷ 18 ∷ 20 ∷ 22 ∷ 28 ∷ []) _ (c .match .keys2) refl
+returns c = keyed entry _ (7 ∷ 9 ∷ 15 ∷ 18 ∷ 20 ∷ 22 ∷ 28 ∷ 30 ∷ []) _ (c .match .keys2) refl
 
 returns-2 : tie.Need-returns-2
 unfolding kinds-opened base-opened
 returns-2 c = keyed entry _ (23 ∷ []) _ (c .match .keys3) refl
 
 returns-3 : tie.Need-returns-3
-unfolding kinds-opened base-opened beside
-returns-3 c = ranged entry _ others _ _ _ (c .before .before .before .match .rest) (c .before .if2 .left) (c .if3 .taken) refl
+unfolding kinds-opened base-opened
+returns-3 c = keyed entry _ (29 ∷ []) _ (c .match .keys4) refl
 
 returns-4 : tie.Need-returns-4
 unfolding kinds-opened base-opened beside
-returns-4 c = ranged entry _ others _ _ _ (c .before .before .before .before .before .match .rest) (c .before .if4 .left) (c .if5 .taken) refl
+returns-4 c = ranged entry _ others _ _ _ (c .before .before .before .match .rest) (c .before .if2 .left) (c .if3 .taken) refl
 
 returns-5 : tie.Need-returns-5
 unfolding kinds-opened base-opened beside
-returns-5 c = ranged entry _ others _ _ _ (c .before .match .rest) zero-le (c .if1 .taken) refl
+returns-5 c = ranged entry _ others _ _ _ (c .before .before .before .before .before .match .rest) (c .before .if4 .left) (c .if5 .taken) refl
 
 returns-6 : tie.Need-returns-6
 unfolding kinds-opened base-opened beside
-returns-6 c = last entry _ others _ _ (c .before .before .before .before .before .match .rest) (c .if5 .left) refl refl
+returns-6 c = ranged entry _ others _ _ _ (c .before .match .rest) zero-le (c .if1 .taken) refl
 
 returns-7 : tie.Need-returns-7
-unfolding kinds-opened base-opened
-returns-7 c = keyed entry _ (8 ∷ 19 ∷ 21 ∷ []) _ (c .match .keys1) refl
+unfolding kinds-opened base-opened beside
+returns-7 c = last entry _ others _ _ (c .before .before .before .before .before .match .rest) (c .if5 .left) refl refl
 
 returns-8 : tie.Need-returns-8
-unfolding kinds-opened base-opened beside
-returns-8 c = ranged entry _ others _ _ _ (c .before .before .match .rest) (c .before .if1 .left) (c .if2 .taken) refl
+unfolding kinds-opened base-opened
+returns-8 c = keyed entry _ (8 ∷ 19 ∷ 21 ∷ 31 ∷ []) _ (c .match .keys1) refl
 
 returns-9 : tie.Need-returns-9
 unfolding kinds-opened base-opened beside
-returns-9 c = ranged entry _ others _ _ _ (c .before .before .before .before .match .rest) (c .before .if3 .left) (c .if4 .taken) refl
+returns-9 c = ranged entry _ others _ _ _ (c .before .before .match .rest) (c .before .if1 .left) (c .if2 .taken) refl
+
+returns-10 : tie.Need-returns-10
+unfolding kinds-opened base-opened beside
+returns-10 c = ranged entry _ others _ _ _ (c .before .before .before .before .match .rest) (c .before .if3 .left) (c .if4 .taken) refl
 
 pub outputs-spec : {M : Type 1} → statement M
 outputs-spec =
@@ -65,4 +69,5 @@ outputs-spec =
     returns-6
     returns-7
     returns-8
-    returns-9)
+    returns-9
+    returns-10)

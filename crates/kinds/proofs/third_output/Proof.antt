@@ -16,7 +16,7 @@ entry = λ k. getD (k .outs) 2 fires
 
 -- the keys of the arms, the last arm's first
 abbrev others : List (List ℕ)
-others = (23 ∷ []) ∷ []
+others = (23 ∷ 29 ∷ []) ∷ []
 
 returns : tie.Need-returns
 unfolding kinds-opened base-opened out-of beside
@@ -32,7 +32,7 @@ returns-3 c = last entry _ others _ _ (c .before .before .before .before .match 
 
 returns-4 : tie.Need-returns-4
 unfolding kinds-opened base-opened out-of
-returns-4 c = keyed entry _ (23 ∷ []) _ (c .match .keys1) refl
+returns-4 c = keyed entry _ (23 ∷ 29 ∷ []) _ (c .match .keys1) refl
 
 returns-5 : tie.Need-returns-5
 unfolding kinds-opened base-opened out-of beside
