@@ -1,23 +1,24 @@
 -- What the functions over the calls come to: one law for each way out of one.
-use Prim.Native.Nat.{ℕ, _≤_}
+use Prim.Native.Nat.{ℕ, _≤_, _<_}
 use mathlib.Core.Path.{_≡_, refl, sym, ap, _∙_}
 use mathlib.Core.Bool.{Bool, true, false, cond}
 use mathlib.Core.List.{List, [], _∷_, _++_}
 use native.Mathlib.Omega.{arith}
 use borrow.Rule.Slice.PartMut.{putMid}
-use lib.Dec.{ltb}
+use lib.Dec.{leb, ltb}
 use lib.ListN.{length, take, drop}
+use borrow.Author.Tests.{le-leb, lt-leb}
 use Rattle.words.specs.Words.{words}
 use Rattle.lists.specs.declared.Filed.{Filed}
 use Rattle.lists.specs.declared.Taken.{Taken}
-use Rattle.lists.specs.declared.Taken.the-variants.{Empty, Entry}
+use Rattle.lists.specs.declared.Taken.the-variants.{Empty}
 use Rattle.lists.specs.Lists.{stacked, queued, filed, if-room, taken, Emptied}
-use Rattle.lists.proofs.Answers.{was-empty, was-entry}
-use Rattle.model.specs.Base.{snoc}
+use Rattle.model.specs.Base.{if_then_else_, snoc}
 use Rattle.model.specs.Circuit.{Circuit}
-use Rattle.model.specs.Chain.{Calls, no-calls, pop}
+use Rattle.model.specs.Chain.{Calls, no-calls, pop-fork, pop}
 use Rattle.units.specs.View.{Units, events-of, second-half, units}
 use Rattle.units.specs.Calls.{with-calls, stack≔, forks≔, fits-one, called, forked, popped, calls-left}
+use Rattle.units.specs.Lent.{Pops}
 use Rattle.units.proofs.Lending.{lent, lent-back, lent-tail}
 
 -- ---- the chain stack
@@ -89,57 +90,64 @@ fork-pushed bs p i r l e q c = (
 
 -- ---- the next call
 
--- the forks alone
-took : (fs : List ℕ) → taken fs ≡ popped (pop [] fs)
-unfolding taken pop popped
-took [] = refl
-took (i ∷ fs) = refl
+-- above what waited before
+pop-above : (inside : Bool) (under : ℕ) (q : Calls) (st : List ℕ) → q .stack ≡ st → under < length st →
+    (taken st ≡ popped (pop inside under st (q .forks))) × (stack≔ q (drop 1 st) ≡ calls-left q (pop inside under st (q .forks)))
+unfolding pop popped calls-left taken if_then_else_
+pop-above inside under q [] e l = absurd (omega (arith, l))
+pop-above inside under q (i ∷ st) e l = let z = le-leb under (length st) (omega (arith, l)) in rw (z, pop) (refl, refl)
 
-left-of : (q : Calls) (fs : List ℕ) → q .forks ≡ fs → q .stack ≡ [] → record { stack = []; forks = drop 1 fs } ≡ calls-left q (pop [] fs)
-unfolding pop calls-left
-left-of q [] e z = λ j. record { stack = sym z j; forks = sym e j }
-left-of q (i ∷ fs) e z = refl
+-- with nothing there, a fork
+pop-below : (inside : Bool) (under : ℕ) (st fs : List ℕ) → length st ≤ under → pop inside under st fs ≡ pop-fork inside st fs
+unfolding pop if_then_else_
+pop-below inside under [] fs l = refl
+pop-below inside under (i ∷ st) fs l = let z = lt-leb under (length st) (omega (arith, l)) in rw (z, pop)
 
-left : (q : Calls) → q .stack ≡ [] → record { stack = []; forks = drop 1 (q .forks) } ≡ calls-left q (pop (q .stack) (q .forks))
-left q z = left-of q (q .forks) refl z ∙ ap (λ (x : List ℕ). calls-left q (pop x (q .forks))) (sym z)
+took : (st fs : List ℕ) → taken fs ≡ popped (pop-fork false st fs)
+unfolding taken pop-fork popped
+took st [] = refl
+took st (i ∷ fs) = refl
 
--- The stack has one, which is taken off.
+left : (q : Calls) (fs : List ℕ) → q .forks ≡ fs → forks≔ q (drop 1 fs) ≡ calls-left q (pop-fork false (q .stack) fs)
+unfolding pop-fork calls-left
+left q [] e = λ j. record { stack = q .stack; forks = sym e j }
+left q (i ∷ fs) e = refl
+
+-- The stack has one above, which is taken off.
 pub call-popped :
-    (bs p : List ℕ) (t : Taken) (i : ℕ) → 65536 ≤ length bs → length p ≡ 2056 →
-    (t ≡ taken (stacked 256 (words (take 2056 bs)))) × (stacked 256 (words p) ≡ drop 1 (stacked 256 (words (take 2056 bs)))) → t ≡ Entry i →
-    (c : Circuit) →
-    (Entry i ≡ popped (pop (units c bs .calls .stack) (units c bs .calls .forks)))
-    × (units c (putMid 0 2056 bs p) ≡ with-calls (units c bs) (calls-left (units c bs .calls) (pop (units c bs .calls .stack) (units c bs .calls .forks))))
-unfolding pop popped calls-left
-call-popped bs p t i l e q h c =
+    (bs p : List ℕ) (t : Taken) (under n : ℕ) (inside : Bool) → 65536 ≤ length bs → length p ≡ 2056 →
+    ((c : Circuit) → n ≡ length (units c bs .calls .stack)) → under < n →
+    (t ≡ taken (stacked 256 (words (take 2056 bs)))) × (stacked 256 (words p) ≡ drop 1 (stacked 256 (words (take 2056 bs)))) →
+    (c : Circuit) → Pops (units c bs) (units c (putMid 0 2056 bs p)) t (pop inside under (units c bs .calls .stack) (units c bs .calls .forks))
+call-popped bs p t under n inside l e m h q c =
     let s = stack-lent c bs in
-    let k : units c bs .calls .stack ≡ i ∷ drop 1 (units c bs .calls .stack) = was-entry i (units c bs .calls .stack) (sym h ∙ q .0 ∙ ap taken s) in
-    let b : units c (putMid 0 2056 bs p) ≡ with-calls (units c bs) (stack≔ (units c bs .calls) (drop 1 (units c bs .calls .stack))) =
-    stack-back c bs p l e ∙ ap (λ (x : List ℕ). with-calls (units c bs) (stack≔ (units c bs .calls) x)) (q .1 ∙ ap (drop 1) s) in (
-      ap (λ (x : List ℕ). popped (pop x (units c bs .calls .forks))) (sym k),
-      b ∙ ap (λ (x : List ℕ). with-calls (units c bs) (calls-left (units c bs .calls) (pop x (units c bs .calls .forks)))) (sym k),
+    let u = pop-above inside under (units c bs .calls) (units c bs .calls .stack) refl (omega (arith, h, m c)) in (
+      q .0 ∙ ap taken s ∙ u .0,
+      stack-back c bs p l e ∙ ap (λ (x : List ℕ). with-calls (units c bs) (stack≔ (units c bs .calls) x)) (q .1 ∙ ap (drop 1) s) ∙ ap (with-calls (units c bs)) (u .1),
     )
 
--- The stack has none: what there is of the forks is taken off.
+-- None is above, and the forks wait.
+pub none-popped :
+    (bs : List ℕ) (under n : ℕ) (inside : Bool) → ((c : Circuit) → n ≡ length (units c bs .calls .stack)) → n ≤ under → inside ≡ true →
+    (c : Circuit) → Pops (units c bs) (units c bs) Empty (pop inside under (units c bs .calls .stack) (units c bs .calls .forks))
+unfolding pop-fork popped calls-left
+none-popped bs under n inside m h e c =
+    let k = pop-below inside under (units c bs .calls .stack) (units c bs .calls .forks) (omega (arith, h, m c)) in rw (k, e) (refl, refl)
+
+-- None is above: what there is of the forks is taken off.
 pub fork-popped :
-    (bs p d : List ℕ) (t r : Taken) → 65536 ≤ length bs → 65536 ≤ length (putMid 0 2056 bs p) → length p ≡ 2056 → length d ≡ 2064 →
-    (t ≡ taken (stacked 256 (words (take 2056 bs)))) × (stacked 256 (words p) ≡ drop 1 (stacked 256 (words (take 2056 bs)))) → t ≡ Empty →
-    (r ≡ taken (queued 256 (words (take 2064 (drop 2056 (putMid 0 2056 bs p))))))
-    × (queued 256 (words d) ≡ drop 1 (queued 256 (words (take 2064 (drop 2056 (putMid 0 2056 bs p)))))) →
-    (c : Circuit) →
-    (r ≡ popped (pop (units c bs .calls .stack) (units c bs .calls .forks)))
-    × (units c (putMid 2056 2064 (putMid 0 2056 bs p) d) ≡ with-calls (units c bs) (calls-left (units c bs .calls) (pop (units c bs .calls .stack) (units c bs .calls .forks))))
-fork-popped bs p d t r l m e f q h g c =
-    let s = stack-lent c bs in
-    let z : units c bs .calls .stack ≡ [] = was-empty (units c bs .calls .stack) (sym h ∙ q .0 ∙ ap taken s) in
-    let b : units c (putMid 0 2056 bs p) ≡ with-calls (units c bs) (stack≔ (units c bs .calls) []) =
-    stack-back c bs p l e ∙ ap (λ (x : List ℕ). with-calls (units c bs) (stack≔ (units c bs .calls) x)) (q .1 ∙ ap (drop 1) (s ∙ z)) in
-    let v : queued 256 (words (take 2064 (drop 2056 (putMid 0 2056 bs p)))) ≡ units c bs .calls .forks =
-    forks-lent c (putMid 0 2056 bs p) ∙ ap (λ (u : Units). u .calls .forks) b in
-    let w : units c (putMid 2056 2064 (putMid 0 2056 bs p) d) ≡ with-calls (units c bs) (record { stack = []; forks = drop 1 (units c bs .calls .forks) }) =
-    forks-back c (putMid 0 2056 bs p) d m f ∙ (λ j. with-calls (b j) (forks≔ (b j .calls) ((g .1 ∙ ap (drop 1) v) j))) in (
-      g .0 ∙ ap taken v ∙ took (units c bs .calls .forks) ∙ ap (λ (x : List ℕ). popped (pop x (units c bs .calls .forks))) (sym z),
-      w ∙ ap (with-calls (units c bs)) (left (units c bs .calls) z),
+    (bs d : List ℕ) (r : Taken) (under n : ℕ) (inside : Bool) → 65536 ≤ length bs → length d ≡ 2064 →
+    ((c : Circuit) → n ≡ length (units c bs .calls .stack)) → n ≤ under → inside ≡ false →
+    (r ≡ taken (queued 256 (words (take 2064 (drop 2056 bs))))) × (queued 256 (words d) ≡ drop 1 (queued 256 (words (take 2064 (drop 2056 bs))))) →
+    (c : Circuit) → Pops (units c bs) (units c (putMid 2056 2064 bs d)) r (pop inside under (units c bs .calls .stack) (units c bs .calls .forks))
+fork-popped bs d r under n inside l f m h i g c =
+    let k = pop-below inside under (units c bs .calls .stack) (units c bs .calls .forks) (omega (arith, h, m c)) in
+    let v = forks-lent c bs in
+    rw (k, i) (
+      g .0 ∙ ap taken v ∙ took (units c bs .calls .stack) (units c bs .calls .forks),
+      forks-back c bs d l f
+          ∙ ap (λ (x : List ℕ). with-calls (units c bs) (forks≔ (units c bs .calls) x)) (g .1 ∙ ap (drop 1) v)
+          ∙ ap (with-calls (units c bs)) (left (units c bs .calls) (units c bs .calls .forks) refl),
     )
 
 -- Both are empty.

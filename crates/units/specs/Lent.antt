@@ -15,7 +15,7 @@ use Rattle.lists.specs.Lists.{ranked}
 use Rattle.model.specs.Base.{snoc}
 use Rattle.model.specs.Circuit.{Circuit}
 use Rattle.model.specs.State.{Act, Send}
-use Rattle.model.specs.Chain.{pop}
+use Rattle.model.specs.Chain.{Popped}
 use Rattle.links.specs.Lent.{net-of}
 use Rattle.units.specs.View.{act-of, listed-of, Lists, Units, units}
 use Rattle.units.specs.Raising.{with-lists, carried≔, by-rank, answer, lists-after}
@@ -51,10 +51,9 @@ carry a l = room (l .carried) most-waiting (carried≔ l (snoc (l .carried) a))
 abbrev pub Takes-off : Units → Units → Option Act → List Act → (List Act → Lists) → Type 0
 Takes-off u v r l k = (r ≡ first-of l) × (v ≡ with-lists u (k (drop 1 l)))
 
--- the next call was taken
-abbrev pub Pops : Units → Units → Taken → Type 0
-Pops u v r =
-    (r ≡ popped (pop (u .calls .stack) (u .calls .forks))) × (v ≡ with-calls u (calls-left (u .calls) (pop (u .calls .stack) (u .calls .forks))))
+-- p is the next call, and it was taken
+abbrev pub Pops : Units → Units → Taken → Option Popped → Type 0
+Pops u v r p = (r ≡ popped p) × (v ≡ with-calls u (calls-left (u .calls) p))
 
 -- the unit of entry x was listed among those begun, if there was room
 abbrev pub Lists-unit : Units → Units → Answer → ℕ → Type 0

@@ -1,9 +1,10 @@
 // Calls that wait: the chain stack and the forks.
 ghost use mathlib.Core.Path.{_≡_};
-ghost use Rattle.model.specs.Chain.{no-calls};
+ghost use lib.ListN.{length};
+ghost use Rattle.model.specs.Chain.{no-calls, pop};
 ghost use Rattle.links.specs.Lent.{Room};
 ghost use Rattle.units.specs.Calls.{with-calls, fits-one, called, forked};
-ghost use Rattle.units.specs.Lent.{Changes, Pops};
+ghost use Rattle.units.specs.Lent.{Reads, Changes, Pops};
 use crate::layout::FORKS;
 use crate::layout::MOST_CALLS;
 use crate::layout::PENDING;
@@ -11,6 +12,7 @@ use crate::layout::STACK;
 use lists::Filed;
 use lists::Taken;
 use lists::clear;
+use lists::count;
 use lists::dequeue;
 use lists::enqueue;
 use lists::stack_pop;
@@ -32,16 +34,26 @@ pub fn push_fork(units: &mut [u8], i: usize) -> Filed
     enqueue(&mut units[FORKS..PENDING], MOST_CALLS, i as u64)
 }
 
-// The next call to make is taken off: from the stack, else from the forks.
-pub fn pop_call(units: &mut [u8]) -> Taken
+// How many calls wait on the chain stack.
+pub fn calls_waiting(units: &[u8]) -> usize
     requires { ⌜ Room units ⌝ }
-    ensures { λ r. ⌜ Changes units (λ _ old new. Pops old new r) ⌝ }
+    ensures { λ r. ⌜ Reads units (λ _ u. r ≡ length (u .calls .stack)) ⌝ }
 {
-    let top = stack_pop(&mut units[STACK..FORKS], MOST_CALLS);
-    match top {
-        Taken::Empty => dequeue(&mut units[FORKS..PENDING], MOST_CALLS),
-        Taken::Entry(i) => Taken::Entry(i),
+    count(&units[STACK..FORKS], MOST_CALLS)
+}
+
+// The next call to make is taken off: from the stack, as long as more than `under` wait there, else from the forks, which wait while a body is running.
+pub fn pop_call(units: &mut [u8], under: usize, inside: bool) -> Taken
+    requires { ⌜ Room units ⌝ }
+    ensures { λ r. ⌜ Changes units (λ _ old new. Pops old new r (pop inside under (old .calls .stack) (old .calls .forks))) ⌝ }
+{
+    if under < calls_waiting(units) {
+        return stack_pop(&mut units[STACK..FORKS], MOST_CALLS);
     }
+    if inside {
+        return Taken::Empty;
+    }
+    dequeue(&mut units[FORKS..PENDING], MOST_CALLS)
 }
 
 // No call waits.

@@ -2,13 +2,14 @@
 use mathlib.Core.Path.{_≡_, refl, sym, ap, _∙_}
 use mathlib.Core.Bool.{Bool, true, false, cond}
 use Prim.Native.Nat.{ℕ, zero, suc, _+_, _-_, _*_, _/_, _%_, _^_, _<_, _≤_}
-use native.Mathlib.Nat.{mul-add, div-add-mod', mod-add-mod, mod-lt, mod-eq-of-lt, add-mul-mod-self-right}
+use native.Mathlib.Nat.{add-mod-mod, mul-add, div-add-mod', mod-add-mod, mod-lt, mod-eq-of-lt, add-mul-mod-self-right}
 use native.Mathlib.Omega.{arith}
 use lib.Dec.{ltb}
 use lib.IntN.{ℤ, pos, negsuc, negℤ, subℕ, _+ℤ_, _*ℤ_}
 use borrow.Author.Tests.{ltb-true, ltb-false, lt-ltb, le-ltb}
 use mir.Syntax.{w64}
-use mir.Val.{ofZ, SFits}
+use mir.Val.{toZ, ofZ, SFits}
+use mir.ValLaws.{toZ-ofZ}
 use Rattle.model.specs.Loops.{wrapped, index}
 
 -- a word that b wraps to a
@@ -85,3 +86,13 @@ index-of-words (negsuc f) (negsuc s) d hf hs =
     let m = add-mul-mod-self-right (2 ^ 64) d (2 ^ 64) in
     let x : 2 ^ 64 - suc f + d * (2 ^ 64 - suc s) + (suc f + d * suc s) ≡ 2 ^ 64 + d * 2 ^ 64 = omega (arith, l, hf) in
     by-sub _ 0 (suc f + d * suc s) (2 ^ 64 - suc f + d * (2 ^ 64 - suc s)) (neg-less f (d * suc s)) (ap (λ (y : ℕ). y % 2 ^ 64) x ∙ m)
+
+-- the index, as the code adds it up of the bits of two signed numbers
+pub index-found :
+    (first step : ℤ) (done f s p r : ℕ) → SFits w64 first → SFits w64 step → f ≡ ofZ w64 (toZ w64 (ofZ w64 first)) → s ≡ ofZ w64 (toZ w64 (ofZ w64 step)) → p ≡ (done * s) % 2 ^ 64 →
+    r ≡ (f + p) % 2 ^ 64 → r ≡ index first done step
+index-found first step done f s p r hf hs ef es ep er =
+    let f₁ : f ≡ ofZ w64 first = ef ∙ ap (ofZ w64) (toZ-ofZ w64 first hf) in
+    let s₁ : s ≡ ofZ w64 step = es ∙ ap (ofZ w64) (toZ-ofZ w64 step hs) in
+    er ∙ ap (λ (x : ℕ). (f + x) % 2 ^ 64) ep ∙ add-mod-mod f (done * s) (2 ^ 64) ∙ (λ j. (f₁ j + done * s₁ j) % 2 ^ 64)
+    ∙ index-of-words first step done (word-of first hf) (word-of step hs)
