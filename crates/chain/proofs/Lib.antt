@@ -1,3 +1,4 @@
 pub mod Fits
 pub mod Rows
+pub mod Runs
 pub mod Turns

@@ -1,14 +1,13 @@
--- What the code's chain makes of the areas. After a stop the calls that were left stay open: no rule decides them, and the next unit clears them.
+-- What the code's chains make of the areas. After a stop the calls that were left stay open: no rule decides them, and the next unit clears them.
 use Prim.Native.Nat.{ℕ}
 use mathlib.Core.Path.{_≡_}
-use mathlib.Core.Bool.{true, not, cond, _&&_}
+use mathlib.Core.Bool.{true, not, cond}
 use mathlib.Core.List.{List, _++_, map}
 use Rattle.lists.specs.declared.Filed.{Filed}
 use Rattle.lists.specs.declared.Filed.the-variants.{Full, Done}
 use Rattle.model.specs.Base.{keep, from}
 use Rattle.model.specs.Circuit.{Call}
-use Rattle.model.specs.Exec.{Stepped}
-use Rattle.model.specs.Chain.{Calls, no-calls, fit, Chained}
+use Rattle.model.specs.Chain.{Calls, no-calls, fit, Chained, chained}
 use Rattle.links.specs.Links.{call-of, target}
 use Rattle.units.specs.View.{Units}
 use Rattle.units.specs.Calls as units
@@ -21,10 +20,14 @@ pub record Pushes (u v : Units) (r : Filed) (q : Calls) : Type 0 where
   pub calls : fit q ≡ true → v .calls ≡ q
   pub others : units.with-calls v no-calls ≡ units.with-calls u no-calls
 
--- The areas a became b, with the answer r, as the definition's chain k.
+-- a run that goes on from what the areas hold, with so many steps left
+abbrev pub started : Contents → ℕ → Chained
+started a left = chained (a .state) left 0 (a .calls)
+
+-- The areas a became b, with the answer r, as the definition's run k; the calls that a stop left stay open.
 pub record Runs (a b : Contents) (r : Ran) (k : Chained) : Type 0 where
   pub state : with-calls b no-calls ≡ with-calls (with-state a (k .state)) no-calls
-  pub calls : k .stop ≡ 0 → b .calls ≡ no-calls
+  pub calls : k .stop ≡ 0 → b .calls ≡ k .calls
   pub left : r .left ≡ k .left
   pub stop : r .stop ≡ k .stop
 
@@ -41,11 +44,3 @@ forks-behind ks q = units.forks≔ q (q .forks ++ map (λ k. k .to) (keep (λ k.
 -- the others before the stack
 unfoldable pub stack-before : List Call → Calls → Calls
 stack-before ks q = units.stack≔ q (map (λ k. k .to) (keep (λ k. not (k .remote)) ks) ++ q .stack)
-
--- ---- one call made
-
--- A step d was made, and what it fires calls q: there was room, a became b, with the answer r.
-pub record Makes-call (a b : Contents) (r : Filed) (d : Stepped) (q : Calls) : Type 0 where
-  pub answer : r ≡ cond (fit q && not (d .full)) Done Full
-  pub calls : (fit q && not (d .full)) ≡ true → b .calls ≡ q
-  pub others : with-calls b no-calls ≡ with-calls (with-state a (d .state)) no-calls
