@@ -40,7 +40,7 @@ unfoldable pub unchanged : Option Value → Value → Bool
 unchanged none v = false
 unchanged (some u) v = same u v
 
--- input i, the first that waits, is taken to be checked: it waits no more, and may be queued again
+-- Input i, the first that waits, is taken to be checked: it waits no more, and may be queued again; its mark for a late check is gone, whatever comes of it.
 unfoldable pub taken : Wires → ℕ → List ℕ → Wires
 taken w i is = late-checks≔ (to-check≔ w is (set (w .queued) i false)) (set (w .late-checks) i false)
 

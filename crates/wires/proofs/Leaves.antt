@@ -8,7 +8,7 @@ use native.Mathlib.Numerals.{add-one}
 use borrow.Author.Tests.{le-leb, lt-leb, ne-eqb}
 use lib.Dec.{eqb, leb}
 use lib.Bits.{bitOr, bitXor}
-use lib.ListN.{length, getD, set, length-take, List·getD-eq-default}
+use lib.ListN.{length, getD, set, take, length-take, List·getD-eq-default}
 use lib.Seq.{set-out, set-getD, getD-take, getD-set-same}
 use Rattle.words.specs.Words.{words, tail, Stored}
 use Rattle.words.specs.Tables.{marked, digits}
@@ -18,8 +18,8 @@ use Rattle.model.specs.declared.Value.the-variants.{Nothing}
 use Rattle.model.specs.Base.{if_then_else_, both, snoc}
 use Rattle.model.specs.Value.{content-of}
 use Rattle.model.specs.Circuit.{Circuit}
-use Rattle.model.specs.State.{Wires, outs≔, dirty≔, to-check≔}
-use Rattle.model.specs.Wires.{shown, show, is-dirty, is-clean, soil, clean, watch}
+use Rattle.model.specs.State.{Wires, outs≔, dirty≔, to-check≔, late-checks≔}
+use Rattle.model.specs.Wires.{shown, show, is-dirty, is-clean, soil, clean, watch, watch-for}
 use Rattle.wires.specs.Held.{held, tag-of}
 use Rattle.wires.specs.View.{cut, with-wires, values}
 use Rattle.wires.specs.Marking.{Area, area-with, area}
@@ -30,6 +30,24 @@ use Rattle.wires.proofs.Tags.{held-again}
 -- a count that the code has read is that of the circuit, and at most the table's
 abbrev pub Counts : ℕ → ℕ → ℕ → Type 0
 Counts most n m = (n ≡ m) × (n ≤ most)
+
+-- ---- marks
+
+-- a mark of a table that has a word for each
+flag-at : (k i x : ℕ) (xs : List ℕ) (d : Bool) → i < k → i < length xs → x ≡ getD xs i 0 → getD (take k (map marked xs)) i d ≡ marked x
+flag-at k i x xs d h l e = getD-take k (map marked xs) i d h ∙ map-marked-get xs i d l ∙ ap marked (sym e)
+
+-- one mark more in a word of marks
+pub one-mark : (k g d : ℕ) → g < 64 → digits k (bitOr d (1 * 2 ^ g % 2 ^ 64)) ≡ set (digits k d) g true
+one-mark k g d h = ap (λ (x : ℕ). digits k (bitOr d x)) (one-digit g h) ∙ digits-or k d g
+
+-- no mark there, where its digit is 0
+pub unmarked-at : (k g d : ℕ) (b : Bool) → g < k → eqb (d / 2 ^ g % 2) 0 ≡ not (getD (digits k d) g b)
+unmarked-at k g d b h = not-not (eqb (d / 2 ^ g % 2) 0) ∙ ap not (sym (digits-get k d g b h))
+  where
+    not-not : (b : Bool) → b ≡ not (not b)
+    not-not true = refl
+    not-not false = refl
 
 -- ---- outputs
 
@@ -104,13 +122,7 @@ module _ (c : Circuit) (bs : List ℕ) (g n : ℕ) (en : Counts 64 n (length (c 
 
   pub clean-in : (d : ℕ) → g < n → d ≡ getD (words bs) 3 0 → eqb (d / 2 ^ g % 2) 0 ≡ is-clean (values c bs .wires) g
   unfolding values is-clean
-  clean-in d h e =
-      rw (dirty-word c bs d e)
-      (let x = getD (cut (words bs) .dirty) 0 0 in not-not (eqb (x / 2 ^ g % 2) 0) ∙ ap not (sym (digits-get (length (c .kinds)) x g true (omega (arith, en .0)))))
-    where
-      not-not : (b : Bool) → b ≡ not (not b)
-      not-not true = refl
-      not-not false = refl
+  clean-in d h e = rw (dirty-word c bs d e) (unmarked-at (length (c .kinds)) g (getD (cut (words bs) .dirty) 0 0) true (omega (arith, en .0)))
 
   dirty-length : length (values c bs .wires .dirty) ≡ n
   unfolding values
@@ -131,7 +143,7 @@ module _ (c : Circuit) (bs : List ℕ) (g n : ℕ) (en : Counts 64 n (length (c 
   soil-in bs₁ d l h e s =
       dirty-put c bs bs₁ (bitOr d (1 * 2 ^ g % 2 ^ 64)) l s
       ∙ ap (λ (x : List Bool). area-with (area c bs) (dirty≔ (values c bs .wires) x))
-      (ap (λ (x : ℕ). digits (length (c .kinds)) (bitOr d x)) (one-digit g (omega arith)) ∙ digits-or (length (c .kinds)) d g ∙ ap (λ (x : List Bool). set x g true) (the-dirty c bs d e))
+      (one-mark (length (c .kinds)) g d (omega arith) ∙ ap (λ (x : List Bool). set x g true) (the-dirty c bs d e))
 
   pub soil-out : n ≤ g → area c bs ≡ area-with (area c bs) (soil (area c bs .values .wires) g)
   unfolding soil area dirty≔
@@ -183,8 +195,7 @@ module _ (c : Circuit) (bs : List ℕ) (i n : ℕ) (en : Counts 640 n (length (c
   unfolding values
   queued-word x l h e =
       let m : length (cut (words bs) .queued) ≡ 640 = sized bs 10 l (omega arith) (omega arith) in
-      let p : x ≡ getD (cut (words bs) .queued) i 0 = e ∙ cut-peek (words bs) 10 i (omega arith) in
-      getD-take (length (c .pins)) (map marked (cut (words bs) .queued)) i true (omega (arith, en .0)) ∙ map-marked-get (cut (words bs) .queued) i true (omega arith) ∙ ap marked (sym p)
+      flag-at (length (c .pins)) i x (cut (words bs) .queued) true (omega (arith, en .0)) (omega arith) (e ∙ cut-peek (words bs) 10 i (omega arith))
 
   pub queued-few : length (values c bs .wires .queued) ≤ n
   unfolding values
@@ -243,3 +254,52 @@ module _ (c : Circuit) (bs : List ℕ) (i n : ℕ) (en : Counts 640 n (length (c
           let a : getD (values c bs .wires .queued) i true ≡ false = queued-word x l h ex ∙ ap marked z in
           let b : leb 640 (length (values c bs .wires .to-check)) ≡ false = lt-leb 640 (length (values c bs .wires .to-check)) (omega (arith, count-word c bs m em)) in
           joins p bs₁ bs₂ bs₃ k ep e₁ e₂ e₃ ∙ ap (λ (w : Wires). area-with (area c bs) w) (sym (goes (values c bs .wires) i a b))
+
+-- ---- inputs marked for a late check
+
+module _ (c : Circuit) (bs : List ℕ) (i n : ℕ) (en : Counts 640 n (length (c .pins))) where
+  pub late-few : length (values c bs .wires .late-checks) ≤ n
+  unfolding values
+  late-few = omega (arith, en .0, length-take (length (c .pins)) (map marked (cut (words bs) .late-checks)))
+
+  pub late-in : (x : ℕ) → 65536 ≤ length bs → i < n → x ≡ getD (words bs) (4818 + i) 0 → marked x ≡ getD (values c bs .wires .late-checks) i false
+  unfolding values
+  late-in x l h e =
+      let m : length (cut (words bs) .late-checks) ≡ 640 = sized bs 18 l (omega arith) (omega arith) in
+      sym (flag-at (length (c .pins)) i x (cut (words bs) .late-checks) false (omega (arith, en .0)) (omega arith) (e ∙ cut-peek (words bs) 18 i (omega arith)))
+
+  pub late-past : n ≤ i → false ≡ getD (values c bs .wires .late-checks) i false
+  late-past h = sym (List·getD-eq-default (values c bs .wires .late-checks) false {n = i} (omega (arith, late-few)))
+
+  module _ (late : Bool) where
+    pub mark-late-in :
+        (bs₁ : List ℕ) → late ≡ true → i < n → Stored bs bs₁ (4818 + i) 1 →
+        area c bs₁ ≡ area-with (area c bs) (if late then late-checks≔ (area c bs .values .wires) (set (area c bs .values .wires .late-checks) i true) else area c bs .values .wires)
+    unfolding area values late-checks≔ if_then_else_
+    mark-late-in bs₁ q h e =
+        rw (
+          q,
+          e .words,
+          cut-poke (words bs) 18 i 1 (omega arith),
+          e .tail,
+          map-marked-set (cut (words bs) .late-checks) i 1,
+          take-set (length (c .pins)) (map marked (cut (words bs) .late-checks)) i true,
+        )
+
+    pub mark-late-past :
+        late ≡ true → n ≤ i →
+        area c bs ≡ area-with (area c bs) (if late then late-checks≔ (area c bs .values .wires) (set (area c bs .values .wires .late-checks) i true) else area c bs .values .wires)
+    unfolding area late-checks≔ if_then_else_
+    mark-late-past q h = rw (q, set-out (values c bs .wires .late-checks) i true (omega (arith, late-few)))
+
+pub mark-not-late :
+    (a : Area) (i : ℕ) (late : Bool) → late ≡ false → a ≡ area-with a (if late then late-checks≔ (a .values .wires) (set (a .values .wires .late-checks) i true) else a .values .wires)
+unfolding if_then_else_
+mark-not-late a i late q = rw q refl
+
+pub watched-for :
+    (a a₁ a₂ : Area) (i : ℕ) (late : Bool) →
+    a₁ ≡ area-with a (if late then late-checks≔ (a .values .wires) (set (a .values .wires .late-checks) i true) else a .values .wires) →
+    a₂ ≡ area-with a₁ (watch (a₁ .values .wires) i) → a₂ ≡ area-with a (watch-for late (a .values .wires) i)
+unfolding watch-for
+watched-for a a₁ a₂ i late e₁ e₂ = e₂ ∙ ap (λ (x : Area). area-with x (watch (x .values .wires) i)) e₁

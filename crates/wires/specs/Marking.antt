@@ -32,10 +32,10 @@ pub record Marked : Type 0 where
 abbrev pub with-marking : Marked → Marking → Marked
 with-marking m k = record { marking = k; rest = m .rest }
 
--- of the area's bytes, where n outputs are on the stack
-unfoldable pub marking : Circuit → List ℕ → ℕ → Marked
-marking c bs n =
-    record { marking = record { wires = area c bs .values .wires; work = stack n (area c bs .stack) }; rest = area c bs .values .rest }
+-- of the area's bytes, where n outputs are on the stack, for a late check or not
+unfoldable pub marking : Circuit → List ℕ → ℕ → Bool → Marked
+marking c bs n late =
+    record { marking = record { wires = area c bs .values .wires; work = stack n (area c bs .stack); late = late }; rest = area c bs .values .rest }
 
 -- how many gates are not stale
 unfoldable pub cleans : List Bool → ℕ

@@ -23,10 +23,14 @@ blank c =
       dirty = replicate (length (c .kinds)) false;
       to-check = [];
       queued = replicate (length (c .pins)) false;
+      late-checks = replicate (length (c .pins)) false;
       last = replicate (length (c .pins)) none;
       pulses = replicate (length (c .outputs)) 0;
       written = [];
+      written-outside = replicate (length (c .kinds)) false;
       unions-passed = replicate (length (c .kinds)) false;
+      breaking = false;
+      runs-left = 0;
     }
 
 module _ (c : Circuit) where

@@ -16,7 +16,8 @@ use Rattle.wires.specs.Held.{held}
 -- The tables, in their order. Of one word each: tick, tick length, uptime, the stale gates and the Unions passed as marks, head and count of the check queue,
 -- how many Vars are written. Then tags and contents of 576 outputs; of 640 inputs whether each is queued; the 1,024 places of the check queue; kinds (0 for
 -- none, else the kind and 1) and contents of 640 last values; the ticks of 576 pulses, and nine words of marks that say which of them count; 64 Vars
--- written; 65 places of the stack that marking works with; and the words behind the tables.
+-- written; 65 places of the stack that marking works with; of 640 inputs whether each is marked for a late check; of one word each: the Vars written outside
+-- bodies as marks, whether a Break ran, the runs of bodies left; and the words behind the tables.
 pub record Tables : Type 0 where
   pub tick : List ℕ
   pub dt : List ℕ
@@ -36,11 +37,15 @@ pub record Tables : Type 0 where
   pub up : List ℕ
   pub written : List ℕ
   pub stack : List ℕ
+  pub late-checks : List ℕ
+  pub written-outside : List ℕ
+  pub breaking : List ℕ
+  pub runs-left : List ℕ
   pub rest : List ℕ
 
 -- their sizes
 abbrev pub sizes : List ℕ
-sizes = 1 ∷ 1 ∷ 1 ∷ 1 ∷ 1 ∷ 1 ∷ 1 ∷ 1 ∷ 576 ∷ 576 ∷ 640 ∷ 1024 ∷ 640 ∷ 640 ∷ 576 ∷ 9 ∷ 64 ∷ 65 ∷ []
+sizes = 1 ∷ 1 ∷ 1 ∷ 1 ∷ 1 ∷ 1 ∷ 1 ∷ 1 ∷ 576 ∷ 576 ∷ 640 ∷ 1024 ∷ 640 ∷ 640 ∷ 576 ∷ 9 ∷ 64 ∷ 65 ∷ 640 ∷ 1 ∷ 1 ∷ 1 ∷ []
 
 -- where the tags and the contents of the outputs begin, in words
 abbrev pub out-tags-at : ℕ
@@ -71,7 +76,11 @@ of ts =
       up = getD ts 15 [];
       written = getD ts 16 [];
       stack = getD ts 17 [];
-      rest = getD ts 18 [];
+      late-checks = getD ts 18 [];
+      written-outside = getD ts 19 [];
+      breaking = getD ts 20 [];
+      runs-left = getD ts 21 [];
+      rest = getD ts 22 [];
     }
 
 -- the area's words, cut into tables
@@ -101,10 +110,14 @@ wires-of c t =
       dirty = digits (length (c .kinds)) (getD (t .dirty) 0 0);
       to-check = ring (getD (t .count) 0 0) (getD (t .head) 0 0) (t .slots);
       queued = take (length (c .pins)) (map marked (t .queued));
+      late-checks = take (length (c .pins)) (map marked (t .late-checks));
       last = take (length (c .pins)) (both last-of (t .last-kinds) (t .last-contents));
       pulses = take (length (c .outputs)) (both pulse-of (marks (t .up)) (t .ticks));
       written = take (getD (t .written-count) 0 0) (t .written);
+      written-outside = digits (length (c .kinds)) (getD (t .written-outside) 0 0);
       unions-passed = digits (length (c .kinds)) (getD (t .unions-passed) 0 0);
+      breaking = marked (getD (t .breaking) 0 0);
+      runs-left = getD (t .runs-left) 0 0;
     }
 
 -- What the area holds: the wires, and what lies behind the tables, its words and the bytes that make no whole word.

@@ -1,12 +1,14 @@
 // The watched inputs that wait to be checked, and what the last check of each read.
 ghost use mathlib.Core.Path.{_≡_};
-ghost use mathlib.Core.Bool.{false};
+ghost use mathlib.Core.Bool.{true, false};
 ghost use mathlib.Core.Option.{none, some};
 ghost use lib.ListN.{getD, set};
-ghost use Rattle.model.specs.State.{to-check≔, last≔};
-ghost use Rattle.model.specs.Wires.{watch};
+ghost use Rattle.model.specs.Base.{if_then_else_};
+ghost use Rattle.model.specs.State.{late-checks≔, last≔};
+ghost use Rattle.model.specs.Wires.{watch, watch-for};
+ghost use Rattle.model.specs.Settle.{taken};
 ghost use Rattle.links.specs.Lent.{Linked, Room};
-ghost use Rattle.wires.specs.Checks.{waiting, oldest, taken, remembered};
+ghost use Rattle.wires.specs.Checks.{waiting, for-late, oldest, oldest-late, oldest-taken, remembered};
 ghost use Rattle.wires.specs.Lent.{wires-in, Turns, Turns-beside-stack};
 use crate::Remembered;
 use crate::Waiting;
@@ -14,6 +16,7 @@ use crate::layout::COUNT;
 use crate::layout::HEAD;
 use crate::layout::LAST_CONTENTS;
 use crate::layout::LAST_KINDS;
+use crate::layout::LATE_CHECKS;
 use crate::layout::PLACES;
 use crate::layout::QUEUED;
 use crate::layout::SLOTS;
@@ -44,20 +47,55 @@ pub fn watch(links: &[usize], values: &mut [u8], i: usize)
     }
 }
 
-// Input i may be queued again.
+// Input i is marked for a late check, if `late` says so. The marking stack stays as it is.
+fn mark_late(links: &[usize], values: &mut [u8], i: usize, late: bool)
+    requires { ⌜ Linked links × Room values ⌝ }
+    ensures { λ _. ⌜ Turns-beside-stack links values (λ _ w. if late then late-checks≔ w (set (w .late-checks) i true) else w) ⌝ }
+{
+    if late {
+        if i < inputs(links) {
+            put(values, LATE_CHECKS + i, 1);
+        }
+    }
+}
+
+// Watched input i waits to be checked, for a late check if `late` says so, also where it waits already. The marking stack stays as it is.
+pub fn watch_for(links: &[usize], values: &mut [u8], i: usize, late: bool)
+    requires { ⌜ Linked links × Room values ⌝ }
+    ensures { λ _. ⌜ Turns-beside-stack links values (λ _ w. watch-for late w i) ⌝ }
+{
+    mark_late(links, values, i, late);
+    watch(links, values, i);
+}
+
+// Whether input i is marked for a late check.
+pub fn is_late(links: &[usize], values: &[u8], i: usize) -> bool
+    requires { ⌜ Linked links × Room values ⌝ }
+    ensures { λ r. ⌜ r ≡ getD (wires-in links values .late-checks) i false ⌝ }
+{
+    if i < inputs(links) {
+        get(values, LATE_CHECKS + i) != 0
+    } else {
+        false
+    }
+}
+
+// Input i may be queued again, and its mark for a late check is gone.
 fn unqueue(links: &[usize], values: &mut [u8], i: usize)
     requires { ⌜ Linked links × Room values ⌝ }
-    ensures { λ _. ⌜ Turns links values (λ _ w. to-check≔ w (w .to-check) (set (w .queued) i false)) ⌝ }
+    ensures { λ _. ⌜ Turns links values (λ _ w. taken w i (w .to-check)) ⌝ }
 {
     if i < inputs(links) {
         put(values, QUEUED + i, 0);
+        put(values, LATE_CHECKS + i, 0);
     }
 }
 
 // The input that waits longest is taken, and may be queued again.
 pub fn take_check(links: &[usize], values: &mut [u8]) -> Waiting
     requires { ⌜ Linked links × Room values ⌝ }
-    ensures { λ r. ⌜ (waiting r ≡ oldest (wires-in links values)) × Turns links values (λ _ w. taken w) ⌝ }
+    ensures { λ r. ⌜ (waiting r ≡ oldest (wires-in links values)) × Turns links values (λ _ w. oldest-taken w) ⌝ }
+    ensures { λ r. ⌜ for-late r ≡ oldest-late (wires-in links values) ⌝ }
 {
     let n = get(values, COUNT);
     if n == 0 {
@@ -65,10 +103,11 @@ pub fn take_check(links: &[usize], values: &mut [u8]) -> Waiting
     }
     let h = get(values, HEAD) as usize % PLACES;
     let i = get(values, SLOTS + h) as usize;
+    let late = is_late(links, values, i);
     put(values, HEAD, h as u64 + 1);
     put(values, COUNT, n - 1);
     unqueue(links, values, i);
-    Waiting::Input(i)
+    Waiting::Input(i, late)
 }
 
 // What the last check of input i read.

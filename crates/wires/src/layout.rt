@@ -48,5 +48,14 @@ pub const WRITTEN: usize = UP + MOST_OUTPUTS / 64;
 
 pub const STACK: usize = WRITTEN + MOST_WRITTEN;
 
+pub const LATE_CHECKS: usize = STACK + MOST_GATES + 1;
+
+// Tables of one word each.
+pub const WRITTEN_OUTSIDE: usize = LATE_CHECKS + MOST_INPUTS;
+
+pub const BREAKING: usize = WRITTEN_OUTSIDE + 1;
+
+pub const RUNS_LEFT: usize = BREAKING + 1;
+
 // How many words the tables have.
-pub const TABLES: usize = STACK + MOST_GATES + 1;
+pub const TABLES: usize = RUNS_LEFT + 1;

@@ -1,6 +1,7 @@
 // The wires of the machine, in the lent area `values`: reading, refreshing pure gates, marking what a change reaches, and what is remembered of wires.
 use model::Value;
 
+pub mod bodies;
 pub mod checks;
 pub mod held;
 pub mod layout;
@@ -13,9 +14,9 @@ pub mod start;
 pub mod ticks;
 pub mod written;
 
-// The input that waits longest to be checked.
+// The input that waits longest to be checked, and whether it is marked for a late check.
 pub enum Waiting {
-    Input(usize),
+    Input(usize, bool),
     Nothing,
 }
 

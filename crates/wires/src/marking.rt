@@ -1,10 +1,10 @@
 // Marking: everything that reads an output is stale, through any depth of pure gates, and the watched inputs that this reaches wait to be checked.
 ghost use Rattle.model.specs.Base.{each};
 ghost use Rattle.model.specs.Circuit.{readers-of};
-ghost use Rattle.model.specs.Wires.{mark-reader, mark-on, mark-readers, invalidate, set-out};
+ghost use Rattle.model.specs.Wires.{mark-reader, mark-on, mark-readers-for, mark-readers, invalidate, set-out};
 ghost use Rattle.links.specs.Lent.{Linked, Room};
 ghost use Rattle.wires.specs.Lent.{Turns, Few-to-do, marking-in, Marks};
-use crate::checks::watch;
+use crate::checks::watch_for;
 use crate::layout::STACK;
 use crate::reading::show;
 use crate::reading::shown;
@@ -25,11 +25,12 @@ use value::same;
 use words::get;
 use words::put;
 
-// One reader, input i, where n outputs are on the stack: how many there are then. A pure gate that is stale already marks nothing further.
-fn mark_reader(links: &[usize], values: &mut [u8], n: usize, i: usize) -> usize
+// One reader, input i, where n outputs are on the stack: how many there are then. A pure gate that is stale already marks nothing further; `late` says
+// whether inputs are marked for a late check.
+fn mark_reader(links: &[usize], values: &mut [u8], n: usize, i: usize, late: bool) -> usize
     requires { ⌜ Linked links × Room values ⌝ }
-    requires { ⌜ Few-to-do links values n ⌝ }
-    ensures { λ r. ⌜ Marks links values n r (λ c m. mark-reader c m i) ⌝ }
+    requires { ⌜ Few-to-do links values n late ⌝ }
+    ensures { λ r. ⌜ Marks links values n r late (λ c m. mark-reader c m i) ⌝ }
 {
     let g = gate_at_input(links, i);
     if kinds::is_pure(kind_of_gate(links, g)) {
@@ -41,7 +42,7 @@ fn mark_reader(links: &[usize], values: &mut [u8], n: usize, i: usize) -> usize
             n
         }
     } else if watching(links, i) {
-        watch(links, values, i);
+        watch_for(links, values, i, late);
         n
     } else {
         n
@@ -49,27 +50,27 @@ fn mark_reader(links: &[usize], values: &mut [u8], n: usize, i: usize) -> usize
 }
 
 // The readers of output o, in their order.
-fn mark_row(links: &[usize], values: &mut [u8], n: usize, o: usize) -> usize
+fn mark_row(links: &[usize], values: &mut [u8], n: usize, o: usize, late: bool) -> usize
     requires { ⌜ Linked links × Room values ⌝ }
-    requires { ⌜ Few-to-do links values n ⌝ }
-    ensures { λ r. ⌜ Marks links values n r (λ c m. each (mark-reader c) m (readers-of c o)) ⌝ }
+    requires { ⌜ Few-to-do links values n late ⌝ }
+    ensures { λ r. ⌜ Marks links values n r late (λ c m. each (mark-reader c) m (readers-of c o)) ⌝ }
 {
     let first = first_reader(links, o);
     let count = reader_count(links, o);
     let mut h = n;
     let mut k = 0;
     while k < count {
-        h = mark_reader(links, values, h, reader(links, first + k));
+        h = mark_reader(links, values, h, reader(links, first + k), late);
         k += 1;
     }
     h
 }
 
 // The readers of the n outputs on the stack and of all that this finds, the last one found first, in at most `rounds` rounds.
-fn mark_on(links: &[usize], values: &mut [u8], n: usize, rounds: usize)
+fn mark_on(links: &[usize], values: &mut [u8], n: usize, rounds: usize, late: bool)
     requires { ⌜ Linked links × Room values ⌝ }
-    requires { ⌜ Few-to-do links values n ⌝ }
-    ensures { λ _. ⌜ Turns links values (λ c _. mark-on c rounds (marking-in links values n)) ⌝ }
+    requires { ⌜ Few-to-do links values n late ⌝ }
+    ensures { λ _. ⌜ Turns links values (λ c _. mark-on c rounds (marking-in links values n late)) ⌝ }
 {
     let mut h = n;
     let mut m = rounds;
@@ -78,18 +79,26 @@ fn mark_on(links: &[usize], values: &mut [u8], n: usize, rounds: usize)
             return;
         }
         let o = get(values, STACK + (h - 1)) as usize;
-        h = mark_row(links, values, h - 1, o);
+        h = mark_row(links, values, h - 1, o, late);
         m -= 1;
     }
 }
 
-// All that reads output o.
+// All that reads output o, for a late check if `late` says so: of a Var written only inside bodies.
+pub fn mark_readers_for(links: &[usize], values: &mut [u8], o: usize, late: bool)
+    requires { ⌜ Linked links × Room values ⌝ }
+    ensures { λ _. ⌜ Turns links values (λ c w. mark-readers-for c late w o) ⌝ }
+{
+    put(values, STACK, o as u64);
+    mark_on(links, values, 1, gates(links) + 1, late);
+}
+
+// All that reads any other output o.
 pub fn mark_readers(links: &[usize], values: &mut [u8], o: usize)
     requires { ⌜ Linked links × Room values ⌝ }
     ensures { λ _. ⌜ Turns links values (λ c w. mark-readers c w o) ⌝ }
 {
-    put(values, STACK, o as u64);
-    mark_on(links, values, 1, gates(links) + 1);
+    mark_readers_for(links, values, o, false);
 }
 
 // Time source g becomes stale itself, and all that reads it is marked.

@@ -7,6 +7,7 @@ ghost use Rattle.model.specs.Opening.{next-tick};
 ghost use Rattle.links.specs.Lent.{Linked, Room};
 ghost use Rattle.wires.specs.Lent.{wires-in, Turns, Tick-fits};
 use crate::layout::DT;
+use crate::layout::RUNS_LEFT;
 use crate::layout::TICK;
 use crate::layout::UNIONS_PASSED;
 use crate::layout::UPTIME;
@@ -54,7 +55,10 @@ pub fn dt(links: &[usize], values: &[u8]) -> u64
     get(values, DT)
 }
 
-// The next tick begins, of this length: no Union has passed.
+// How often bodies may be run in a tick.
+pub const MOST_RUNS: u64 = 100000;
+
+// The next tick begins, of this length: no Union has passed, and no body was run.
 pub fn next_tick(links: &[usize], values: &mut [u8], dt: u64)
     requires { ⌜ Linked links × Room values × Tick-fits links values ⌝ }
     ensures { λ _. ⌜ Turns links values (λ _ w. next-tick w dt) ⌝ }
@@ -65,4 +69,5 @@ pub fn next_tick(links: &[usize], values: &mut [u8], dt: u64)
     put(values, DT, dt);
     put(values, UPTIME, plus64(uptime, dt));
     put(values, UNIONS_PASSED, 0);
+    put(values, RUNS_LEFT, MOST_RUNS);
 }

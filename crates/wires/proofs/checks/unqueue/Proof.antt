@@ -12,15 +12,21 @@ add-put c = search needs
 put-requires : tie.Need-put-requires
 put-requires c κs = search needs
 
+add-put-2 : tie.Need-add-put-2
+add-put-2 c = search needs
+
+put-requires-2 : tie.Need-put-requires-2
+put-requires-2 c κs = search needs
+
 same-length : tie.Need-same-length
 same-length c = search needs
 
 returns : tie.Need-returns
-returns c = unqueue-in _ _ _ _ (c .before .before .before .before .before .inputs .ensures) _ (c .before .before .before .before .if1 .taken) (c .before .before .put .ensures)
+returns c = unqueue-in _ _ _ _ (c .before .before .before .before .before .before .before .before .before .inputs .ensures) _ _ (c .before .before .before .before .before .before .before .before .if1 .taken) (c .before .before .before .before .before .before .put .ensures) (c .before .before .put2 .ensures)
 
 returns-2 : tie.Need-returns-2
 returns-2 c = unqueue-past _ _ _ _ (c .before .inputs .ensures) (c .if1 .left)
 
 pub unqueue-spec : {M : Type 1} → statement M
 unqueue-spec =
-    tie.close (tie.spec inputs-requires add-put put-requires same-length returns returns-2)
+    tie.close (tie.spec inputs-requires add-put put-requires add-put-2 put-requires-2 same-length returns returns-2)

@@ -194,7 +194,7 @@ refresh-to-same-length : (t : ℕ) → refresh-to-lts.Need-same-length (refresh-
 refresh-to-same-length t c = search needs
 
 refresh-to-returns : (t : ℕ) → refresh-to-lts.Need-returns (refresh-to-claims t) (refresh-to-at t) refresh-to.Post
-refresh-to-returns t c = refresh-stale _ _ _ _ _ _ _ _ _ (c .before .before .before .before .before .before .before .before .before .before .before .before .before .if1 .taken) (c .before .before .before .before .before .before .before .before .before .before .before .is-dirty .ensures) (c .before .before .before .before .before .before .before .before .before .before .if2 .taken) (c .before .before .before .before .before .before .before .before .before .input .ensures) (c .before .before .before .before .before .before .before .before .inputs-of .ensures) (c .before .before .before .before .before .before .refresh-sources .ensures) (c .before .before .recompute .ensures)
+refresh-to-returns t c = let a = c .before .before .before .before .before .before .before .before .before .before .before .before .before .before .before .before .args in refresh-stale (net (a .links .now)) (view (net (a .links .now)) (a .values .now)) (a .g) (a .deep) _ _ _ _ _ (c .before .before .before .before .before .before .before .before .before .before .before .before .before .if1 .taken) (c .before .before .before .before .before .before .before .before .before .before .before .is-dirty .ensures) (c .before .before .before .before .before .before .before .before .before .before .if2 .taken) (c .before .before .before .before .before .before .before .before .before .input .ensures) (c .before .before .before .before .before .before .before .before .inputs-of .ensures) (c .before .before .before .before .before .before .refresh-sources .ensures) (c .before .before .recompute .ensures)
 
 refresh-to-same-length-2 : (t : ℕ) → refresh-to-lts.Need-same-length-2 (refresh-to-claims t) (refresh-to-at t) refresh-to.Post
 refresh-to-same-length-2 t c = search needs

@@ -1,6 +1,6 @@
+use Rattle.wires.proofs.Memory.{tick-word, ticked}
 use Rattle.links.specs.Links.{net}
 use native.Mathlib.Omega.{arith}
-use Rattle.wires.proofs.Memory.{tick-word, ticked}
 use borrow.Author.Needs.{needs}
 use Rattle.wires.proofs.ticks.next_tick.Statement.{statement}
 use Rattle.wires.proofs.ticks.next_tick.Tie as tie
@@ -29,11 +29,14 @@ put-requires-3 c κs = search needs
 put-requires-4 : tie.Need-put-requires-4
 put-requires-4 c κs = search needs
 
+put-requires-5 : tie.Need-put-requires-5
+put-requires-5 c κs = search needs
+
 same-length : tie.Need-same-length
 same-length c = search needs
 
 returns : tie.Need-returns
-returns c = ticked _ _ _ _ _ _ _ _ _ _ (search needs) (c .before .before .before .before .before .before .before .before .before .before .before .before .before .before .before .before .before .before .before .get .ensures) (c .before .before .before .before .before .before .before .before .before .before .before .before .before .before .before .before .before .get2 .ensures) (c .before .before .before .before .before .before .before .before .before .before .before .before .before .before .before .put .ensures) (c .before .before .before .before .before .before .before .before .before .before .before .put2 .ensures) (c .before .before .before .before .before .before .before .plus64 .ensures) (c .before .before .before .before .before .before .put3 .ensures) (c .before .before .put4 .ensures)
+returns c = ticked _ _ _ _ _ _ _ _ _ _ _ (search needs) (c .before .before .before .before .before .before .before .before .before .before .before .before .before .before .before .before .before .before .before .before .before .before .before .get .ensures) (c .before .before .before .before .before .before .before .before .before .before .before .before .before .before .before .before .before .before .before .before .before .get2 .ensures) (c .before .before .before .before .before .before .before .before .before .before .before .before .before .before .before .before .before .before .before .put .ensures) (c .before .before .before .before .before .before .before .before .before .before .before .before .before .before .before .put2 .ensures) (c .before .before .before .before .before .before .before .before .before .before .before .plus64 .ensures) (c .before .before .before .before .before .before .before .before .before .before .put3 .ensures) (c .before .before .before .before .before .before .put4 .ensures) (c .before .before .put5 .ensures)
 
 pub next-tick-spec : {M : Type 1} → statement M
 next-tick-spec =
@@ -47,5 +50,6 @@ next-tick-spec =
     plus64-requires
     put-requires-3
     put-requires-4
+    put-requires-5
     same-length
     returns)

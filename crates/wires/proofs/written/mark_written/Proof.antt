@@ -1,4 +1,4 @@
-use Rattle.model.specs.Wires.{mark-readers as mark-all}
+use Rattle.model.specs.Settle.{publish-write as publish-one}
 use Prim.Native.Nat.{_-_, _≤_}
 use mathlib.Core.Path.{_≡_, refl}
 use lib.ListN.{length, drop}
@@ -12,7 +12,7 @@ use Rattle.wires.proofs.written.mark_written.Statement.{statement}
 use Rattle.wires.proofs.written.mark_written.Tie as tie
 
 abbrev Inv-loop : tie.InvT-loop
-Inv-loop links values₀ n k₀ values k = (length values ≡ length values₀) × (k ≤ n) × (view (net links) values .wires .written ≡ view (net links) values₀ .wires .written) × (each (step (mark-all (net links))) (view (net links) values) (drop k (view (net links) values₀ .wires .written)) ≡ with-wires (view (net links) values₀) (each (mark-all (net links)) (view (net links) values₀ .wires) (view (net links) values₀ .wires .written)))
+Inv-loop links values₀ n k₀ values k = (length values ≡ length values₀) × (k ≤ n) × (view (net links) values .wires .written ≡ view (net links) values₀ .wires .written) × (each (step (publish-one (net links))) (view (net links) values) (drop k (view (net links) values₀ .wires .written)) ≡ with-wires (view (net links) values₀) (each (publish-one (net links)) (view (net links) values₀ .wires) (view (net links) values₀ .wires .written)))
 
 abbrev μ-loop : tie.MeasureT-loop
 μ-loop links values₀ n k₀ values k = n - k
@@ -29,8 +29,8 @@ add-get c = search needs
 get-requires : tie.Need-get-requires Inv-loop μ-loop
 get-requires c κs = search needs
 
-mark-readers-requires : tie.Need-mark-readers-requires Inv-loop μ-loop
-mark-readers-requires c κs = search needs
+publish-write-requires : tie.Need-publish-write-requires Inv-loop μ-loop
+publish-write-requires c κs = search needs
 
 add-k : tie.Need-add-k Inv-loop μ-loop
 add-k c = search needs
@@ -39,7 +39,7 @@ loop-less : tie.Need-loop-less Inv-loop μ-loop
 loop-less c = search needs
 
 loop-again : tie.Need-loop-again Inv-loop μ-loop
-loop-again c = (search needs, search needs, writes-kept _ _ _ _ _ (c .before .before .mark-readers .ensures) (c .before .before .before .before .before .before .before .loop .inv .2), writes-next _ _ _ _ _ _ _ _ (c .before .before .before .before .before .before .before .before .written .ensures) (c .before .before .before .before .before .before .loop-test .taken) (c .before .before .before .before .before .before .before .loop .inv .2) (c .before .before .before .get .ensures) (c .before .before .mark-readers .ensures) (c .before .before .before .before .before .before .before .loop .inv .3))
+loop-again c = (search needs, search needs, writes-kept _ _ _ _ _ (c .before .before .publish-write .ensures) (c .before .before .before .before .before .before .before .loop .inv .2), writes-next _ _ _ _ _ _ _ _ (c .before .before .before .before .before .before .before .before .written .ensures) (c .before .before .before .before .before .before .loop-test .taken) (c .before .before .before .before .before .before .before .loop .inv .2) (c .before .before .before .get .ensures) (c .before .before .publish-write .ensures) (c .before .before .before .before .before .before .before .loop .inv .3))
 
 same-length : tie.Need-same-length Inv-loop μ-loop
 same-length c = search needs
@@ -57,7 +57,7 @@ mark-written-spec =
     loop-holds
     add-get
     get-requires
-    mark-readers-requires
+    publish-write-requires
     add-k
     loop-less
     loop-again
