@@ -11,7 +11,7 @@ use types.Run.{OneOf, miss}
 use Rattle.model.specs.Base.{all}
 use Rattle.model.proofs.Lists.{both-true}
 use Rattle.kinds.specs.declared.Pin.{Pin}
-use Rattle.kinds.specs.declared.Pin.the-variants.{Exec, ExecOnly, Value, Watched, Route, Anything, Ticks, Seconds, Variable, Channel}
+use Rattle.kinds.specs.declared.Pin.the-variants.{Exec, ExecOnly, Value, Watched, Route, Anything, Ticks, Seconds, Variable, Channel, Loop}
 use Rattle.kinds.specs.declared.Out.{Out}
 use Rattle.kinds.specs.declared.Out.the-variants.{Fires, Shows, Passes}
 use Rattle.kinds.proofs.Pin.{the-type as Pins}
@@ -49,7 +49,7 @@ module _ {A : Type 0} (tag : A → ℕ) (cases : List A) (d : A) (f : A → Bool
 -- ---- pins
 
 abbrev pub pins : List Pin
-pins = Exec ∷ ExecOnly ∷ Value ∷ Watched ∷ Route ∷ Anything ∷ Ticks ∷ Seconds ∷ Variable ∷ Channel ∷ []
+pins = Exec ∷ ExecOnly ∷ Value ∷ Watched ∷ Route ∷ Anything ∷ Ticks ∷ Seconds ∷ Variable ∷ Channel ∷ Loop ∷ []
 
 pin-found : (p : Pin) → (tagOf Pins p < length pins) × (getD pins (tagOf Pins p) Exec ≡ p)
 pin-found Exec = (omega arith, refl)
@@ -62,6 +62,7 @@ pin-found Ticks = (omega arith, refl)
 pin-found Seconds = (omega arith, refl)
 pin-found Variable = (omega arith, refl)
 pin-found Channel = (omega arith, refl)
+pin-found Loop = (omega arith, refl)
 
 pub pin-is : (k : ℕ) (p : Pin) → tagOf Pins p ≡ k → p ≡ getD pins k Exec
 pin-is k p e = sym (pin-found p .1) ∙ ap (λ n. getD pins n Exec) e

@@ -1,11 +1,12 @@
 -- Questions 3, 7, 9 and 10 from what is asked of their parts.
-use Prim.Native.Nat.{ℕ, suc, _+_, _*_, _≤_, _<_, max}
+use Prim.Native.Nat.{ℕ, suc, _+_, _*_, _/_, _≤_, _<_, max}
 use mathlib.Core.Path.{_≡_, refl, sym, ap, _∙_}
 use mathlib.Core.Bool.{Bool, true, false, not, _&&_, and-assoc, and-comm}
 use mathlib.Core.List.{List, [], _∷_, map}
 use mathlib.Core.Option.{none, some}
 use native.Mathlib.Nat.{add-zero}
 use native.Mathlib.Omega.{arith}
+use borrow.Author.Tests.{le-leb, lt-leb, leb-true, leb-false}
 use lib.Dec.{eqb, leb, leb·suc-suc}
 use lib.ListN.{length, getD}
 use Rattle.words.specs.Words.{words}
@@ -32,14 +33,27 @@ swapped a b c = and-assoc a c b ∙ ap (λ (x : Bool). a && x) (and-comm c b) �
 
 -- ---- question 3
 
+-- the word of rank and body is at most the last one of body b exactly where the body is at most b
+place-within : (b w : ℕ) → within 0 (65536 * b + 65535) w ≡ within 0 b (w / 65536)
+place-within b w = within-zero (65536 * b + 65535) w ∙ go (leb (w / 65536) b) refl ∙ sym (within-zero b (w / 65536))
+  where
+    go : (t : Bool) → leb (w / 65536) b ≡ t → leb w (65536 * b + 65535) ≡ t
+    go true e = let l = leb-true (w / 65536) b e in le-leb w (65536 * b + 65535) (omega arith)
+    go false e = let l = leb-false (w / 65536) b e in lt-leb w (65536 * b + 65535) (omega arith)
+
+places-within : (b : ℕ) (ws : List ℕ) → all (within 0 (65536 * b + 65535)) ws ≡ all (within 0 b) (map (λ w. w / 65536) ws)
+unfolding all
+places-within b [] = refl
+places-within b (w ∷ ws) = λ j. place-within b w j && places-within b ws j
+
 pub gates-are :
     (ws : List ℕ) (G K I : ℕ) (t u : Bool) → G ≡ getD ws 0 0 → K ≡ getD ws 1 0 → I ≡ getD ws 2 0 →
     t ≡ (all (within 1 28) (part ws (4 + 2 * K) G) && eqb (sum (map (λ k. length (kind-at k .ins)) (part ws (4 + 2 * K) G))) I) →
     u ≡ all (within 0 65535) (part ws (4 + 2 * K + G) G) → (t && u) ≡ question-3 ws (circuit ws)
 unfolding question-3 circuit word-at
 gates-are ws G K I t u g k i et eu =
-    rw (et, eu, ← g, ← k, ← i)
-    (swapped (all (within 1 28) (part ws (4 + 2 * K) G)) (all (within 0 65535) (part ws (4 + 2 * K + G) G)) (eqb (sum (map (λ k. length (kind-at k .ins)) (part ws (4 + 2 * K) G))) I))
+    rw (et, eu ∙ places-within 0 (part ws (4 + 2 * K + G) G), ← g, ← k, ← i)
+    (swapped (all (within 1 28) (part ws (4 + 2 * K) G)) (all (within 0 0) (map (λ w. w / 65536) (part ws (4 + 2 * K + G) G))) (eqb (sum (map (λ k. length (kind-at k .ins)) (part ws (4 + 2 * K) G))) I))
 
 -- ---- question 7
 

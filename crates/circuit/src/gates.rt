@@ -1,4 +1,4 @@
-// Question 3: are kinds 1 to 28, ranks 0 to 65,535, and are the inputs as many as these kinds have?
+// Question 3: are kinds 1 to 28, the words of their ranks 0 to 65,535, and are the inputs as many as these kinds have?
 ghost use mathlib.Core.Path.{_≡_};
 ghost use mathlib.Core.Bool.{true, _&&_};
 ghost use mathlib.Core.List.{map};

@@ -12,6 +12,7 @@ ghost use Rattle.kinds.specs.Pins.{in-of};
 ghost use Rattle.links.specs.Lent.{Linked, net-of};
 use kinds::Out;
 use kinds::Pin;
+use kinds::numbers::LOOP;
 use kinds::numbers::VAR;
 use links::layout::MINUS_ONE;
 use model::Value;
@@ -116,14 +117,14 @@ fn float_or_nothing(v: Value) -> bool
     }
 }
 
-// The Int number of a Var.
-fn names_variable(links: &[usize], v: Value) -> bool
+// The Int number of a gate of this kind.
+fn names_gate(links: &[usize], kind: u64, v: Value) -> bool
     requires { ⌜ Linked links ⌝ }
-    ensures { λ r. ⌜ r ≡ int-such-that (λ g. eqb (kind-of-gate (net-of links) g) 5) v ⌝ }
+    ensures { λ r. ⌜ r ≡ int-such-that (λ g. eqb (kind-of-gate (net-of links) g) kind) v ⌝ }
 {
     match v {
         Value::Nothing => false,
-        Value::Int(g) => links::kind_of_gate(links, g as usize) == VAR,
+        Value::Int(g) => links::kind_of_gate(links, g as usize) == kind,
         Value::Float(_) => false,
         Value::Bool(_) => false,
     }
@@ -149,8 +150,9 @@ fn good_setting(links: &[usize], pin: Pin, v: Value) -> bool
     match pin {
         Pin::Ticks => int_or_nothing(v),
         Pin::Seconds => float_or_nothing(v),
-        Pin::Variable => names_variable(links, v),
+        Pin::Variable => names_gate(links, VAR, v),
         Pin::Channel => names_channel(v),
+        Pin::Loop => names_gate(links, LOOP, v),
         _ => true,
     }
 }

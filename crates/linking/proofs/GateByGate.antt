@@ -1,5 +1,5 @@
 -- What the functions that go gate by gate cite.
-use Prim.Native.Nat.{ℕ, _+_, _*_, _≤_, _<_}
+use Prim.Native.Nat.{ℕ, _+_, _*_, _/_, _%_, _≤_, _<_}
 use mathlib.Core.Path.{_≡_, refl, sym, ap, _∙_}
 use mathlib.Core.Bool.{Bool, true, false, not}
 use mathlib.Core.List.{List, [], _∷_}
@@ -15,14 +15,22 @@ use Rattle.model.specs.Value.{bit}
 use Rattle.model.specs.Kinds.{In, value, kind-at, kinds-opened}
 use Rattle.model.specs.Circuit.{minus-one, source-of, has-source, is-watched}
 use Rattle.kinds.specs.declared.Pin.{Pin}
-use Rattle.kinds.specs.declared.Pin.the-variants.{Exec, ExecOnly, Value, Watched, Route, Anything, Ticks, Seconds, Variable, Channel}
+use Rattle.kinds.specs.declared.Pin.the-variants.{Exec, ExecOnly, Value, Watched, Route, Anything, Ticks, Seconds, Variable, Channel, Loop}
 use Rattle.kinds.specs.Pins.{in-of}
 use Rattle.kinds.proofs.Pin.{the-type}
 use Rattle.kinds.proofs.Laws.{few-inputs, few-outputs}
-use Rattle.links.specs.Links.{packed}
+use Rattle.links.specs.Links.{packed, paired}
 use Rattle.links.proofs.Reading.{listed-length}
-use Rattle.linking.specs.Building.{written, below, Small, ins-at, outs-at, gate-cell, input-cell, input-cells, output-cells}
+use Rattle.linking.specs.Building.{written, below, Small, Gates, ins-at, outs-at, gate-cell, input-cell, input-cells, output-cells}
 use Rattle.linking.proofs.Loops.{below-most}
+
+-- ---- numbers that are small enough
+
+pub word-small : (ws : List ℕ) (a g n m v : ℕ) → Small ws a n m → g < n → v ≡ getD ws (a + g) 0 → v < m
+word-small ws a g n m v s l e = let q = s g l in omega arith
+
+pub entry-small : (es : List ℕ) (g n e : ℕ) → Gates es n → g < n → e ≡ getD es g 0 → e < 64
+entry-small es g n e s l q = let h = s g l in omega arith
 
 -- ---- how many inputs and outputs a gate has
 
@@ -57,19 +65,10 @@ module _ (ws : List ℕ) (kinds : ℕ) where
 
   -- ---- the cell of a gate
 
-  pub kind-small : (g n v : ℕ) → Small ws kinds (2 * n) → g < n → v ≡ getD ws (kinds + g) 0 → v < 65536
-  kind-small g n v s l e = let q = s g (omega arith) in omega arith
-
-  pub rank-small : (g n v : ℕ) → Small ws kinds (2 * n) → g < n → v ≡ getD ws (kinds + n + g) 0 → v < 65536
-  rank-small g n v s l e =
-      let a : kinds + (n + g) ≡ kinds + n + g = omega arith in
-      let q : getD ws (kinds + n + g) 0 < 65536 = rw a at (s (n + g) (omega arith)) in
-      omega arith
-
-  pub gate-is : (n g k r i o v : ℕ) → i ≡ below (ins-at ws kinds) g → o ≡ below (outs-at ws kinds) g → k ≡ getD ws (kinds + g) 0 → r ≡ getD ws (kinds + n + g) 0 → v ≡ packed k r i o →
-      v ≡ gate-cell ws kinds n g
-  unfolding gate-cell
-  gate-is n g k r i o v ei eo ek er e = rw (e, ei, eo, ek, er)
+  pub gate-is : (n g k w i e o v : ℕ) (es : List ℕ) → i ≡ below (ins-at ws kinds) g → o ≡ below (outs-at ws kinds) g → k ≡ getD ws (kinds + g) 0 → w ≡ getD ws (kinds + n + g) 0 →
+      e ≡ getD es g 0 → v ≡ packed (k + 256 * (w / 65536)) (w % 65536) (i + 1024 * e) o → v ≡ gate-cell ws kinds n es g
+  unfolding gate-cell paired
+  gate-is n g k w i e o v es ei eo ek ew ee q = rw (q, ei, eo, ek, ew, ee)
 
   -- ---- the cells of a gate's inputs and outputs
 
@@ -118,6 +117,7 @@ watched-exec Ticks i w e t = absurd (omega arith)
 watched-exec Seconds i w e t = absurd (omega arith)
 watched-exec Variable i w e t = absurd (omega arith)
 watched-exec Channel i w e t = absurd (omega arith)
+watched-exec Loop i w e t = absurd (omega arith)
 
 pub watched-always : (p : Pin) (i : In) (w : ℕ) → in-of p ≡ i → tag p ≡ 3 → true ≡ is-watched i (source-of w)
 unfolding in-of is-watched kinds-opened
@@ -131,19 +131,21 @@ watched-always Ticks i w e t = absurd (omega arith)
 watched-always Seconds i w e t = absurd (omega arith)
 watched-always Variable i w e t = absurd (omega arith)
 watched-always Channel i w e t = absurd (omega arith)
+watched-always Loop i w e t = absurd (omega arith)
 
-pub watched-never : (p : Pin) (i : In) (w : ℕ) → in-of p ≡ i → OneOf (1 ∷ 2 ∷ 4 ∷ 5 ∷ 6 ∷ 7 ∷ 8 ∷ 9 ∷ []) (tag p) → false ≡ is-watched i (source-of w)
+pub watched-never : (p : Pin) (i : In) (w : ℕ) → in-of p ≡ i → OneOf (1 ∷ 2 ∷ 4 ∷ 5 ∷ 6 ∷ 7 ∷ 8 ∷ 9 ∷ 10 ∷ []) (tag p) → false ≡ is-watched i (source-of w)
 unfolding in-of is-watched kinds-opened
-watched-never Exec i w e t = absurd (miss (1 ∷ 2 ∷ 4 ∷ 5 ∷ 6 ∷ 7 ∷ 8 ∷ 9 ∷ []) 0 tt t)
+watched-never Exec i w e t = absurd (miss (1 ∷ 2 ∷ 4 ∷ 5 ∷ 6 ∷ 7 ∷ 8 ∷ 9 ∷ 10 ∷ []) 0 tt t)
 watched-never ExecOnly i w e t = rw (← e)
 watched-never Value i w e t = rw (← e)
-watched-never Watched i w e t = absurd (miss (1 ∷ 2 ∷ 4 ∷ 5 ∷ 6 ∷ 7 ∷ 8 ∷ 9 ∷ []) 3 tt t)
+watched-never Watched i w e t = absurd (miss (1 ∷ 2 ∷ 4 ∷ 5 ∷ 6 ∷ 7 ∷ 8 ∷ 9 ∷ 10 ∷ []) 3 tt t)
 watched-never Route i w e t = rw (← e)
 watched-never Anything i w e t = rw (← e)
 watched-never Ticks i w e t = rw (← e)
 watched-never Seconds i w e t = rw (← e)
 watched-never Variable i w e t = rw (← e)
 watched-never Channel i w e t = rw (← e)
+watched-never Loop i w e t = rw (← e)
 
 -- the cell, from the answer of `watched`
 pub input-is : (kind g source p v n : ℕ) (t b : Bool) → t ≡ is-watched (getD (kind-at kind .ins) p value) (source-of source) → t ≡ b → n ≡ bit b → v ≡ packed g n 0 0 → v ≡ input-cell kind g source p

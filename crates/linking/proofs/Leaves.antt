@@ -7,7 +7,7 @@ use native.Mathlib.Nat.{two-pow-succ}
 use native.Mathlib.Omega.{arith}
 use borrow.Author.Tests.{lt-ltb, le-ltb, le-leb, lt-leb, eq-eqb, ne-eqb, leb-true}
 use lib.Dec.{leb}
-use lib.ListN.{length, getD, set}
+use lib.ListN.{length, getD, set, replicate}
 use lib.Pow.{pow-mono}
 use lib.Seq.{set-out, sets}
 use Rattle.floats.proofs.Bits.{unit-is}
@@ -15,7 +15,7 @@ use Rattle.model.specs.Base.{if_then_else_, joined}
 use Rattle.model.specs.Questions.{within}
 use Rattle.model.proofs.Lists.{both-true}
 use Rattle.links.specs.Links.{gates-at, sources-at, stored-kinds-at, stored-contents-at, inputs-at, outputs-at, constant-kinds-at, constant-contents-at, total, listed}
-use Rattle.linking.specs.Building.{written, below, named-word, gate-bit, outs-at, bits-of, gate-cell, input-cells, output-cells, lists-written, word-cells, gates-written, inputs-written, constants-written, all-written}
+use Rattle.linking.specs.Building.{written, below, named-word, gate-bit, outs-at, bits-of, gate-cell, input-cells, output-cells, lists-written, named-by, entered, entries-found, word-cells, gates-written, inputs-written, constants-written, all-written}
 use Rattle.linking.proofs.Loops.{below-next, below-add}
 
 -- ---- cells
@@ -127,10 +127,10 @@ words-stored ws kinds n l l₁ l₂ l₃ l₄ l₅ e₁ e₂ e₃ e₄ e₅ = rw
 
 -- ---- one group of tables after the other
 
-pub gates-are : (ws : List ℕ) (kinds G K I O : ℕ) (l l₁ l₂ l₃ l₄ : List ℕ) → l₁ ≡ sets l 0 (G ∷ K ∷ I ∷ O ∷ []) → l₂ ≡ sets l₁ 4 (word-cells ws kinds G) →
-    l₃ ≡ written l₂ gates-at G (gate-cell ws kinds G) → l₄ ≡ sets l₃ outputs-at (joined (listed G (output-cells ws kinds))) → l₄ ≡ gates-written ws kinds G K I O l
-unfolding gates-written
-gates-are ws kinds G K I O l l₁ l₂ l₃ l₄ e₁ e₂ e₃ e₄ = rw (e₄, e₃, e₂, e₁)
+pub gates-are : (ws : List ℕ) (kinds G s K I O : ℕ) (es l l₁ l₂ l₃ l₄ : List ℕ) → es ≡ entered (named-by ws kinds s K) G (replicate 64 0) → l₁ ≡ sets l 0 (G ∷ K ∷ I ∷ O ∷ []) → l₂ ≡ sets l₁ 4 (word-cells ws kinds G) →
+    l₃ ≡ written l₂ gates-at G (gate-cell ws kinds G es) → l₄ ≡ sets l₃ outputs-at (joined (listed G (output-cells ws kinds))) → l₄ ≡ gates-written ws kinds G s K I O l
+unfolding gates-written entries-found
+gates-are ws kinds G s K I O es l l₁ l₂ l₃ l₄ e e₁ e₂ e₃ e₄ = rw (e₄, e₃, e₂, e₁, e)
 
 pub inputs-are : (ws : List ℕ) (kinds G s I K : ℕ) (l l₁ l₂ l₃ l₄ : List ℕ) → l₁ ≡ written l sources-at I (λ i. getD ws (s + i) 0) →
     l₂ ≡ written l₁ stored-kinds-at I (λ i. named-word ws 4 K (getD ws (s + I + i) 0)) → l₃ ≡ written l₂ stored-contents-at I (λ i. named-word ws (4 + K) K (getD ws (s + I + i) 0)) →
@@ -144,7 +144,7 @@ unfolding constants-written
 constants-are ws K l l₁ l₂ e₁ e₂ = rw (e₂, e₁)
 
 pub all-are : (ws : List ℕ) (G K I C O : ℕ) (l l₁ l₂ l₃ l₄ l₅ : List ℕ) → O ≡ below (outs-at ws (4 + 2 * K)) G → l₁ ≡ written l 0 total (λ k. 0) →
-    l₂ ≡ gates-written ws (4 + 2 * K) G K I O l₁ → l₃ ≡ inputs-written ws (4 + 2 * K) G (4 + 2 * K + 2 * G) I K l₂ →
+    l₂ ≡ gates-written ws (4 + 2 * K) G (4 + 2 * K + 2 * G + I) K I O l₁ → l₃ ≡ inputs-written ws (4 + 2 * K) G (4 + 2 * K + 2 * G) I K l₂ →
     l₄ ≡ lists-written ws (4 + 2 * K + 2 * G) I (4 + 2 * K + 2 * G + 2 * I) C O l₃ → l₅ ≡ constants-written ws K l₄ → l₅ ≡ all-written ws G K I C l
 unfolding all-written
 all-are ws G K I C O l l₁ l₂ l₃ l₄ l₅ eo e₁ e₂ e₃ e₄ e₅ = rw (e₅, e₄, e₃, e₂, e₁, eo)

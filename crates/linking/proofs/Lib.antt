@@ -10,6 +10,8 @@ pub mod Chaining
 pub mod Members
 -- gate by gate
 pub mod GateByGate
+-- the entries: `first-named`, `names-gate`
+pub mod Entering
 -- tables one behind the other: `cleared`, `table-put`
 pub mod Tables
 -- the tables of the definition, as they are written

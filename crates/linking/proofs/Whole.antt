@@ -1,33 +1,34 @@
 -- The builder's theorem: what it writes is `cells` of the circuit.
-use Prim.Native.Nat.{ℕ, _+_, _-_, _*_, _≤_, _<_}
-use mathlib.Core.Path.{_≡_, refl, sym, ap, _∙_}
+use Prim.Native.Nat.{ℕ, suc, _+_, _*_, _/_, _%_, _≤_, _<_}
+use mathlib.Core.Path.{_≡_, refl, sym, ap, ap₂, _∙_}
 use mathlib.Core.Bool.{Bool, true, false, _&&_, _||_}
 use mathlib.Core.List.{List, [], _∷_, map}
 use mathlib.Core.Option.{Option}
 use native.Mathlib.Omega.{arith}
-use borrow.Author.Tests.{ltb-true, ltb-false}
-use lib.Dec.{eqb, ltb}
-use lib.ListN.{length, getD, length-map}
+use lib.Dec.{eqb}
+use lib.ListN.{length, getD, length-map, List·getD-map}
 use Rattle.model.specs.declared.Value.{Value}
 use Rattle.model.specs.declared.Value.the-variants.{Nothing}
 use Rattle.model.specs.Base.{keep, all, joined, both, from, sum}
 use Rattle.model.specs.Value.{value-of, kind-of, content-of, bit}
-use Rattle.model.specs.Kinds.{Out, kind-at, time-source, buffering, receiving}
-use Rattle.model.specs.Circuit.{Call, part, word-at, source-of, reads, listed-call, calls-from, circuit}
+use Rattle.model.specs.Kinds.{In, Out, kind-at, time-source, buffering, receiving, kinds-opened}
+use Rattle.model.specs.Circuit.{Call, part, word-at, source-of, reads, listed-call, calls-from, names, circuit}
 use Rattle.model.specs.Questions.{within, good-constant, yes-all, question-1, question-2, question-3}
-use Rattle.model.proofs.Lists.{both-true, all-places}
+use Rattle.model.proofs.Lists.{both-true, all-places, from-same}
 use Rattle.model.proofs.Sizes.{all-within, Sizes, sizes}
 use Rattle.model.proofs.Laid.{filled}
-use Rattle.links.specs.Links.{total, table-of, source-cell, call-cell, gate-cells, row-cells, named, count-cells, cells, listed, packed}
+use Rattle.value.proofs.Laws.{made-again}
+use Rattle.links.specs.Links.{total, table-of, source-cell, call-cell, gate-cells, row-cells, named, count-cells, cells, listed, packed, paired}
 use Rattle.links.proofs.Reading.{listed-length, listed-in}
 use Rattle.links.proofs.Tables.{table-sizes}
-use Rattle.linking.specs.Building.{written, below, named-word, Small, row-of, members, lists-written, ins-at, outs-at, gate-cell, input-cells, output-cells, word-cells, gates-written, inputs-written, constants-written, all-written}
-use Rattle.linking.proofs.Loops.{below-same}
-use Rattle.linking.proofs.Elements.{map-listed, both-listed, part-listed, joined-length}
+use Rattle.linking.specs.Building.{written, below, named-word, Small, row-of, members, lists-written, ins-at, outs-at, gate-cell, input-cells, output-cells, value-named, named-by, entries-found, word-cells, gates-written, inputs-written, constants-written, all-written}
+use Rattle.linking.proofs.Loops.{below-same, below-mono}
+use Rattle.linking.proofs.Elements.{map-listed, both-listed, part-listed, joined-length, keep-from}
 use Rattle.linking.proofs.Members.{members-most}
+use Rattle.linking.proofs.Entering.{names-gate, first-named}
 use Rattle.linking.proofs.Tables.{tables, cleared, table-put}
 use Rattle.linking.proofs.GateByGate.{ins-below, outs-below, inputs-size, outputs-size}
-use Rattle.linking.proofs.Written.{gate-table, output-table, word-within, word-within-two, one-kind, two-kinds, source-table, constant-back, constant-table, stored-table}
+use Rattle.linking.proofs.Written.{first-table, gate-table, output-table, word-within, word-within-two, one-kind, two-kinds, source-table, constant-back, constant-table, stored-table}
 use Rattle.linking.proofs.Pins.{input-table, reader-lists, call-at, call-lists, call-table, row-table}
 
 -- ---- the tests of kinds, as ranges
@@ -76,9 +77,25 @@ module _ {bytes : List ℕ} (ws : List ℕ) (z : Sizes bytes ws) where
   unfolding circuit word-at
   kinds-are = part-listed ws kinds G (omega (arith, z .counted))
 
-  ranks-are : circuit ws .ranks ≡ listed G (λ g. getD ws (kinds + G + g) 0)
+  -- what is worked out of the word of each rank and body
+  places-are : (f : ℕ → ℕ) → map f (part ws (kinds + G) G) ≡ listed G (λ g. f (getD ws (kinds + G + g) 0))
+  places-are f = ap (λ (r : List ℕ). map f r) (part-listed ws (kinds + G) G (omega (arith, z .counted))) ∙ map-listed f G (λ g. getD ws (kinds + G + g) 0)
+
+  ranks-are : circuit ws .ranks ≡ listed G (λ g. getD ws (kinds + G + g) 0 % 65536)
   unfolding circuit word-at
-  ranks-are = part-listed ws (kinds + G) G (omega (arith, z .counted))
+  ranks-are = places-are (λ w. w % 65536)
+
+  bodies-are : circuit ws .bodies ≡ listed G (λ g. getD ws (kinds + G + g) 0 / 65536)
+  unfolding circuit word-at
+  bodies-are = places-are (λ w. w / 65536)
+
+  first-inputs-are : circuit ws .first-input ≡ listed G (below (ins-at ws kinds))
+  unfolding circuit word-at ins-at
+  first-inputs-are = first-table ws kinds G (λ k. kind-at k .ins) (circuit ws .kinds) kinds-are
+
+  first-outputs-are : circuit ws .first-output ≡ listed G (below (outs-at ws kinds))
+  unfolding circuit word-at outs-at
+  first-outputs-are = first-table ws kinds G (λ k. kind-at k .outs) (circuit ws .kinds) kinds-are
 
   sources-are : circuit ws .sources ≡ listed I (λ i. source-of (getD ws (sources + i) 0))
   unfolding circuit word-at
@@ -133,10 +150,6 @@ module _ {bytes : List ℕ} (ws : List ℕ) (z : Sizes bytes ws) where
 
   -- ---- the tables that ask no more than the sizes
 
-  gates-table : gate-cells (circuit ws .kinds) (circuit ws .ranks) (circuit ws .first-input) (circuit ws .first-output) ≡ listed G (gate-cell ws kinds G)
-  unfolding circuit
-  gates-table = gate-table ws kinds G (circuit ws .kinds) (circuit ws .ranks) kinds-are ranks-are
-
   outputs-table : circuit ws .gate-of-output ≡ joined (listed G (output-cells ws kinds))
   unfolding circuit
   outputs-table = output-table ws kinds G (circuit ws .kinds) kinds-are
@@ -184,12 +197,76 @@ module _ {bytes : List ℕ} (ws : List ℕ) (z : Sizes bytes ws) where
         ap (λ (r : List Value). map content-of r) stored-are
         ∙ stored-table K constant-kind constant-content content-of refl constant-content (λ k l. constant-back (constant-kind k) (constant-content k) (good k l) .1) ws (4 + K) (λ k. refl) I (λ i. getD ws (sources + I + i) 0)
 
+    -- the value stored in input i
+    stored-at : (i : ℕ) → i < I → getD (circuit ws .stored) i Nothing ≡ value-named ws K (getD ws (sources + I + i) 0)
+    unfolding value-named kind-of content-of
+    stored-at i l =
+        let v = getD (circuit ws .stored) i Nothing in
+        let name : ℕ → ℕ = λ i. getD ws (sources + I + i) 0 in
+        let k : kind-of v ≡ named-word ws 4 K (name i)
+        = sym (List·getD-map kind-of (circuit ws .stored) i Nothing) ∙ ap (λ (r : List ℕ). getD r i 0) stored-kinds-table ∙ listed-in I (λ i. named-word ws 4 K (name i)) i 0 l in
+        let b : content-of v ≡ named-word ws (4 + K) K (name i)
+        = sym (List·getD-map content-of (circuit ws .stored) i Nothing) ∙ ap (λ (r : List ℕ). getD r i 0) stored-contents-table ∙ listed-in I (λ i. named-word ws (4 + K) K (name i)) i 0 l in
+        sym (made-again v) ∙ ap₂ value-of k b
+
+    -- the gates, where there are as many inputs as they have
+    module _ (full : I ≡ below (ins-at ws kinds) G) where
+      -- an entry's setting is an input of the circuit
+      setting-in : (e : ℕ) → e < G → getD ws (kinds + e) 0 ≡ 30 → below (ins-at ws kinds) e < I
+      unfolding ins-at below kinds-opened
+      setting-in e l h =
+          let n : ins-at ws kinds e ≡ 1 = ap (λ (k : ℕ). length (kind-at k .ins)) h in
+          let m : below (ins-at ws kinds) (suc e) ≤ below (ins-at ws kinds) G = below-mono (ins-at ws kinds) (suc e) G l in
+          omega arith
+
+      -- which entry names which gate
+      named-alike : (g e : ℕ) → g < 64 → e < G →
+          names (circuit ws .kinds) (circuit ws .stored) (circuit ws .first-input) g e ≡ eqb (named-by ws kinds (sources + I) K e) g
+      unfolding names named-by
+      named-alike g e l h =
+          let k : getD (circuit ws .kinds) e 0 ≡ getD ws (kinds + e) 0
+          = ap (λ (r : List ℕ). getD r e 0) kinds-are ∙ listed-in G (λ g. getD ws (kinds + g) 0) e 0 h in
+          let f : getD (circuit ws .first-input) e 0 ≡ below (ins-at ws kinds) e
+          = ap (λ (r : List ℕ). getD r e 0) first-inputs-are ∙ listed-in G (below (ins-at ws kinds)) e 0 h in
+          rw (k, f)
+          (names-gate (getD ws (kinds + e) 0) g (getD (circuit ws .stored) (below (ins-at ws kinds) e) Nothing)
+          (value-named ws K (getD ws (sources + I + below (ins-at ws kinds) e) 0)) l (λ q. stored-at (below (ins-at ws kinds) e) (setting-in e h q)))
+
+      entries-are : circuit ws .entries ≡ listed G (λ g. getD (entries-found ws kinds G (sources + I) K) g 0)
+      unfolding circuit word-at listed entries-found members
+      entries-are =
+          from-same
+          (λ g. getD (keep (names (circuit ws .kinds) (circuit ws .stored) (circuit ws .first-input) g) (from 0 G)) 0 0)
+          (λ g. getD (entries-found ws kinds G (sources + I) K) g 0) 0 G
+          (λ g a l.
+          let s : g < 64 = omega (arith, z .gates) in
+          ap (λ (r : List ℕ). getD r 0 0)
+          (keep-from (names (circuit ws .kinds) (circuit ws .stored) (circuit ws .first-input) g) (λ e. eqb (named-by ws kinds (sources + I) K e) g) 0 G
+          (λ e m. named-alike g e s (omega arith)))
+          ∙ sym (first-named (named-by ws kinds (sources + I) K) G g s))
+
+      gates-table :
+          gate-cells (both (paired 256) (circuit ws .kinds) (circuit ws .bodies)) (circuit ws .ranks) (both (paired 1024) (circuit ws .first-input) (circuit ws .entries))
+          (circuit ws .first-output)
+          ≡ listed G (gate-cell ws kinds G (entries-found ws kinds G (sources + I) K))
+      gates-table =
+          gate-table ws kinds G (entries-found ws kinds G (sources + I) K) (circuit ws .kinds) (circuit ws .ranks) (circuit ws .bodies) (circuit ws .first-input)
+          (circuit ws .entries) (circuit ws .first-output) kinds-are ranks-are bodies-are first-inputs-are entries-are first-outputs-are
+
   -- ---- those of inputs: there are as many as the gates have
 
   module _ (full : length (circuit ws .pins) ≡ I) where
     inputs-table : both (λ g w. packed g (bit w) 0 0) (circuit ws .gate-of-input) (circuit ws .watched) ≡ joined (listed G (input-cells ws kinds sources))
     unfolding circuit
     inputs-table = input-table ws kinds G sources I (circuit ws .kinds) (circuit ws .sources) kinds-are sources-are full
+
+    inputs-are : I ≡ below (ins-at ws kinds) G
+    unfolding circuit word-at ins-at
+    inputs-are =
+        sym full
+        ∙ ap (λ (r : List ℕ). length (joined (map (λ k. kind-at k .ins) r))) kinds-are
+        ∙ ap (λ (r : List (List In)). length (joined r)) (map-listed (λ k. kind-at k .ins) G (λ g. getD ws (kinds + g) 0))
+        ∙ joined-length G (λ g. kind-at (getD ws (kinds + g) 0) .ins)
 
     counts-table : count-cells (circuit ws) ≡ G ∷ K ∷ I ∷ O ∷ word-cells ws kinds G
     unfolding circuit count-cells word-cells named
@@ -240,9 +317,10 @@ module _ {bytes : List ℕ} (ws : List ℕ) (z : Sizes bytes ws) where
         let name : ℕ → ℕ = λ i. getD ws (sources + I + i) 0 in
         let row : ℕ → ℕ = row-of (λ o. length (readers o)) (λ o. length (made o)) in
         let o : O ≤ 9 * G = outs-below ws kinds G O refl in
+        let es : List ℕ = entries-found ws kinds G (sources + I) K in
         let h = cleared table-sizes l (written l 0 total (λ k. 0)) long refl in
         let h = table-put table-sizes _ 0 (G ∷ K ∷ I ∷ O ∷ word-cells ws kinds G) _ _ (omega arith) refl (omega arith) refl h in
-        let h = table-put table-sizes _ 1 (listed G (gate-cell ws kinds G)) _ _ (omega arith) refl (omega (arith, z .gates, listed-length G (gate-cell ws kinds G))) refl h in
+        let h = table-put table-sizes _ 1 (listed G (gate-cell ws kinds G es)) _ _ (omega arith) refl (omega (arith, z .gates, listed-length G (gate-cell ws kinds G es))) refl h in
         let h = table-put table-sizes _ 6 (joined (listed G (output-cells ws kinds))) _ _ (omega arith) refl outputs-length refl h in
         let h = table-put table-sizes _ 2 (listed I (λ i. getD ws (sources + i) 0)) _ _ (omega arith) refl (omega (arith, z .inputs, listed-length I (λ i. getD ws (sources + i) 0))) refl h in
         let h = table-put table-sizes _ 3 (listed I (λ i. named-word ws 4 K (name i))) _ _ (omega arith) refl (omega (arith, z .inputs, listed-length I (λ i. named-word ws 4 K (name i)))) refl h in
@@ -257,7 +335,7 @@ module _ {bytes : List ℕ} (ws : List ℕ) (z : Sizes bytes ws) where
         ∙ sym
         (λ j. joined (
         table-of 16 (counts-table full j)
-        ∷ table-of 64 (gates-table j)
+        ∷ table-of 64 (gates-table good (inputs-are full) j)
         ∷ table-of 640 (sources-table j)
         ∷ table-of 640 (stored-kinds-table good j)
         ∷ table-of 640 (stored-contents-table good j)
@@ -278,31 +356,33 @@ each-most n low high f xs e h i l =
     omega (arith, all-within low high xs h i, ap (λ (r : List ℕ). getD r i 0) e, listed-in n f i 0 l)
 
 module _ (bytes ws : List ℕ) (q₁ : question-1 bytes ws ≡ true) (q₃ : question-3 ws (circuit ws) ≡ true) where
-  -- kinds and ranks are below 65,536
-  pub small : (g k : ℕ) → g ≡ getD ws 0 0 → k ≡ getD ws 1 0 → Small ws (4 + 2 * k) (2 * g)
-  unfolding question-3 within
-  small g k eg ek i h = rw ek (go (ltb i (getD ws 0 0)) refl)
-    where
-      z : Sizes bytes ws
-      z = sizes bytes ws q₁
+  in-range : (all (within 1 28) (circuit ws .kinds) ≡ true) × (all (within 0 0) (circuit ws .bodies) ≡ true)
+  unfolding question-3
+  in-range =
+      both-true (all (within 1 28) (circuit ws .kinds)) (all (within 0 0) (circuit ws .bodies))
+      (both-true (all (within 1 28) (circuit ws .kinds) && all (within 0 0) (circuit ws .bodies)) _ q₃ .0)
 
-      p : (all (within 1 28) (circuit ws .kinds) ≡ true) × (all (within 0 65535) (circuit ws .ranks) ≡ true)
-      p =
-          both-true (all (within 1 28) (circuit ws .kinds)) (all (within 0 65535) (circuit ws .ranks))
-          (both-true (all (within 1 28) (circuit ws .kinds) && all (within 0 65535) (circuit ws .ranks)) _ q₃ .0)
+  -- a kind and a body are below 256
+  pub small-kinds : (g k : ℕ) → g ≡ getD ws 0 0 → k ≡ getD ws 1 0 → Small ws (4 + 2 * k) g 256
+  small-kinds g k eg ek i h =
+      let z = sizes bytes ws q₁ in
+      let m = each-most (G ws z) 1 28 (λ g. getD ws (kinds ws z + g) 0) (circuit ws .kinds) (kinds-are ws z) (in-range .0) i (omega arith) in
+      rw ek (omega arith)
 
-      go : (b : Bool) → ltb i (getD ws 0 0) ≡ b → getD ws (4 + 2 * getD ws 1 0 + i) 0 < 65536
-      go true e =
-          let l = ltb-true i (getD ws 0 0) e in
-          let m = each-most (G ws z) 1 28 (λ g. getD ws (kinds ws z + g) 0) (circuit ws .kinds) (kinds-are ws z) (p .0) i l in
-          omega arith
-      go false e =
-          let l = ltb-false i (getD ws 0 0) e in
-          let j : ℕ = i - getD ws 0 0 in
-          let a : 4 + 2 * getD ws 1 0 + getD ws 0 0 + j ≡ 4 + 2 * getD ws 1 0 + i = omega arith in
-          let m = each-most (G ws z) 0 65535 (λ g. getD ws (kinds ws z + G ws z + g) 0) (circuit ws .ranks) (ranks-are ws z) (p .1) j (omega arith) in
-          let n : getD ws (4 + 2 * getD ws 1 0 + i) 0 ≤ 65535 = rw a at m in
-          omega arith
+  pub small-places : (g k : ℕ) → g ≡ getD ws 0 0 → k ≡ getD ws 1 0 → Small ws (4 + 2 * k + g) g 16777216
+  small-places g k eg ek i h =
+      let z = sizes bytes ws q₁ in
+      let m = each-most (G ws z) 0 0 (λ g. getD ws (kinds ws z + G ws z + g) 0 / 65536) (circuit ws .bodies) (bodies-are ws z) (in-range .1) i (omega arith) in
+      rw (ek, eg) (omega arith)
+
+  full : length (circuit ws .pins) ≡ getD ws 2 0
+  full =
+      let z = sizes bytes ws q₁ in
+      sym (filled bytes ws q₁ q₃ .sources) ∙ ap (λ (r : List (Option ℕ)). length r) (sources-are ws z) ∙ listed-length (getD ws 2 0) (λ i. source-of (getD ws (sources ws z + i) 0))
+
+  -- the inputs are those of the gates
+  pub inputs-all : (g k i : ℕ) → g ≡ getD ws 0 0 → k ≡ getD ws 1 0 → i ≡ getD ws 2 0 → i ≡ below (ins-at ws (4 + 2 * k)) g
+  inputs-all g k i eg ek ei = rw (eg, ek, ei) (inputs-are ws (sizes bytes ws q₁) full)
 
   -- what the builder writes is `cells` of the circuit
   pub built : (l l₁ : List ℕ) (g k i n : ℕ) → question-2 ws ≡ true → length l ≡ total → g ≡ getD ws 0 0 → k ≡ getD ws 1 0 → i ≡ getD ws 2 0 → n ≡ getD ws 3 0 →
@@ -310,9 +390,6 @@ module _ (bytes ws : List ℕ) (q₁ : question-1 bytes ws ≡ true) (q₃ : que
   unfolding question-2 yes-all word-at
   built l l₁ g k i n q₂ long eg ek ei en e =
       let z = sizes bytes ws q₁ in
-      let f = filled bytes ws q₁ q₃ in
-      let full : length (circuit ws .pins) ≡ getD ws 2 0
-      = sym (f .sources) ∙ ap (λ (r : List (Option ℕ)). length r) (sources-are ws z) ∙ listed-length (getD ws 2 0) (λ i. source-of (getD ws (sources ws z + i) 0)) in
       let t : ℕ → Bool = λ j. good-constant (constant-kind ws z j) (constant-content ws z j) in
       let bs : both good-constant (part ws 4 (getD ws 1 0)) (part ws (4 + getD ws 1 0) (getD ws 1 0)) ≡ listed (getD ws 1 0) t
       = (λ j. both good-constant (part-listed ws 4 (getD ws 1 0) (omega (arith, z .counted)) j) (part-listed ws (4 + getD ws 1 0) (getD ws 1 0) (omega (arith, z .counted)) j))

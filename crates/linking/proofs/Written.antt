@@ -1,5 +1,5 @@
 -- Each table of the definition, as the builder writes it.
-use Prim.Native.Nat.{ℕ, zero, suc, _+_, _-_, _^_, _≤_, _<_}
+use Prim.Native.Nat.{ℕ, zero, suc, _+_, _-_, _/_, _%_, _^_, _≤_, _<_}
 use mathlib.Core.Path.{_≡_, refl, sym, ap, _∙_}
 use mathlib.Core.Bool.{Bool, true, false, _&&_, _||_, true≢false}
 use mathlib.Core.List.{List, _∷_, map}
@@ -17,7 +17,7 @@ use Rattle.model.specs.Questions.{within, good-constant}
 use Rattle.model.proofs.Lists.{both-true}
 use Rattle.model.proofs.Sizes.{within-true}
 use Rattle.value.proofs.Laws.{taken-apart}
-use Rattle.links.specs.Links.{packed, word-of-gates, source-cell, gate-cells, listed}
+use Rattle.links.specs.Links.{packed, paired, word-of-gates, source-cell, gate-cells, listed}
 use Rattle.links.proofs.Reading.{listed-length, listed-in}
 use Rattle.links.proofs.Net.{source-back}
 use Rattle.linking.specs.Building.{below, named-word, gate-bit, ins-at, outs-at, bits-of, gate-cell, output-cells}
@@ -35,12 +35,21 @@ packed-listed n a b c d =
     (both-listed (λ (f : ℕ → ℕ) (i : ℕ). f i) n (λ k. packed (a k) (b k) (c k)) d)
 
 module _ (ws : List ℕ) (kinds G : ℕ) where
-  pub gate-table : (ks rs : List ℕ) → ks ≡ listed G (λ g. getD ws (kinds + g) 0) → rs ≡ listed G (λ g. getD ws (kinds + G + g) 0) →
-      gate-cells ks rs (starts 0 (map (λ k. length (kind-at k .ins)) ks)) (starts 0 (map (λ k. length (kind-at k .outs)) ks)) ≡ listed G (gate-cell ws kinds G)
-  unfolding gate-cell ins-at outs-at
-  gate-table ks rs ek er =
-      rw (ek, er, map-listed (λ k. length (kind-at k .ins)) G (λ g. getD ws (kinds + g) 0), map-listed (λ k. length (kind-at k .outs)) G (λ g. getD ws (kinds + g) 0))
-      (rw (starts-listed G (λ g. length (kind-at (getD ws (kinds + g) 0) .ins)), starts-listed G (λ g. length (kind-at (getD ws (kinds + g) 0) .outs)))
+  -- where the inputs, or the outputs, of each gate begin
+  pub first-table : {A : Type 0} (row : ℕ → List A) (ks : List ℕ) → ks ≡ listed G (λ g. getD ws (kinds + g) 0) →
+      starts 0 (map (λ k. length (row k)) ks) ≡ listed G (below (λ g. length (row (getD ws (kinds + g) 0))))
+  first-table row ks ek =
+      rw (ek, map-listed (λ k. length (row k)) G (λ g. getD ws (kinds + g) 0)) (starts-listed G (λ g. length (row (getD ws (kinds + g) 0))))
+
+  pub gate-table :
+      (es ks rs bs fs xs os : List ℕ) → ks ≡ listed G (λ g. getD ws (kinds + g) 0) → rs ≡ listed G (λ g. getD ws (kinds + G + g) 0 % 65536) →
+      bs ≡ listed G (λ g. getD ws (kinds + G + g) 0 / 65536) → fs ≡ listed G (below (ins-at ws kinds)) → xs ≡ listed G (λ g. getD es g 0) →
+      os ≡ listed G (below (outs-at ws kinds)) →
+      gate-cells (both (paired 256) ks bs) rs (both (paired 1024) fs xs) os ≡ listed G (gate-cell ws kinds G es)
+  unfolding gate-cell
+  gate-table es ks rs bs fs xs os ek er eb ef ex eo =
+      rw (ek, er, eb, ef, ex, eo)
+      (rw (both-listed (paired 256) G (λ g. getD ws (kinds + g) 0) (λ g. getD ws (kinds + G + g) 0 / 65536), both-listed (paired 1024) G (below (ins-at ws kinds)) (λ g. getD es g 0))
       (packed-listed G _ _ _ _))
 
   pub output-table : (ks : List ℕ) → ks ≡ listed G (λ g. getD ws (kinds + g) 0) → owners 0 (map (λ k. length (kind-at k .outs)) ks) ≡ joined (listed G (output-cells ws kinds))

@@ -1,16 +1,18 @@
 -- What the builder's own functions do. The contract of `link` cites none of it: `cells` of Links says what they make together.
-use Prim.Native.Nat.{ℕ, zero, suc, _+_, _-_, _*_, _^_, _<_}
+use Prim.Native.Nat.{ℕ, zero, suc, _+_, _-_, _*_, _/_, _%_, _^_, _<_}
 use mathlib.Core.Bool.{true, false}
 use mathlib.Core.List.{List, [], _∷_, map}
 use lib.Dec.{eqb, ltb}
-use lib.ListN.{length, getD, set}
+use lib.ListN.{length, getD, set, replicate}
 use lib.Seq.{sets}
 use Rattle.model.specs.Base.{if_then_else_, keep, joined, from}
-use Rattle.model.specs.Value.{bit}
+use Rattle.model.specs.declared.Value.{Value}
+use Rattle.model.specs.declared.Value.the-variants.{Nothing, Int, Float, Bool as Truth}
+use Rattle.model.specs.Value.{bit, value-of}
 use Rattle.model.specs.Kinds.{value, kind-at}
-use Rattle.model.specs.Circuit.{source-of, is-watched}
+use Rattle.model.specs.Circuit.{most-gates, rank-size, source-of, is-watched}
 use Rattle.model.specs.Questions.{within}
-use Rattle.links.specs.Links.{counts-at, gates-at, sources-at, stored-kinds-at, stored-contents-at, inputs-at, outputs-at, rows-at, readers-at, calls-at, constant-kinds-at, constant-contents-at, total, listed, packed}
+use Rattle.links.specs.Links.{counts-at, gates-at, sources-at, stored-kinds-at, stored-contents-at, inputs-at, outputs-at, rows-at, readers-at, calls-at, constant-kinds-at, constant-contents-at, total, kind-size, input-size, listed, packed, paired}
 
 -- n cells, from cell `base` on, become f 0, f 1, ..
 abbrev pub written : List ℕ → ℕ → ℕ → (ℕ → ℕ) → List ℕ
@@ -29,9 +31,13 @@ named-word ws first K k = if eqb k 0 then 0 else if ltb K k then 0 else getD ws 
 unfoldable pub gate-bit : ℕ → ℕ → ℕ → ℕ → ℕ
 gate-bit low high kind g = if within low high kind then 2 ^ g else 0
 
--- each of the n words from place a on is below 65,536
-abbrev pub Small : List ℕ → ℕ → ℕ → Type 0
-Small ws a n = (k : ℕ) → k < n → getD ws (a + k) 0 < 65536
+-- each of the n words from place a on is below m
+abbrev pub Small : List ℕ → ℕ → ℕ → ℕ → Type 0
+Small ws a n m = (k : ℕ) → k < n → getD ws (a + k) 0 < m
+
+-- each of the first n numbers of the list can be a gate's
+abbrev pub Gates : List ℕ → ℕ → Type 0
+Gates es n = (g : ℕ) → g < n → getD es g 0 < most-gates
 
 -- ---- lists as chains
 
@@ -100,9 +106,12 @@ outs-at ws kinds g = length (kind-at (getD ws (kinds + g) 0) .outs)
 unfoldable pub bits-of : List ℕ → ℕ → ℕ → ℕ → ℕ → ℕ
 bits-of ws kinds n low high = below (λ g. gate-bit low high (getD ws (kinds + g) 0) g) n
 
--- the cell of gate g; the ranks of n gates stand behind their kinds
-unfoldable pub gate-cell : List ℕ → ℕ → ℕ → ℕ → ℕ
-gate-cell ws kinds n g = packed (getD ws (kinds + g) 0) (getD ws (kinds + n + g) 0) (below (ins-at ws kinds) g) (below (outs-at ws kinds) g)
+-- the cell of gate g; behind the kinds of n gates stand the words of their ranks and bodies, and `es` are the entries
+unfoldable pub gate-cell : List ℕ → ℕ → ℕ → List ℕ → ℕ → ℕ
+gate-cell ws kinds n es g =
+    let place = getD ws (kinds + n + g) 0 in
+    packed (paired kind-size (getD ws (kinds + g) 0) (place / rank-size)) (place % rank-size) (paired input-size (below (ins-at ws kinds) g) (getD es g 0))
+    (below (outs-at ws kinds) g)
 
 -- the cell of input p of gate g, of this kind, by the word of its source
 unfoldable pub input-cell : ℕ → ℕ → ℕ → ℕ → ℕ
@@ -117,6 +126,36 @@ input-cells ws kinds sources g =
 unfoldable pub output-cells : List ℕ → ℕ → ℕ → List ℕ
 output-cells ws kinds g = listed (outs-at ws kinds g) (λ p. g)
 
+-- ---- entries: where the names of the constants in the inputs are the words from `stored` on
+
+-- the constant named k of K, and nothing where there is none
+unfoldable pub value-named : List ℕ → ℕ → ℕ → Value
+value-named ws K k = value-of (named-word ws 4 K k) (named-word ws (4 + K) K k)
+
+-- the gate whose number a value is; 64, which is no gate's, for what is no Int
+unfoldable pub gate-of : Value → ℕ
+gate-of Nothing = most-gates
+gate-of (Int g) = g
+gate-of (Float b) = most-gates
+gate-of (Truth t) = most-gates
+
+-- the gate that one of this kind names by its setting, if it is an entry
+unfoldable pub gate-named : ℕ → Value → ℕ
+gate-named kind v = if eqb kind 30 then gate-of v else most-gates
+
+-- the gate that gate e names
+unfoldable pub named-by : List ℕ → ℕ → ℕ → ℕ → ℕ → ℕ
+named-by ws kinds stored K e = gate-named (getD ws (kinds + e) 0) (value-named ws K (getD ws (stored + below (ins-at ws kinds) e) 0))
+
+-- the gates below n, from the last down, each written down at the gate that it names
+unfoldable pub entered : (ℕ → ℕ) → ℕ → List ℕ → List ℕ
+entered named zero es = es
+entered named (suc e) es = entered named e (set es (named e) e)
+
+-- the entries of n gates
+unfoldable pub entries-found : List ℕ → ℕ → ℕ → ℕ → ℕ → List ℕ
+entries-found ws kinds n stored K = entered (named-by ws kinds stored K) n (replicate most-gates 0)
+
 -- ---- the tables together, of G gates, K constants, I inputs, C calls and O outputs
 
 -- the words of gates, in the order of `count-cells`
@@ -125,10 +164,11 @@ word-cells ws kinds G =
     bits-of ws kinds G 3 4 ∷ (bits-of ws kinds G 10 13 + bits-of ws kinds G 16 17) ∷ bits-of ws kinds G 14 14 ∷ bits-of ws kinds G 15 15 ∷ bits-of ws kinds G 26 27 ∷ []
 
 -- counts, gates and outputs
-unfoldable pub gates-written : List ℕ → ℕ → ℕ → ℕ → ℕ → ℕ → List ℕ → List ℕ
-gates-written ws kinds G K I O l =
+unfoldable pub gates-written : List ℕ → ℕ → ℕ → ℕ → ℕ → ℕ → ℕ → List ℕ → List ℕ
+gates-written ws kinds G stored K I O l =
     sets
-    (written (sets (sets l counts-at (G ∷ K ∷ I ∷ O ∷ [])) (counts-at + 4) (word-cells ws kinds G)) gates-at G (gate-cell ws kinds G))
+    (written (sets (sets l counts-at (G ∷ K ∷ I ∷ O ∷ [])) (counts-at + 4) (word-cells ws kinds G)) gates-at G
+    (gate-cell ws kinds G (entries-found ws kinds G stored K)))
     outputs-at (joined (listed G (output-cells ws kinds)))
 
 -- the four tables of the inputs
@@ -152,4 +192,4 @@ all-written ws G K I C l =
     let calls = sources + 2 * I in
     let O = below (outs-at ws kinds) G in
     constants-written ws K
-    (lists-written ws sources I calls C O (inputs-written ws kinds G sources I K (gates-written ws kinds G K I O (written l 0 total (λ k. 0)))))
+    (lists-written ws sources I calls C O (inputs-written ws kinds G sources I K (gates-written ws kinds G (sources + I) K I O (written l 0 total (λ k. 0)))))

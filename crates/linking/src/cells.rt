@@ -16,6 +16,16 @@ pub fn word(circuit: &[u8], i: usize) -> usize
     words::read(circuit, i) as usize
 }
 
+// Cell i, and 0 past the end.
+pub fn at(cells: &[usize], i: usize) -> usize
+    ensures { λ r. ⌜ r ≡ getD (before cells) i 0 ⌝ }
+{
+    if i < cells.len() {
+        return cells[i];
+    }
+    0
+}
+
 // Cell i becomes v. Where there is no cell i, nothing changes.
 pub fn put(cells: &mut [usize], i: usize, v: usize)
     ensures { λ _. ⌜ after cells ≡ set (before cells) i v ⌝ }

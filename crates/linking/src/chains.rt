@@ -9,6 +9,7 @@ ghost use Rattle.model.specs.Base.{joined};
 ghost use Rattle.links.specs.Links.{listed};
 ghost use Rattle.linking.specs.Building.{chains, chained, all-chained, chain-at, size-at, target};
 ghost use Rattle.linking.specs.Lent.{Near};
+use crate::cells::at;
 use crate::cells::put;
 use crate::cells::word;
 use links::layout::MOST_INPUTS;
@@ -122,14 +123,4 @@ fn target(circuit: &[u8], targets: usize, i: usize) -> usize
         return i;
     }
     word(circuit, targets + i)
-}
-
-// Cell i, and 0 past the end.
-fn at(cells: &[usize], i: usize) -> usize
-    ensures { λ r. ⌜ r ≡ getD (before cells) i 0 ⌝ }
-{
-    if i < cells.len() {
-        return cells[i];
-    }
-    0
 }

@@ -1,19 +1,21 @@
 // What is written of the gates, and of their outputs the gate.
 ghost use mathlib.Core.Path.{_≡_};
 ghost use mathlib.Core.List.{[], _∷_};
-ghost use Prim.Native.Nat.{_*_, _≤_};
+ghost use Prim.Native.Nat.{_+_, _≤_};
 ghost use lib.Seq.{sets};
 ghost use Rattle.words.specs.Words.{words};
 ghost use Rattle.words.specs.Slices.{before, after, was};
 ghost use Rattle.model.specs.Base.{joined};
 ghost use Rattle.model.specs.Circuit.{most-gates};
-ghost use Rattle.links.specs.Links.{listed};
-ghost use Rattle.linking.specs.Building.{written, below, Small, ins-at, outs-at, gate-cell, output-cells, gates-written};
+ghost use Rattle.links.specs.Links.{listed, most-constants};
+ghost use Rattle.linking.specs.Building.{written, below, Small, Gates, ins-at, outs-at, gate-cell, output-cells, gates-written};
 ghost use Rattle.linking.specs.Lent.{Near};
+use crate::cells::at;
 use crate::cells::fill;
 use crate::cells::pack;
 use crate::cells::put;
 use crate::cells::word;
+use crate::entries::find_entries;
 use crate::gate_words::write_words;
 use links::layout::*;
 
@@ -22,19 +24,34 @@ pub fn link_gates(
     circuit: &[u8],
     kinds: usize,
     gates: usize,
+    stored: usize,
     constants: usize,
     inputs: usize,
     outputs: usize,
     cells: &mut [usize],
 )
-    requires { ⌜ Near kinds ⌝ }
+    requires { ⌜ kinds ≤ 32768 ⌝ }
     requires { ⌜ gates ≤ most-gates ⌝ }
-    requires { ⌜ Small (words (now circuit)) kinds (2 * gates) ⌝ }
-    ensures { λ _. ⌜ after cells ≡ gates-written (was circuit) kinds gates constants inputs outputs (before cells) ⌝ }
+    requires { ⌜ stored ≤ 32768 ⌝ }
+    requires { ⌜ constants ≤ most-constants ⌝ }
+    requires { ⌜ inputs ≡ below (ins-at (words (now circuit)) kinds) gates ⌝ }
+    requires { ⌜ Small (words (now circuit)) kinds gates 256 ⌝ }
+    requires { ⌜ Small (words (now circuit)) (kinds + gates) gates 16777216 ⌝ }
+    ensures { λ _. ⌜ after cells ≡ gates-written (was circuit) kinds gates stored constants inputs outputs (before cells) ⌝ }
 {
+    let mut entries = [0usize; MOST_GATES];
+    find_entries(
+        circuit,
+        kinds,
+        gates,
+        stored,
+        inputs,
+        constants,
+        &mut entries,
+    );
     write_counts(gates, constants, inputs, outputs, cells);
     write_words(circuit, kinds, gates, cells);
-    write_gates(circuit, kinds, gates, cells, GATES);
+    write_gates(circuit, kinds, gates, &entries, cells, GATES);
     write_outputs(circuit, kinds, gates, cells, OUTPUTS);
 }
 
@@ -48,21 +65,37 @@ fn write_counts(gates: usize, constants: usize, inputs: usize, outputs: usize, c
     put(cells, OUTPUT_COUNT, outputs);
 }
 
-// n cells, from cell `base` on, become those of n gates: kind, rank, first input, first output. The ranks stand behind the kinds.
-fn write_gates(circuit: &[u8], kinds: usize, n: usize, cells: &mut [usize], base: usize)
+// n cells, from cell `base` on, become those of n gates: kind and body, rank, first input and entry, first output. The words of ranks and bodies stand behind the kinds.
+fn write_gates(
+    circuit: &[u8],
+    kinds: usize,
+    n: usize,
+    entries: &[usize],
+    cells: &mut [usize],
+    base: usize,
+)
     requires { ⌜ Near kinds ⌝ }
     requires { ⌜ n ≤ most-gates ⌝ }
+    requires { ⌜ Gates (now entries) n ⌝ }
     requires { ⌜ Near base ⌝ }
-    requires { ⌜ Small (words (now circuit)) kinds (2 * n) ⌝ }
-    ensures { λ _. ⌜ after cells ≡ written (before cells) base n (gate-cell (was circuit) kinds n) ⌝ }
+    requires { ⌜ Small (words (now circuit)) kinds n 256 ⌝ }
+    requires { ⌜ Small (words (now circuit)) (kinds + n) n 16777216 ⌝ }
+    ensures { λ _. ⌜ after cells ≡ written (before cells) base n (gate-cell (was circuit) kinds n (before entries)) ⌝ }
 {
     let mut inputs: usize = 0;
     let mut outputs: usize = 0;
     let mut g: usize = 0;
     while g < n {
         let kind = word(circuit, kinds + g);
-        let rank = word(circuit, kinds + n + g);
-        put(cells, base + g, pack(kind, rank, inputs, outputs));
+        let place = word(circuit, kinds + n + g);
+        let entry = at(entries, g);
+        let gate = pack(
+            kind + BODY * (place / RANKS),
+            place % RANKS,
+            inputs + ENTRY * entry,
+            outputs,
+        );
+        put(cells, base + g, gate);
         inputs += inputs_of(circuit, kinds, g);
         outputs += outputs_of(circuit, kinds, g);
         g += 1;

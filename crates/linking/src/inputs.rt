@@ -88,7 +88,7 @@ fn copy_named(
 }
 
 // The word of name k, where `count` words from word `named` on are named from 1 on. No other name has one.
-fn word_named(circuit: &[u8], named: usize, count: usize, k: usize) -> usize
+pub fn word_named(circuit: &[u8], named: usize, count: usize, k: usize) -> usize
     requires { ⌜ Near named ⌝ }
     requires { ⌜ Near count ⌝ }
     ensures { λ r. ⌜ r ≡ named-word (was circuit) named count k ⌝ }

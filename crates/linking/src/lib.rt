@@ -9,7 +9,7 @@ ghost use Rattle.model.specs.Questions.{question-1, question-2, question-3};
 ghost use Rattle.model.specs.Chain.{most-calls};
 ghost use Rattle.links.specs.Links.{cells, most-constants};
 ghost use Rattle.links.specs.Lent.{Linked};
-ghost use Rattle.linking.specs.Building.{Small, constants-written, all-written};
+ghost use Rattle.linking.specs.Building.{below, Small, ins-at, constants-written, all-written};
 use crate::cells::copy;
 use crate::cells::fill;
 use crate::cells::word;
@@ -21,6 +21,7 @@ use links::layout::*;
 
 mod cells;
 mod chains;
+mod entries;
 mod gate_words;
 mod gates;
 mod inputs;
@@ -57,7 +58,9 @@ fn link_all(
     requires { ⌜ constants ≤ most-constants ⌝ }
     requires { ⌜ inputs ≤ most-inputs ⌝ }
     requires { ⌜ calls ≤ most-calls ⌝ }
-    requires { ⌜ Small (words (now circuit)) (4 + 2 * constants) (2 * gates) ⌝ }
+    requires { ⌜ inputs ≡ below (ins-at (words (now circuit)) (4 + 2 * constants)) gates ⌝ }
+    requires { ⌜ Small (words (now circuit)) (4 + 2 * constants) gates 256 ⌝ }
+    requires { ⌜ Small (words (now circuit)) (4 + 2 * constants + gates) gates 16777216 ⌝ }
     ensures { λ _. ⌜ after cells ≡ all-written (was circuit) gates constants inputs calls (before cells) ⌝ }
 {
     let kinds = CONSTANTS + 2 * constants;
@@ -65,7 +68,16 @@ fn link_all(
     let callers = sources + 2 * inputs;
     let outputs = count_outputs(circuit, kinds, gates);
     fill(cells, 0, CELLS, 0);
-    link_gates(circuit, kinds, gates, constants, inputs, outputs, cells);
+    link_gates(
+        circuit,
+        kinds,
+        gates,
+        sources + inputs,
+        constants,
+        inputs,
+        outputs,
+        cells,
+    );
     link_inputs(circuit, kinds, gates, sources, inputs, constants, cells);
     link_lists(circuit, sources, inputs, callers, calls, outputs, cells);
     link_constants(circuit, constants, cells);

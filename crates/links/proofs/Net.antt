@@ -437,7 +437,7 @@ under-map n f z h (x ∷ xs) zero = h x
 under-map n f z h (x ∷ xs) (suc i) = under-map n f z h xs i
 
 -- the first of n numbers from a on that passes a test
-first-kept : (m : ℕ) (p : ℕ → Bool) (a n : ℕ) → 0 < m → a + n ≤ m → getD (keep p (from a n)) 0 0 < m
+pub first-kept : (m : ℕ) (p : ℕ → Bool) (a n : ℕ) → 0 < m → a + n ≤ m → getD (keep p (from a n)) 0 0 < m
 unfolding keep from if_then_else_
 first-kept m p a zero z l = z
 first-kept m p a (suc n) z l = go (p a) (first-kept m p (suc a) n z (omega arith))

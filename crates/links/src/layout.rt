@@ -61,6 +61,9 @@ pub const MINUS_ONE: u64 = 0xFFFF_FFFF_FFFF_FFFF;
 
 pub const NO_SOURCE: usize = MINUS_ONE as usize;
 
+// A circuit's word for a gate's rank and body is rank + RANKS × body.
+pub const RANKS: usize = 0x1_0000;
+
 // Four numbers to the base DIGIT stand in a cell; the second, third and fourth begin here.
 pub const DIGIT: usize = 0x1_0000;
 

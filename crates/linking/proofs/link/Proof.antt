@@ -3,7 +3,7 @@ use native.Mathlib.Omega.{arith}
 use borrow.Author.Needs.{needs}
 use Rattle.words.specs.Words.{words}
 use Rattle.model.proofs.Sizes.{sizes}
-use Rattle.linking.proofs.Whole.{small, built}
+use Rattle.linking.proofs.Whole.{small-kinds, small-places, inputs-all, built}
 use Rattle.linking.proofs.link.Statement.{statement}
 use Rattle.linking.proofs.link.Tie as tie
 
@@ -22,15 +22,20 @@ word-requires-4 c κs = search needs
 link-all-requires : tie.Need-link-all-requires
 link-all-requires c κs =
     let bs = c .before .before .before .before .before .before .before .args .circuit .now in
-    let z = sizes bs (words bs) (c .before .before .before .before .before .before .before .pre .0) in (
-      omega (arith, z .gates, c .before .before .before .before .word .ensures),
+    let q₁ = c .before .before .before .before .before .before .before .pre .0 in
+    let q₃ = c .before .before .before .before .before .before .before .pre .1 .1 .0 in
+    let z = sizes bs (words bs) q₁ in
+    let g = c .before .before .before .before .word .ensures in
+    let k = c .before .before .before .word2 .ensures in
+    let i = c .before .before .word3 .ensures in (
+      omega (arith, z .gates, g),
       (
-        omega (arith, z .constants, c .before .before .before .word2 .ensures),
+        omega (arith, z .constants, k),
         (
-          omega (arith, z .inputs, c .before .before .word3 .ensures),
+          omega (arith, z .inputs, i),
           (
             omega (arith, z .calls, c .before .word4 .ensures),
-            small bs (words bs) (c .before .before .before .before .before .before .before .pre .0) (c .before .before .before .before .before .before .before .pre .1 .1 .0) _ _ (c .before .before .before .before .word .ensures) (c .before .before .before .word2 .ensures),
+            (inputs-all bs (words bs) q₁ q₃ _ _ _ g k i, (small-kinds bs (words bs) q₁ q₃ _ _ g k, small-places bs (words bs) q₁ q₃ _ _ g k)),
           ),
         ),
       ),

@@ -31,8 +31,13 @@ count-outputs-requires c κs = search needs
 fill-requires : tie.Need-fill-requires
 fill-requires c κs = search needs
 
+add-link-gates : tie.Need-add-link-gates
+add-link-gates c = search needs
+
 link-gates-requires : tie.Need-link-gates-requires
-link-gates-requires c κs = search needs
+link-gates-requires c κs =
+    let p = c .before .before .before .before .before .before .before .before .pre in
+    (omega arith, (p .0, (omega arith, (p .1 .0, (p .1 .1 .1 .1 .0, (p .1 .1 .1 .1 .1 .0, p .1 .1 .1 .1 .1 .1))))))
 
 link-inputs-requires : tie.Need-link-inputs-requires
 link-inputs-requires c κs = search needs
@@ -66,6 +71,7 @@ link-all-spec =
     add-callers
     count-outputs-requires
     fill-requires
+    add-link-gates
     link-gates-requires
     link-inputs-requires
     link-lists-requires

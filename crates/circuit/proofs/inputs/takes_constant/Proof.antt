@@ -14,7 +14,7 @@ returns c = pin-arm (λ p. in-of p .constant) false (0 ∷ 1 ∷ []) refl (c .be
 
 returns-2 : tie.Need-returns-2
 unfolding in-of exec exec-only value watched route set-to all agrees
-returns-2 c = pin-arm (λ p. in-of p .constant) true (2 ∷ 3 ∷ 4 ∷ 5 ∷ 6 ∷ 7 ∷ 8 ∷ 9 ∷ []) refl (c .before .args .pin) (c .match .keys2)
+returns-2 c = pin-arm (λ p. in-of p .constant) true (2 ∷ 3 ∷ 4 ∷ 5 ∷ 6 ∷ 7 ∷ 8 ∷ 9 ∷ 10 ∷ []) refl (c .before .args .pin) (c .match .keys2)
 
 pub takes-constant-spec : {M : Type 1} → statement M
 takes-constant-spec = tie.close (tie.spec returns returns-2)

@@ -1,7 +1,7 @@
 use borrow.Author.Needs.{needs}
 use Rattle.model.specs.Questions.{int-such-that}
-use Rattle.circuit.proofs.inputs.names_variable.Tie as tie
-use Rattle.circuit.proofs.inputs.names_variable.Statement.{statement}
+use Rattle.circuit.proofs.inputs.names_gate.Tie as tie
+use Rattle.circuit.proofs.inputs.names_gate.Statement.{statement}
 
 enum-told : tie.Need-enum-told
 enum-told c = search needs
@@ -34,8 +34,8 @@ returns-4 : tie.Need-returns-4
 unfolding int-such-that
 returns-4 c = rw (c .enum-told3 .given .1)
 
-pub names-variable-spec : {M : Type 1} → statement M
-names-variable-spec =
+pub names-gate-spec : {M : Type 1} → statement M
+names-gate-spec =
     tie.close
     (tie.spec
     enum-told

@@ -1,8 +1,8 @@
 -- `at` meets its contract. Past the end there is 0.
 use borrow.Author.Needs.{needs}
 use Rattle.links.proofs.Reading.{past-cells}
-use Rattle.linking.proofs.chains.at.Statement.{statement}
-use Rattle.linking.proofs.chains.at.Tie as tie
+use Rattle.linking.proofs.cells.at.Statement.{statement}
+use Rattle.linking.proofs.cells.at.Tie as tie
 
 mul-result : tie.Need-mul-result
 mul-result c = search needs
