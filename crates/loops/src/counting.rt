@@ -128,7 +128,12 @@ pub fn loop_over(links: &[usize], values: &mut [u8], g: usize, broke: bool, loop
     }
     set_breaking(links, values, broke);
     set_out(links, values, output(links, g, 1), Value::Int(looped.done));
-    set_out(links, values, output(links, g, 2), Value::Bool(looped.aborted));
+    set_out(
+        links,
+        values,
+        output(links, g, 2),
+        Value::Bool(looped.aborted),
+    );
     set_out(links, values, output(links, g, 3), Value::Bool(false));
     Ran {
         left: looped.left,

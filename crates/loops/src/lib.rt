@@ -55,7 +55,16 @@ fn run_body(
     let under = calls_waiting(units);
     let passed = unions_passed(links, values);
     let begun = begin_body(links, values, units, left, g, i);
-    let ran = run_nested(links, values, units, delays, begun, under, nesting - 1, true);
+    let ran = run_nested(
+        links,
+        values,
+        units,
+        delays,
+        begun,
+        under,
+        nesting - 1,
+        true,
+    );
     set_unions_passed(links, values, passed);
     ran
 }
@@ -210,10 +219,7 @@ fn run_nested(
         }
     }
     match pop_call(units, under, inside) {
-        Taken::Empty => Ran {
-            left: 0,
-            stop: 0,
-        },
+        Taken::Empty => Ran { left: 0, stop: 0 },
         Taken::Entry(_) => Ran {
             left: 0,
             stop: RUNAWAY,

@@ -128,9 +128,9 @@ module _ (c : Circuit) (W : Wired c) where
     pulsed-sound : {s : State} (o : ℕ) → Other c o → Sound c t late s → Settled-sound (calm (wires≔ s (pulse c (s .wires) o)))
     pulsed-sound {s} o u z = calm-sound (wires-sound c z (pulse-fine (s .wires) o u (z .wires)))
 
-    detect-sound : (s : State) (g p : ℕ) (was now : Value) → Real now → Sound c t late s → Settled-sound (detect c (kind-of-gate c g) s g p was now)
+    detect-sound : (when : When) (s : State) (g p : ℕ) (was now : Value) → Real now → Sound c t late s → Settled-sound (detect c (kind-of-gate c g) when s g p was now)
     unfolding detect kinds-opened
-    detect-sound s g p was now r z =
+    detect-sound when s g p was now r z =
         let k = kind-of-gate c g in
         if-both Settled-sound _ (raise-sound _ g 0 z)
         (if-by Settled-sound (eqb k 7)
@@ -144,18 +144,18 @@ module _ (c : Circuit) (W : Wired c) where
         (if-both Settled-sound _ (raise-sound _ g _ z) (calm-sound z))))
 
     -- of an input that was taken
-    check-sound : (s : State) (i : ℕ) → Sound c (taking i t) late s → Settled-sound (check c s i)
+    check-sound : (when : When) (s : State) (i : ℕ) → Sound c (taking i t) late s → Settled-sound (check c when s i)
     unfolding check compared wires≔
-    check-sound s i z =
+    check-sound when s i z =
         let f = read-fine c W t late (s .wires) i (z .wires) in
         let r = read-real c W t late (ready c (s .wires) i) f i in
         let y = wires-sound c (wires-sound c z f) (noted-fine (ready c (s .wires) i) i (some (look c (ready c (s .wires) i) i)) f) in
-        if-both Settled-sound _ (calm-sound y) (detect-sound _ (gate-at-input c i) _ _ _ r y)
+        if-both Settled-sound _ (calm-sound y) (detect-sound when _ (gate-at-input c i) _ _ _ r y)
 
     check-on-sound : (n : ℕ) (z : Settled) → Settled-sound z → Settled-sound (check-on c n z)
     check-on-sound =
         check-on-keeps c Settled-sound λ z i is e y.
-        let x = check-sound _ i (wires-sound c (y .state) (taken-fine (z .state .wires) i is e (y .state .wires))) in
+        let x = check-sound _ _ i (wires-sound c (y .state) (taken-fine (z .state .wires) i is e (y .state .wires))) in
         record { state = x .state; raises = all-append (y .raises) (x .raises) }
 
   -- from its start on no gate is stale but those that a pulse makes so

@@ -103,6 +103,43 @@ module _ (operate : ℕ → Chained → Chained) (falls : Falls operate) (inside
       go none e rec = λ _. e
       go (some t) e rec = rec t
 
+-- ---- a run of calls, where bodies nest so deep at the most
+
+module _ (c : Circuit) (deep : ℕ) (inside : Bool) (under : ℕ) where
+  abbrev nested : Chained → Chained
+  nested r = run-nested c (run-body c deep) inside under r
+
+  abbrev entered : ℕ → Chained → Chained
+  entered i r = operate c (run-body c deep) inside i r
+
+  -- nothing follows a stop
+  pub nested-stopped : (r : Chained) → (r .stop ≡ 0 → ⊥) → nested r ≡ r
+  unfolding run-nested
+  nested-stopped r h = stopped-stays entered (operate-falls c deep inside) inside under (suc (r .left)) r h
+
+  module _ (s : State) (q : Calls) where
+    next-is : (x : Option Popped) → pop inside under (q .stack) (q .forks) ≡ x → (left : ℕ) → next inside under (chained s left 0 q) ≡ x
+    unfolding next chained
+    next-is x e left = e
+
+    -- no call waits
+    pub nested-none : (left : ℕ) → pop inside under (q .stack) (q .forks) ≡ none → nested (chained s left 0 q) ≡ chained s left 0 q
+    unfolding run-nested chained
+    nested-none left e = none-waits entered (operate-falls c deep inside) inside under (chained s left 0 q) (next-is none e left)
+
+    module _ (t : Popped) (e : pop inside under (q .stack) (q .forks) ≡ some t) where
+      -- one waits, and no step is left
+      pub nested-over : nested (chained s 0 0 q) ≡ chained s 0 runaway (t .rest)
+      unfolding run-nested make-step chained
+      nested-over =
+          one-waits entered (operate-falls c deep inside) inside under (chained s 0 0 q) t (next-is (some t) e 0)
+          ∙ stopped-stays entered (operate-falls c deep inside) inside under 1 (chained s 0 runaway (t .rest)) (λ z. omega (arith, z))
+
+      -- one waits, and is made
+      pub nested-on : (left : ℕ) → nested (chained s (suc left) 0 q) ≡ nested (entered (t .input) (chained s left 0 (t .rest)))
+      unfolding run-nested make-step chained
+      nested-on left = one-waits entered (operate-falls c deep inside) inside under (chained s (suc left) 0 q) t (next-is (some t) e (suc left))
+
 -- ---- a chain
 
 -- no call is left where none is to be made, outside bodies

@@ -50,13 +50,13 @@ module _ (c : Circuit) (P : Settled → Type 0) (s : State) (g : ℕ) (calmed : 
   unfolding edge
   edge-keeps was now hit a b = if-both P _ a (if-both P _ b calmed)
 
-  pub detect-keeps : (p : ℕ) (was now : Value) → P (detect c (kind-of-gate c g) s g p was now)
+  pub detect-keeps : (when : When) (p : ℕ) (was now : Value) → P (detect c (kind-of-gate c g) when s g p was now)
   unfolding detect pulses-up
-  detect-keeps p was now =
-      if-both P _ (raised by-rank 0)
+  detect-keeps when p was now =
+      if-both P _ (raised when 0)
       (if-by P (eqb (kind-of-gate c g) 7)
       (λ e. let k = eqb-true (kind-of-gate c g) 7 e in
       edge-keeps was now _ (pulsed 0 7 k refl (omega (arith, outs-7))) (pulsed 1 7 k refl (omega (arith, outs-7))))
       λ _. if-by P (eqb (kind-of-gate c g) 8)
       (λ e. pulsed 0 8 (eqb-true (kind-of-gate c g) 8 e) refl (omega (arith, outs-8)))
-      λ _. if-both P _ (edge-keeps was now _ (raised by-rank _) (raised by-rank _)) (if-both P _ (delayed _ _) (if-both P _ (raised by-rank _) calmed)))
+      λ _. if-both P _ (edge-keeps was now _ (raised by-rank _) (raised by-rank _)) (if-both P _ (delayed _ _) (if-both P _ (raised when _) calmed)))

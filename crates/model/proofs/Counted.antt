@@ -148,20 +148,20 @@ module _ (c : Circuit) (b : ℕ) where
   unfolding raise
   raise-counts {n} {s} when g form z = record { state = z; raises = _∷·_ (none-left n s z) [·] }
 
-  check-counts : (n : ℕ) (s : State) (i : ℕ) → Counts (suc n) s → Settled-counts n (check c s i)
+  check-counts : (when : When) (n : ℕ) (s : State) (i : ℕ) → Counts (suc n) s → Settled-counts n (check c when s i)
   unfolding check compared
-  check-counts n s i z =
+  check-counts when n s i z =
       let x = put _ (put _ z) in
       let y = fewer x in
       if-both (Settled-counts n) _ (calm-counts y)
       (detect-keeps c (Settled-counts n) _ (gate-at-input c i) (calm-counts y) (λ when form. raise-counts when _ form y) (λ o k e u l. calm-counts (put _ y))
-      (λ d changed. calm-counts (count changed (put-delay _ d x))) _ _ _)
+      (λ d changed. calm-counts (count changed (put-delay _ d x))) when _ _ _)
 
   -- n checks
   settling : (n : ℕ) (s : State) → Counts n s → Settled-counts 0 (check-on c n (calm (wires≔ s (refresh-all c (s .wires)))))
   settling n s z =
       let r = check-on-spends c Settled-counts (λ m z i is e y.
-      let x = check-counts m _ i (put _ (y .state)) in
+      let x = check-counts _ m _ i (put _ (y .state)) in
       record { state = x .state; raises = all-append (y .raises) (x .raises) }) n _ (calm-counts (put _ z)) in
       record { state = none-left _ _ (r .1 .state); raises = r .1 .raises }
 

@@ -249,18 +249,18 @@ module _ (c : Circuit) where
   unfolding pulse
   pulse-sized {w} o z = pulses-sized o _ (set-out-sized c w o _ z)
 
-  check-sized : (s : State) (i : ℕ) → Sized c s → Settled-sized (check c s i)
+  check-sized : (when : When) (s : State) (i : ℕ) → Sized c s → Settled-sized (check c when s i)
   unfolding check compared wires≔
-  check-sized s i z =
+  check-sized when s i z =
       let y = wires-sized (wires-sized z (ready-sized c (s .wires) i (z .wires))) (last-sized i _ (ready-sized c (s .wires) i (z .wires))) in
       if-both Settled-sized _ (calm-sized y)
       (detect-keeps c Settled-sized _ (gate-at-input c i) (calm-sized y) (λ when form. raise-sized when _ form y)
-      (λ o k e u l. calm-sized (wires-sized y (pulse-sized _ (y .wires)))) (λ d b. calm-sized (count-sized b (delay-sized _ d y))) _ _ _)
+      (λ o k e u l. calm-sized (wires-sized y (pulse-sized _ (y .wires)))) (λ d b. calm-sized (count-sized b (delay-sized _ d y))) when _ _ _)
 
   check-on-sized : (n : ℕ) (z : Settled) → Settled-sized z → Settled-sized (check-on c n z)
   check-on-sized =
       check-on-keeps c Settled-sized λ z i is e y.
-      let x = check-sized _ i (wires-sized (y .state) (taken-sized c (z .state .wires) i is e (y .state .wires))) in
+      let x = check-sized _ _ i (wires-sized (y .state) (taken-sized c (z .state .wires) i is e (y .state .wires))) in
       record { state = x .state; raises = all-append (y .raises) (x .raises) }
 
   pub settle-sized : (s : State) → Sized c s → Settled-sized (settle c s)

@@ -40,6 +40,8 @@ pub mod Stale
 pub mod ReadBack
 -- the order promise at this machine: `in-order`
 pub mod InOrder
+-- what may be put off: `put-off-rightly`
+pub mod PutOff
 -- which numbers an answer can have: `numbers`
 pub mod Ends
 -- the records of a run fit its log: `play-fits`, `log-keeps-length`

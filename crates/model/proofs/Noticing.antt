@@ -24,7 +24,7 @@ use Rattle.model.specs.Circuit.{Circuit, circuit, kind-of-gate, input, g
 use Rattle.model.specs.Script.{Given}
 use Rattle.model.specs.State.{Wires, State, Act, outs≔, dirty≔, to-check≔, late-checks≔, last≔, wires≔}
 use Rattle.model.specs.Wires.{show, clean, watch, look, recompute, ready}
-use Rattle.model.specs.Settle.{raise, last-value, unchanged, taken, detect, compared, check, check-on, settle}
+use Rattle.model.specs.Settle.{raise, last-value, unchanged, taken, detect, compared, when-checked, check, check-on, settle}
 use Rattle.model.specs.Opening.{wires-stale, wires-fresh, wires-at-start, start, pending, fire, before-settling, open-tick}
 use Rattle.model.specs.Unit.{World, state≔, raises-in}
 use Rattle.model.specs.Run.{Allowed, opening, machine, world-at-start}
@@ -186,19 +186,19 @@ module _ (c : Circuit) (m : Act → ℕ) where
 
 -- ---- what a first check does
 
-module _ (c : Circuit) (s : State) (i : ℕ) (e : getD (s .wires .last) i none ≡ none) where
+module _ (c : Circuit) (when : When) (s : State) (i : ℕ) (e : getD (s .wires .last) i none ≡ none) where
   -- what it reads is acted on as a change from nothing, whatever it is
   abbrev read-first : State
   read-first = let w = ready c (s .wires) i in wires≔ s (last≔ w (set (w .last) i (some (look c w i))))
 
   pub as-change :
       let g = gate-at-input c i in
-      check c s i ≡ detect c (kind-of-gate c g) read-first g (i - input c g 0) Nothing (look c (ready c (s .wires) i) i)
+      check c when s i ≡ detect c (kind-of-gate c g) when read-first g (i - input c g 0) Nothing (look c (ready c (s .wires) i) i)
   unfolding check compared unchanged last-value wires≔ last≔ if_then_else_
   as-change = rw e refl
 
   -- so a ChangeDetector fires, though it reads nothing
-  detector-fires : kind-of-gate c (gate-at-input c i) ≡ 6 → map (λ (r : Raise State Act When). r .act) (check c s i .raises) ≡ fire 1 (gate-at-input c i)
+  detector-fires : kind-of-gate c (gate-at-input c i) ≡ 6 → map (λ (r : Raise State Act When). r .act) (check c when s i .raises) ≡ fire 1 (gate-at-input c i)
   unfolding detect raise fire if_then_else_
   detector-fires k = rw (as-change, k) refl
 
@@ -219,7 +219,7 @@ noticed areas cb sb h =
             each = λ j l q.
                 let t = before-settling c (start c) (i .given) in
                 let k = start-visits c f (laid ws) (i .given) j l q in
-                let rs = check c (due c j (before-check c i j) (k .rest)) j .raises in
+                let rs = check c (when-checked (before-check c i j .state .wires) j) (due c j (before-check c i j) (k .rest)) j .raises in
                 let before = t .raises ++ pending (before-check c i j .raises) in
                 let e : opening-1 c i .raises ≡ before ++ (pending rs ++ pending (k .after)) =
                 ap (λ rs. t .raises ++ pending rs) (k .raised)
@@ -250,7 +250,7 @@ begins-first areas cb sb h room i j l q k e =
     let g = gate-at-input c j in
     let one : total (fire-of g) (fire 1 g) ≡ 1 = rw (eq-eqb g g refl) refl in
     let s = due c j (before-check c i j) (z .rest) in
-    omega (arith, z .begins e (fire-of g), ap (total (fire-of g)) (detector-fires c s j (z .unread) k), one)
+    omega (arith, z .begins e (fire-of g), ap (total (fire-of g)) (detector-fires c (when-checked (before-check c i j .state .wires) j) s j (z .unread) k), one)
 
 -- Tick 1 is the first tick of the run of which the order promise speaks.
 pub first-of-run : (c : Circuit) (room : ℕ) (i : Allowed) (is : List Allowed) → (ts : List (Numbered-tick c)) × (numbered-ticks c room (i ∷ is) ≡ tick-1 c room i ∷ ts)

@@ -7,6 +7,7 @@ use Prim.Native.Nat.{ℕ, zero, suc, _+_, _*_, _≤_, _<_}
 use native.Mathlib.Nat.{zero-add, mul-suc, mul-le-mul-left}
 use native.Mathlib.Omega.{arith}
 use lib.ListN.{length, getD, set}
+use Rattle.schedule.specs.Schedule.{When}
 use Rattle.model.specs.declared.Value.{Value}
 use Rattle.model.specs.declared.Value.the-variants.{Nothing, Bool as Truth}
 use Rattle.model.specs.Value.{bit, same}
@@ -15,7 +16,7 @@ use Rattle.model.specs.Circuit.{Circuit, kind-of-gate, output, gate-at-i
 use Rattle.model.specs.State.{Wires, State, outs≔, dirty≔, to-check≔, late-checks≔, last≔, pulses≔, wires≔, delays≔, changed≔}
 use Rattle.model.specs.Wires.{shown, show, soil, clean, watch, compute, recompute, ready, refresh-all, mark-readers, set-out}
 use Rattle.model.specs.Exec.{count-changed, delay≔}
-use Rattle.model.specs.Settle.{Settled, calm, raise, taken, pulse, detect, compared, check, check-on, most-checks, settle}
+use Rattle.model.specs.Settle.{Settled, calm, raise, taken, pulse, detect, compared, when-checked, check, check-on, most-checks, settle}
 use Rattle.model.proofs.Lists.{if-both, if-by, count, count-most, count-set, steady}
 use Rattle.model.proofs.Laid.{Laid}
 use Rattle.model.proofs.Walks.{checked}
@@ -128,13 +129,13 @@ module _ (c : Circuit) where
     abbrev Fine : Settled → Type 0
     Fine z = Within n (z .state .wires)
 
-    detect-within : (s : State) (g p : ℕ) (was now : Value) → Within n (s .wires) → Fine (detect c (kind-of-gate c g) s g p was now)
+    detect-within : (when : When) (s : State) (g p : ℕ) (was now : Value) → Within n (s .wires) → Fine (detect c (kind-of-gate c g) when s g p was now)
     unfolding calm raise delay≔ delays≔ wires≔ count-changed changed≔
-    detect-within s g p was now z = detect-keeps c Fine s g z (λ _ _. z) (λ o k e u l. pulse-within (s .wires) g o k e u l z) (λ _ _. z) p was now
+    detect-within when s g p was now z = detect-keeps c Fine s g z (λ _ _. z) (λ o k e u l. pulse-within (s .wires) g o k e u l z) (λ _ _. z) when p was now
 
-    check-within : (s : State) (i : ℕ) → Within n (s .wires) → Fine (check c s i)
+    check-within : (when : When) (s : State) (i : ℕ) → Within n (s .wires) → Fine (check c when s i)
     unfolding check compared wires≔ calm
-    check-within s i z = let y = noted-within i _ (ready-within (s .wires) i z) in if-both Fine _ y (detect-within _ (gate-at-input c i) _ _ _ y)
+    check-within when s i z = let y = noted-within i _ (ready-within (s .wires) i z) in if-both Fine _ y (detect-within when _ (gate-at-input c i) _ _ _ y)
 
   -- ---- the rounds
 
@@ -174,7 +175,7 @@ module _ (c : Circuit) where
     checked-within :
         (n : ℕ) (z : Settled) (i : ℕ) (is : List ℕ) → z .state .wires .to-check ≡ i ∷ is → Within (suc n) (z .state .wires) → Within n (checked c z i is .state .wires)
     unfolding wires≔
-    checked-within n z i is e y = check-within laid n _ i (taken-within n (z .state .wires) i is e y)
+    checked-within n z i is e y = check-within laid n _ _ i (taken-within n (z .state .wires) i is e y)
 
     settle-ends : (n : ℕ) (z : Settled) → Within n (z .state .wires) → Ends n z
     unfolding rounds

@@ -19,7 +19,7 @@ use Rattle.model.specs.Script.{Given}
 use Rattle.model.specs.State.{Wires, State, Delay, Act, outs≔, dirty≔, to-check≔, late-checks≔, times≔, last≔, pulses≔, unions-passed≔, runs-left≔, wires≔, delays≔, outbox≔, changed≔}
 use Rattle.model.specs.Wires.{show, soil, clean, watch, look, recompute, refresh-all, ready, invalidate, set-out}
 use Rattle.model.specs.Exec.{count-changed, delay≔}
-use Rattle.model.specs.Settle.{Settled, calm, raise, taken, pulse, compared, check, check-on, settle}
+use Rattle.model.specs.Settle.{Settled, calm, raise, taken, pulse, compared, when-checked, check, check-on, settle}
 use Rattle.model.specs.Opening.{next-tick, begin-tick, lower, before-settling}
 use Rattle.model.proofs.Lists.{if-both, all-pass}
 use Rattle.model.proofs.Checks.{detect-keeps}
@@ -110,9 +110,9 @@ module _ (c : Circuit) (i : ℕ) (pre : List ℕ) where
   abbrev Still-waiting : Settled → Type 0
   Still-waiting z = Waiting (z .state)
 
-  other-waiting : (s : State) (j : ℕ) → i ≢ j → Waiting s → Still-waiting (check c s j)
+  other-waiting : (when : When) (s : State) (j : ℕ) → i ≢ j → Waiting s → Still-waiting (check c when s j)
   unfolding check compared wires≔ last≔ calm raise
-  other-waiting s j n u =
+  other-waiting when s j n u =
       let v = ready-unread (s .wires) j u in
       let y : Waiting (wires≔ s (last≔ (ready c (s .wires) j) (set (ready c (s .wires) j .last) j (some (look c (ready c (s .wires) j) j))))) =
       record {
@@ -122,7 +122,7 @@ module _ (c : Circuit) (i : ℕ) (pre : List ℕ) where
         unread = getD-set-other (ready c (s .wires) j .last) j i _ none n ∙ v .unread;
       } in
       if-both Still-waiting _ y
-      (detect-keeps c Still-waiting _ (gate-at-input c j) y (λ _ _. y) (λ o k e p l. pulse-unread _ _ y) (λ d b. count-waiting _ b (delay-waiting _ _ d y)) _ _ _)
+      (detect-keeps c Still-waiting _ (gate-at-input c j) y (λ _ _. y) (λ o k e p l. pulse-unread _ _ y) (λ d b. count-waiting _ b (delay-waiting _ _ d y)) when _ _ _)
 
   -- ---- the opening up to its settling
 
@@ -152,14 +152,14 @@ module _ (c : Circuit) (i : ℕ) where
   pulse-last w o =
       set-out-keeps c (λ v. v .last ≡ w .last) (λ v g _ e. e) (λ v j _ e. if-both (λ (u : Wires). u .last ≡ w .last) _ e e) (λ v o x e. e) w o _ refl
 
-  check-last : (s : State) (j : ℕ) → check c s j .state .wires .last ≡ set (s .wires .last) j (some (look c (ready c (s .wires) j) j))
+  check-last : (when : When) (s : State) (j : ℕ) → check c when s j .state .wires .last ≡ set (s .wires .last) j (some (look c (ready c (s .wires) j) j))
   unfolding check compared wires≔ last≔ calm raise delay≔ delays≔ count-changed changed≔
-  check-last s j =
+  check-last when s j =
       let v = some (look c (ready c (s .wires) j) j) in
       let now = set (s .wires .last) j v in
       let e : set (ready c (s .wires) j .last) j v ≡ now = ap (λ ls. set ls j v) (ready-last (s .wires) j) in
       if-both (λ (z : Settled). z .state .wires .last ≡ now) _ e
-      (detect-keeps c (λ (z : Settled). z .state .wires .last ≡ now) _ (gate-at-input c j) e (λ _ _. e) (λ o k x p l. pulse-last _ _ ∙ e) (λ d b. e) _ _ _)
+      (detect-keeps c (λ (z : Settled). z .state .wires .last ≡ now) _ (gate-at-input c j) e (λ _ _. e) (λ o k x p l. pulse-last _ _ ∙ e) (λ d b. e) when _ _ _)
 
   -- input i has been read
   abbrev pub Read : List (Option Value) → Type 0
@@ -180,14 +180,14 @@ module _ (c : Circuit) (i : ℕ) where
   unfolding wires≔ taken to-check≔ late-checks≔
   read-on =
       check-on-keeps c (λ (z : Settled). Read (z .state .wires .last)) λ z j is e r.
-      subst Read (sym (check-last (wires≔ (z .state) (taken (z .state .wires) j is)) j)) (read-kept (z .state .wires .last) j _ r)
+      subst Read (sym (check-last (when-checked (z .state .wires) j) (wires≔ (z .state) (taken (z .state .wires) j is)) j)) (read-kept (z .state .wires .last) j _ r)
 
   -- settling raises more and more
   raises-on : (y : Settled) (n : ℕ) → (after : List (Raise State Act When)) × (check-on c n y .raises ≡ y .raises ++ after)
   raises-on y n =
       check-on-keeps c (λ (z : Settled). (after : List (Raise State Act When)) × (z .raises ≡ y .raises ++ after))
       (λ z j is e k.
-      let r = check c (wires≔ (z .state) (taken (z .state .wires) j is)) j .raises in
+      let r = check c (when-checked (z .state .wires) j) (wires≔ (z .state) (taken (z .state .wires) j is)) j .raises in
       (k .0 ++ r, ap (λ rs. rs ++ r) (k .1) ∙ append-assoc (y .raises) (k .0) r)) n y ([], sym (append-nil (y .raises)))
 
   -- the state in which it is checked, where it is the first of those that wait
@@ -200,7 +200,7 @@ module _ (c : Circuit) (i : ℕ) where
     pub turn : a .state .wires .to-check ≡ i ∷ rest
     pub unread : getD (a .state .wires .last) i none ≡ none
     pub after : List (Raise State Act When)
-    pub raised : b .raises ≡ a .raises ++ (check c (due a rest) i .raises ++ after)
+    pub raised : b .raises ≡ a .raises ++ (check c (when-checked (a .state .wires) i) (due a rest) i .raises ++ after)
     pub read : Read (b .state .wires .last)
 
   -- its turn comes when those before it have been checked
@@ -221,11 +221,11 @@ module _ (c : Circuit) (i : ℕ) where
         raised = ap (λ (x : Settled). x .raises) o ∙ g .1 ∙ append-assoc (z .raises) _ (g .0);
         read =
             subst (λ (x : Settled). Read (x .state .wires .last)) (sym o)
-            (read-on m y (subst Read (sym (check-last (due z (u .more)) i)) (read-now (z .state .wires .last) i _ refl (u .known))));
+            (read-on m y (subst Read (sym (check-last (when-checked (z .state .wires) i) (due z (u .more)) i)) (read-now (z .state .wires .last) i _ refl (u .known))));
       }
   visited (suc m) (p ∷ ps) z (_∷·_ n ns) u h =
       let o : (k : ℕ) → check-on c (suc k) z ≡ check-on c k (checked c z p (ps ++ (i ∷ u .more))) = λ k. one-waits c k z p (ps ++ (i ∷ u .more)) (u .waits) in
-      let v = other-waiting c i ps (wires≔ (z .state) (taken (z .state .wires) p (ps ++ (i ∷ u .more)))) p n
+      let v = other-waiting c i ps (when-checked (z .state .wires) p) (wires≔ (z .state) (taken (z .state .wires) p (ps ++ (i ∷ u .more)))) p n
       (record { more = u .more; waits = refl; known = u .known; unread = u .unread }) in
       let k = visited m ps (checked c z p (ps ++ (i ∷ u .more))) ns v (ap (λ (x : Settled). x .state .wires .to-check) (sym (o m)) ∙ h) in
       subst (λ (x : Settled). Visited x (check-on c (suc m) z)) (sym (o (length ps)))

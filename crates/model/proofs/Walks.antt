@@ -17,7 +17,7 @@ use Rattle.model.specs.State.{Wires, Delay, Act, State, wires≔}
 use Rattle.model.specs.Wires.{ready, set-outs, invalidate}
 use Rattle.model.specs.Delays.{Moved}
 use Rattle.model.specs.Exec.{Stepped, count-changed, delay≔, readied, exec-gate}
-use Rattle.model.specs.Settle.{Settled, taken, check, check-on, settle}
+use Rattle.model.specs.Settle.{Settled, taken, when-checked, check, check-on, settle}
 use Rattle.model.specs.Opening.{Opened, raised-to, fire, begin-tick, lower, advanced, advance-buffer, advance-clock, advance-timer, before-settling, open-tick}
 use Rattle.model.proofs.Lists.{if-both, each-keeps, each-spends, each-keeps-all, map-all, all-of}
 
@@ -27,7 +27,7 @@ module _ (c : Circuit) where
   -- the first that waits is taken and checked
   abbrev pub checked : Settled → ℕ → List ℕ → Settled
   checked z i is =
-      let r = check c (wires≔ (z .state) (taken (z .state .wires) i is)) i in
+      let r = check c (when-checked (z .state .wires) i) (wires≔ (z .state) (taken (z .state .wires) i is)) i in
       record { state = r .state; raises = z .raises ++ r .raises }
 
   -- by the rounds that are left

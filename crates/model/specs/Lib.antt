@@ -19,6 +19,7 @@ pub mod Questions
 pub mod Answer
 pub mod Table
 pub mod Order
+pub mod PutOff
 pub mod Counted
 pub mod Noticed
 pub mod Fresh

@@ -14,7 +14,7 @@ use Rattle.model.specs.Base.{if_then_else_, keep, from}
 use Rattle.model.specs.Circuit.{Circuit, kind-of-gate, gate-at-input, watching}
 use Rattle.model.specs.State.{State, Act, wires≔}
 use Rattle.model.specs.Wires.{refresh-all}
-use Rattle.model.specs.Settle.{Settled, calm, taken, check, check-on}
+use Rattle.model.specs.Settle.{Settled, calm, taken, when-checked, check, check-on}
 use Rattle.model.specs.Opening.{start, Opened, pending, before-settling, open-tick}
 use Rattle.model.specs.Run.{Allowed, machine, world-at-start}
 use Rattle.model.specs.Order.{Numbered-tick}
@@ -51,7 +51,7 @@ module _ (c : Circuit) where
 
   -- then input j is taken off the queue, on which these wait behind it, and checked
   abbrev pub checked-first : Allowed → ℕ → List ℕ → Settled
-  checked-first i j rest = let s = before-check i j .state in check c (wires≔ s (taken (s .wires) j rest)) j
+  checked-first i j rest = let s = before-check i j .state in check c (when-checked (s .wires) j) (wires≔ s (taken (s .wires) j rest)) j
 
   -- The first check of input j.
   pub record First-check (room : ℕ) (i : Allowed) (j : ℕ) : Type 0 where

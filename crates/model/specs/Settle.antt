@@ -6,7 +6,7 @@ use mathlib.Core.List.{List, [], _∷_, _++_, map}
 use mathlib.Core.Option.{Option, none, some}
 use lib.Dec.{eqb}
 use lib.ListN.{length, getD, set}
-use Rattle.schedule.specs.Schedule.{Raise, When, by-rank}
+use Rattle.schedule.specs.Schedule.{Raise, When, by-rank, put-off}
 use Rattle.model.specs.declared.Value.{Value}
 use Rattle.model.specs.declared.Value.the-variants.{Nothing, Bool as Truth}
 use Rattle.model.specs.Base.{if_then_else_, each}
@@ -44,6 +44,10 @@ unchanged (some u) v = same u v
 unfoldable pub taken : Wires → ℕ → List ℕ → Wires
 taken w i is = late-checks≔ (to-check≔ w is (set (w .queued) i false)) (set (w .late-checks) i false)
 
+-- how a check of input i raises what may be put off: where the input is marked for a late check, it is
+unfoldable pub when-checked : Wires → ℕ → When
+when-checked w i = if getD (w .late-checks) i false then put-off else by-rank
+
 -- no Var is written
 unfoldable pub none-written : Wires → Wires
 none-written w = written-outside≔ (written≔ w []) (map (λ _. false) (w .written-outside))
@@ -66,26 +70,26 @@ module _ (c : Circuit) where
   edge s was now hit =
       if lt64 (as-float 0 was) (as-float 0 now) then hit s 0 else if lt64 (as-float 0 now) (as-float 0 was) then hit s 1 else calm s
 
-  -- watched input p of gate g changed: a detector, a value buffer, or an exec pin, which raises where the value is true
-  unfoldable pub detect : ℕ → State → ℕ → ℕ → Value → Value → Settled
-  detect k s g p was now =
-      if eqb k 6 then raise by-rank s g 0
+  -- watched input p of gate g changed: a detector, a value buffer, or an exec pin, which raises where the value is true; only a ChangeDetector and a pin are put off
+  unfoldable pub detect : ℕ → When → State → ℕ → ℕ → Value → Value → Settled
+  detect k when s g p was now =
+      if eqb k 6 then raise when s g 0
       else if eqb k 7 then edge s was now (λ t o. calm (wires≔ t (pulse (t .wires) (output c g o))))
       else if eqb k 8 then calm (wires≔ s (pulse (s .wires) (output c g 0)))
       else if eqb k 9 then edge s was now (λ t o. raise by-rank t g (32 + o))
       else if eqb k 10 || eqb k 12 then calm (with-countdown c s g (λ d left. buffer-input d now left) (countdown c g (truthy now)))
-      else if truthy now then raise by-rank s g (16 + p)
+      else if truthy now then raise when s g (16 + p)
       else calm s
 
   -- `last` is replaced at every check, and acted on is only a change
-  unfoldable pub compared : State → ℕ → Option Value → Value → Settled
-  compared s i was now =
+  unfoldable pub compared : When → State → ℕ → Option Value → Value → Settled
+  compared when s i was now =
       let t = wires≔ s (last≔ (s .wires) (set (s .wires .last) i (some now))) in
-      if unchanged was now then calm t else detect (kind-of-gate c (gate-at-input c i)) t (gate-at-input c i) (i - input c (gate-at-input c i) 0) (last-value was) now
+      if unchanged was now then calm t else detect (kind-of-gate c (gate-at-input c i)) when t (gate-at-input c i) (i - input c (gate-at-input c i) 0) (last-value was) now
 
   -- a watched input is read
-  unfoldable pub check : State → ℕ → Settled
-  check s i = let t = wires≔ s (ready c (s .wires) i) in compared t i (getD (s .wires .last) i none) (look c (t .wires) i)
+  unfoldable pub check : When → State → ℕ → Settled
+  check when s i = let t = wires≔ s (ready c (s .wires) i) in compared when t i (getD (s .wires .last) i none) (look c (t .wires) i)
 
   -- first in, first out
   unfoldable pub check-on : ℕ → Settled → Settled
@@ -95,7 +99,7 @@ module _ (c : Circuit) where
       elim (w .to-check) [
         | [] ↦ z
         | (i ∷ is) ↦
-            let r = check (wires≔ (z .state) (taken w i is)) i in
+            let r = check (when-checked w i) (wires≔ (z .state) (taken w i is)) i in
             check-on n (record { state = r .state; raises = z .raises ++ r .raises })
       ]
 
@@ -108,5 +112,5 @@ module _ (c : Circuit) where
   settle s = check-on most-checks (calm (wires≔ s (refresh-all c (s .wires))))
 
   unfoldable pub settle-opened : ℕ
-  unfolding calm raise last-value unchanged taken none-written publish-write publish-writes pulse edge detect compared check check-on settle
+  unfolding calm raise last-value unchanged taken when-checked none-written publish-write publish-writes pulse edge detect compared check check-on settle
   settle-opened = 0
