@@ -59,13 +59,13 @@ module _ (a b : Contents) (d : Stepped) (step : Step) (e : Makes a b step d) whe
         others = ap (λ (x : Contents). with-calls x no-calls) (e .state);
       }
 
-module _ (c : Circuit) (vs us ds vs₁ us₁ ds₁ : List ℕ) (i : ℕ) (step : Step) (e : Makes (areas c vs us ds) (areas c vs₁ us₁ ds₁) step (exec-gate c (areas c vs us ds .state) i)) where
+module _ (c : Circuit) (vs us ds vs₁ us₁ ds₁ : List ℕ) (i : ℕ) (step : Step) (e : Makes (areas c vs us ds) (areas c vs₁ us₁ ds₁) step (exec-gate c false (areas c vs us ds .state) i)) where
   pub call-fires :
       (o : ℕ) → step ≡ Fires o → (us₂ : List ℕ) (r : Filed) → Pushes (units c us₁) (units c us₂) r (push-calls c (some o) (units c us₁ .calls)) →
-      Makes-call (areas c vs us ds) (areas c vs₁ us₂ ds₁) r (exec-gate c (areas c vs us ds .state) i) (push-calls c (exec-gate c (areas c vs us ds .state) i .next) (areas c vs us ds .calls))
+      Makes-call (areas c vs us ds) (areas c vs₁ us₂ ds₁) r (exec-gate c false (areas c vs us ds .state) i) (push-calls c (exec-gate c false (areas c vs us ds .state) i .next) (areas c vs us ds .calls))
   unfolding stepped
   call-fires o h us₂ r p =
-      let d = exec-gate c (areas c vs us ds .state) i in
+      let d = exec-gate c false (areas c vs us ds .state) i in
       let n = next-is (areas c vs us ds) (areas c vs₁ us₁ ds₁) d step e (some o) false (ap (stepped (d .state)) h) in
       let q : push-calls c (some o) (units c us₁ .calls) ≡ push-calls c (d .next) (units c us .calls) =
       ap₂ (λ (x : Option ℕ) (y : Calls). push-calls c x y) (sym (n .0)) (same-calls (areas c vs us ds) (areas c vs₁ us₁ ds₁) d step e)
@@ -81,12 +81,12 @@ module _ (c : Circuit) (vs us ds vs₁ us₁ ds₁ : List ℕ) (i : ℕ) (step :
       }
 
   pub call-ends :
-      step ≡ Ends → Makes-call (areas c vs us ds) (areas c vs₁ us₁ ds₁) Done (exec-gate c (areas c vs us ds .state) i) (push-calls c (exec-gate c (areas c vs us ds .state) i .next) (areas c vs us ds .calls))
-  call-ends h = made-quiet (areas c vs us ds) (areas c vs₁ us₁ ds₁) (exec-gate c (areas c vs us ds .state) i) step e c (held-fit c us₁) h
+      step ≡ Ends → Makes-call (areas c vs us ds) (areas c vs₁ us₁ ds₁) Done (exec-gate c false (areas c vs us ds .state) i) (push-calls c (exec-gate c false (areas c vs us ds .state) i .next) (areas c vs us ds .calls))
+  call-ends h = made-quiet (areas c vs us ds) (areas c vs₁ us₁ ds₁) (exec-gate c false (areas c vs us ds .state) i) step e c (held-fit c us₁) h
 
   pub call-full :
-      step ≡ NoRoom → Makes-call (areas c vs us ds) (areas c vs₁ us₁ ds₁) Full (exec-gate c (areas c vs us ds .state) i) (push-calls c (exec-gate c (areas c vs us ds .state) i .next) (areas c vs us ds .calls))
-  call-full h = made-full (areas c vs us ds) (areas c vs₁ us₁ ds₁) (exec-gate c (areas c vs us ds .state) i) step e _ h
+      step ≡ NoRoom → Makes-call (areas c vs us ds) (areas c vs₁ us₁ ds₁) Full (exec-gate c false (areas c vs us ds .state) i) (push-calls c (exec-gate c false (areas c vs us ds .state) i .next) (areas c vs us ds .calls))
+  call-full h = made-full (areas c vs us ds) (areas c vs₁ us₁ ds₁) (exec-gate c false (areas c vs us ds .state) i) step e _ h
 
 -- ---- the turns of a chain
 
@@ -122,14 +122,14 @@ module _ (c : Circuit) (q : Calls) (s : State) where
     run-over = rw (e, run-chain)
 
     abbrev after : Calls
-    after = push-calls c (exec-gate c s (t .input) .next) (t .rest)
+    after = push-calls c (exec-gate c false s (t .input) .next) (t .rest)
 
-    run-stop : (left : ℕ) → 0 < left → (fit after && not (exec-gate c s (t .input) .full)) ≡ false → run-chain c left q s ≡ chained (exec-gate c s (t .input) .state) (left - 1) list-full after
+    run-stop : (left : ℕ) → 0 < left → (fit after && not (exec-gate c false s (t .input) .full)) ≡ false → run-chain c left q s ≡ chained (exec-gate c false s (t .input) .state) (left - 1) list-full after
     unfolding run-chain
     run-stop zero h f = absurd (omega (arith, h))
     run-stop (suc left) h f = let z : suc left - 1 ≡ left = omega arith in rw (z, e, run-chain) (rw f)
 
-    run-on : (left : ℕ) → 0 < left → (fit after && not (exec-gate c s (t .input) .full)) ≡ true → run-chain c left q s ≡ run-chain c (left - 1) after (exec-gate c s (t .input) .state)
+    run-on : (left : ℕ) → 0 < left → (fit after && not (exec-gate c false s (t .input) .full)) ≡ true → run-chain c left q s ≡ run-chain c (left - 1) after (exec-gate c false s (t .input) .state)
     unfolding run-chain
     run-on zero h f = absurd (omega (arith, h))
     run-on (suc left) h f = let z : suc left - 1 ≡ left = omega arith in rw (z, e, run-chain) (rw f)
@@ -208,15 +208,15 @@ module _ (c : Circuit) (vs₀ us₀ ds₀ vs us ds : List ℕ) (left₀ left : �
         (λ f. absurd (omega (arith, f)))
 
     module _ (i : ℕ) (h : top ≡ Entry i) (l : 0 < left) (vs₂ us₂ ds₂ : List ℕ) (r : Filed)
-        (m : Makes-call (areas c vs us₁ ds) (areas c vs₂ us₂ ds₂) r (exec-gate c (areas c vs us₁ ds .state) i) (push-calls c (exec-gate c (areas c vs us₁ ds .state) i .next) (areas c vs us₁ ds .calls))) where
+        (m : Makes-call (areas c vs us₁ ds) (areas c vs₂ us₂ ds₂) r (exec-gate c false (areas c vs us₁ ds .state) i) (push-calls c (exec-gate c false (areas c vs us₁ ds .state) i .next) (areas c vs us₁ ds .calls))) where
       one-made :
           (t : Popped) → i ≡ t .input → areas c vs us₁ ds ≡ with-calls (areas c vs us ds) (t .rest) →
-          Makes-call (with-calls (areas c vs us ds) (t .rest)) (areas c vs₂ us₂ ds₂) r (exec-gate c (areas c vs us ds .state) (t .input)) (push-calls c (exec-gate c (areas c vs us ds .state) (t .input) .next) (t .rest))
+          Makes-call (with-calls (areas c vs us ds) (t .rest)) (areas c vs₂ us₂ ds₂) r (exec-gate c false (areas c vs us ds .state) (t .input)) (push-calls c (exec-gate c false (areas c vs us ds .state) (t .input) .next) (t .rest))
       one-made t ei ea =
           subst
-          (λ (j : ℕ). Makes-call (with-calls (areas c vs us ds) (t .rest)) (areas c vs₂ us₂ ds₂) r (exec-gate c (areas c vs us ds .state) j) (push-calls c (exec-gate c (areas c vs us ds .state) j .next) (t .rest)))
+          (λ (j : ℕ). Makes-call (with-calls (areas c vs us ds) (t .rest)) (areas c vs₂ us₂ ds₂) r (exec-gate c false (areas c vs us ds .state) j) (push-calls c (exec-gate c false (areas c vs us ds .state) j .next) (t .rest)))
           ei
-          (subst (λ (a : Contents). Makes-call a (areas c vs₂ us₂ ds₂) r (exec-gate c (a .state) i) (push-calls c (exec-gate c (a .state) i .next) (a .calls))) ea m)
+          (subst (λ (a : Contents). Makes-call a (areas c vs₂ us₂ ds₂) r (exec-gate c false (a .state) i) (push-calls c (exec-gate c false (a .state) i .next) (a .calls))) ea m)
 
       -- a list was full
       pub chain-stopped :
@@ -226,10 +226,10 @@ module _ (c : Circuit) (vs₀ us₀ ds₀ vs us ds : List ℕ) (left₀ left : �
           let o = one-made (p .0) (p .1 .1 .0) (p .1 .1 .1) in
           reached
           (areas c vs₂ us₂ ds₂)
-          (exec-gate c (areas c vs us ds .state) (p .0 .input) .state)
+          (exec-gate c false (areas c vs us ds .state) (p .0 .input) .state)
           (left - 1)
           12
-          (push-calls c (exec-gate c (areas c vs us ds .state) (p .0 .input) .next) (p .0 .rest))
+          (push-calls c (exec-gate c false (areas c vs us ds .state) (p .0 .input) .next) (p .0 .rest))
           (run-stop c (units c us .calls) (areas c vs us ds .state) (p .0) (p .1 .0) left l (was-full _ (sym f ∙ o .answer)))
           (o .others)
           (λ z. absurd (omega (arith, z)))

@@ -1,4 +1,5 @@
 // A chain of calls and its forks.
+ghost use mathlib.Core.Bool.{false};
 ghost use Rattle.model.specs.Exec.{exec-gate};
 ghost use Rattle.model.specs.Chain.{push-calls, run-chain};
 ghost use Rattle.states.specs.Lent.{Slots-stay};
@@ -30,10 +31,10 @@ fn make_call(
     i: usize,
 ) -> Filed
     requires { ⌜ All-lent links values units delays ⌝ }
-    ensures { λ r. ⌜ Over-all links values units delays (λ c old new. Makes-call old new r (exec-gate c (old .state) i) (push-calls c (exec-gate c (old .state) i .next) (old .calls))) ⌝ }
+    ensures { λ r. ⌜ Over-all links values units delays (λ c old new. Makes-call old new r (exec-gate c false (old .state) i) (push-calls c (exec-gate c false (old .state) i .next) (old .calls))) ⌝ }
     ensures { λ _. ⌜ Slots-stay links delays ⌝ }
 {
-    let step = exec(links, values, units, delays, i);
+    let step = exec(links, values, units, delays, i, false);
     match step {
         Step::Fires(o) => push_calls(links, units, o),
         Step::Ends => Filed::Done,
