@@ -12,12 +12,12 @@ use Rattle.schedule.proofs.Members.{all-append}
 use Rattle.model.specs.declared.Value.{Value}
 use Rattle.model.specs.Circuit.{Circuit, gate-at-input}
 use Rattle.model.specs.Script.{Given}
-use Rattle.model.specs.State.{Wires, State, Delay, Act, Send, outs≔, dirty≔, to-check≔, times≔, last≔, pulses≔, written≔, unions-passed≔, wires≔, delays≔, outbox≔, changed≔}
-use Rattle.model.specs.Wires.{show, soil, clean, watch, recompute, refresh-all, ready, mark-readers, invalidate, set-out, set-outs}
+use Rattle.model.specs.State.{Wires, State, Delay, Act, Send, outs≔, dirty≔, to-check≔, late-checks≔, times≔, last≔, pulses≔, written≔, written-outside≔, unions-passed≔, runs-left≔, wires≔, delays≔, outbox≔, changed≔}
+use Rattle.model.specs.Wires.{show, soil, clean, watch, recompute, refresh-all, ready, mark-readers-for, mark-readers, invalidate, set-out, set-outs}
 use Rattle.model.specs.Delays.{Started}
-use Rattle.model.specs.Exec.{count-changed, Stepped, fires-next, ends, delay≔, set-output, readied, record-write, exec-Buffer, exec-Stopwatch, exec-Queue, exec-VarGet, exec-VarSet, exec-Branch, exec-Union, exec-Toggle, exec-Cycle, exec-SendEvent, exec-kind, exec-gate}
+use Rattle.model.specs.Exec.{count-changed, Stepped, fires-next, ends, delay≔, set-output, readied, write-once, record-write, exec-Buffer, exec-Stopwatch, exec-Queue, exec-VarGet, exec-VarSet, exec-Branch, exec-Union, exec-Toggle, exec-Cycle, exec-SendEvent, exec-kind, exec-gate}
 use Rattle.model.specs.Chain.{Calls, Chained, run-chain}
-use Rattle.model.specs.Settle.{Settled, calm, raise, publish-writes, pulse, compared, check, check-on, settle}
+use Rattle.model.specs.Settle.{Settled, calm, raise, taken, none-written, publish-write, publish-writes, pulse, compared, check, check-on, settle}
 use Rattle.model.specs.Opening.{wires-fresh, wires-at-start, start, next-tick, begin-tick, lower, open-tick}
 use Rattle.model.specs.Unit.{World, state≔, raises-in, enter, run-unit, finish-chain}
 use Rattle.model.specs.Closing.{read-outputs, write, close}
@@ -25,7 +25,7 @@ use Rattle.model.specs.Run.{Allowed, opening, body, closing, machine}
 use Rattle.model.proofs.Lists.{all-pass, if-both, each-keeps, map-all}
 use Rattle.model.proofs.Checks.{detect-keeps}
 use Rattle.model.proofs.Walks.{run-chain-keeps, check-on-keeps, Opened-keeps, open-tick-keeps}
-use Rattle.model.proofs.Sized.{refresh-all-keeps, ready-keeps, mark-readers-keeps, set-out-keeps, set-outs-keeps}
+use Rattle.model.proofs.Sized.{refresh-all-keeps, ready-keeps, mark-readers-for-keeps, mark-readers-keeps, set-out-keeps, set-outs-keeps}
 
 -- ---- the number of the tick
 
@@ -56,6 +56,10 @@ module _ (c : Circuit) (n : ℕ) where
   unfolding to-check≔
   to-check-at is bs z = record { number = z .number }
 
+  late-at : (w : Wires) (bs : List Bool) → Wires-at n w → Wires-at n (late-checks≔ w bs)
+  unfolding late-checks≔
+  late-at w bs z = record { number = z .number }
+
   last-at : {w : Wires} (x : List (Option Value)) → Wires-at n w → Wires-at n (last≔ w x)
   unfolding last≔
   last-at x z = record { number = z .number }
@@ -67,6 +71,10 @@ module _ (c : Circuit) (n : ℕ) where
   written-at : {w : Wires} (x : List ℕ) → Wires-at n w → Wires-at n (written≔ w x)
   unfolding written≔
   written-at x z = record { number = z .number }
+
+  outside-at : {w : Wires} (x : List Bool) → Wires-at n w → Wires-at n (written-outside≔ w x)
+  unfolding written-outside≔
+  outside-at x z = record { number = z .number }
 
   passed-at : {w : Wires} (x : List Bool) → Wires-at n w → Wires-at n (unions-passed≔ w x)
   unfolding unions-passed≔
@@ -87,6 +95,10 @@ module _ (c : Circuit) (n : ℕ) where
 
   ready-at : (w : Wires) (i : ℕ) → Wires-at n w → Wires-at n (ready c w i)
   ready-at = ready-keeps c (Wires-at n) (λ _. Unit {0}) (λ _ _ _ _. tt) (λ w g _ z. recompute-at w g z)
+
+  mark-readers-for-at : (late : Bool) (w : Wires) (o : ℕ) → Wires-at n w → Wires-at n (mark-readers-for c late w o)
+  mark-readers-for-at late =
+      mark-readers-for-keeps c (Wires-at n) (λ w g _ z. soil-at w g z) (λ w i _ z. watch-at w i z) late (λ _ w i z. late-at w _ z)
 
   mark-readers-at : (w : Wires) (o : ℕ) → Wires-at n w → Wires-at n (mark-readers c w o)
   mark-readers-at = mark-readers-keeps c (Wires-at n) (λ w g _ z. soil-at w g z) (λ w i _ z. watch-at w i z)
@@ -144,15 +156,15 @@ module _ (c : Circuit) (n : ℕ) where
   unfolding exec-Queue ends
   Queue-at s g k z = count-at _ (delay-at _ _ (readied-at _ _ _ z))
 
-  record-write-at : {w : Wires} (o : ℕ) → Wires-at n w → Wires-at n (record-write c w o)
-  unfolding record-write
-  record-write-at o z = if-both (Wires-at n) _ z (written-at _ z)
+  record-write-at : {w : Wires} (inside : Bool) (o : ℕ) → Wires-at n w → Wires-at n (record-write c inside w o)
+  unfolding record-write write-once
+  record-write-at inside o z = let y = if-both (Wires-at n) inside z (outside-at _ z) in if-both (Wires-at n) _ y (written-at _ y)
 
-  VarSet-at : (s : State) (g : ℕ) → State-at n s → Stepped-at (exec-VarSet c s g)
+  VarSet-at : (inside : Bool) (s : State) (g : ℕ) → State-at n s → Stepped-at (exec-VarSet c inside s g)
   unfolding exec-VarSet fires-next
-  VarSet-at s g z =
+  VarSet-at inside s g z =
       let y = readied-at _ _ _ z in
-      wires-at y (record-write-at _ (show-at _ _ _ (y .wires)))
+      wires-at y (record-write-at inside _ (show-at _ _ _ (y .wires)))
 
   Union-at : (s : State) (g : ℕ) → State-at n s → Stepped-at (exec-Union c s g)
   unfolding exec-Union fires-next ends
@@ -162,25 +174,25 @@ module _ (c : Circuit) (n : ℕ) where
   unfolding exec-SendEvent fires-next
   SendEvent-at s g z = if-both (State-at n) _ (readied-at g 2 8 z) (outbox-at _ (readied-at g 2 8 z))
 
-  exec-kind-at : (k : ℕ) (s : State) (g p : ℕ) → State-at n s → Stepped-at (exec-kind c k s g p)
+  exec-kind-at : (inside : Bool) (k : ℕ) (s : State) (g p : ℕ) → State-at n s → Stepped-at (exec-kind c inside k s g p)
   unfolding exec-kind fires-next ends exec-VarGet exec-Branch exec-Toggle exec-Cycle
-  exec-kind-at k s g p z =
+  exec-kind-at inside k s g p z =
       if-both Stepped-at _ z
       (if-both Stepped-at _ (Buffer-at s g z)
       (if-both Stepped-at _ (Stopwatch-at s g p z)
       (if-both Stepped-at _ (Queue-at s g _ z)
       (if-both Stepped-at _ (Queue-at s g _ z)
       (if-both Stepped-at _ (set-output-at _ _ z)
-      (if-both Stepped-at _ (VarSet-at s g z)
+      (if-both Stepped-at _ (VarSet-at inside s g z)
       (if-both Stepped-at _ (readied-at _ _ _ z)
       (if-both Stepped-at _ (Union-at s g z)
       (if-both Stepped-at _ (set-output-at _ _ z)
       (if-both Stepped-at _ (set-output-at _ _ (readied-at _ _ _ z))
       (if-both Stepped-at _ (SendEvent-at s g z) z)))))))))))
 
-  exec-gate-at : (s : State) (i : ℕ) → State-at n s → Stepped-at (exec-gate c s i)
+  exec-gate-at : (inside : Bool) (s : State) (i : ℕ) → State-at n s → Stepped-at (exec-gate c inside s i)
   unfolding exec-gate
-  exec-gate-at s i z = exec-kind-at _ s _ _ z
+  exec-gate-at inside s i z = exec-kind-at inside _ s _ _ z
 
   -- ---- a chain
 
@@ -190,8 +202,9 @@ module _ (c : Circuit) (n : ℕ) where
   -- ---- settling
 
   publish-writes-at : (w : Wires) → Wires-at n w → Wires-at n (publish-writes c w)
-  unfolding publish-writes
-  publish-writes-at w z = written-at [] (each-keeps (Wires-at n) (mark-readers c) mark-readers-at w (w .written) z)
+  unfolding publish-writes publish-write none-written
+  publish-writes-at w z =
+      outside-at _ (written-at [] (each-keeps (Wires-at n) (publish-write c) (λ u o. mark-readers-for-at _ u o) w (w .written) z))
 
   -- each state in which something is raised
   abbrev Raises-at : {P : Type 0} → List (Raise State Act P) → Type 0
@@ -222,9 +235,10 @@ module _ (c : Circuit) (n : ℕ) where
       (λ o k e u l. calm-at (wires-at y (pulse-at _ (y .wires)))) (λ d b. calm-at (count-at b (delay-at _ d y))) _ _ _)
 
   check-on-at : (m : ℕ) (z : Settled) → Settled-at z → Settled-at (check-on c m z)
+  unfolding taken
   check-on-at =
       check-on-keeps c Settled-at λ z i is e y.
-      let x = check-at _ i (wires-at (y .state) (to-check-at _ _ (y .state .wires))) in
+      let x = check-at _ i (wires-at (y .state) (late-at _ _ (to-check-at _ _ (y .state .wires)))) in
       record { state = x .state; raises = all-append (y .raises) (x .raises) }
 
   settle-at : (s : State) → State-at n s → Settled-at (settle c s)
@@ -294,7 +308,7 @@ module _ (c : Circuit) (n : ℕ) where
 
 -- the next tick has the next number
 begins-next : (s : State) (dt : ℕ) → State-at (suc (s .wires .tick)) (begin-tick s dt)
-unfolding begin-tick next-tick times≔ unions-passed≔ wires≔ outbox≔ changed≔
+unfolding begin-tick next-tick times≔ unions-passed≔ runs-left≔ wires≔ outbox≔ changed≔
 begins-next s dt = record { wires = record { number = refl } }
 
 -- A tick counts up the number of ticks by one, also one that is stopped.

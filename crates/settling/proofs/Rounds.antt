@@ -1,16 +1,14 @@
 -- Raising one after the other, and the rounds of settling: what is raised so far is filed before what is raised later.
 use Prim.Native.Nat.{ℕ, zero, suc}
 use mathlib.Core.Path.{_≡_, refl, sym}
-use mathlib.Core.Bool.{false}
 use mathlib.Core.List.{List, [], _∷_, _++_, append-nil, append-assoc}
 use native.Mathlib.Omega.{arith}
-use lib.ListN.{set}
 use Rattle.schedule.specs.Schedule.{Raise, When, Filed, full, filed}
 use Rattle.lists.specs.declared.Filed.{Filed as Answer}
 use Rattle.lists.specs.declared.Filed.the-variants.{Full, Done}
 use Rattle.model.specs.Circuit.{Circuit}
-use Rattle.model.specs.State.{Act, State, wires≔, to-check≔}
-use Rattle.model.specs.Settle.{calm, check, check-on}
+use Rattle.model.specs.State.{Act, State, wires≔}
+use Rattle.model.specs.Settle.{calm, taken, check, check-on}
 use Rattle.units.specs.View.{Lists}
 use Rattle.units.specs.Raising.{answer, lists-after, Went, raise-into}
 
@@ -74,7 +72,7 @@ first-on x z f = elim x [ [] ↦ z | (i ∷ is) ↦ f i is ]
 module _ (c : Circuit) where
   -- the state in which an input that was taken is checked
   abbrev pub to-be-checked : State → ℕ → List ℕ → State
-  to-be-checked s i is = wires≔ s (to-check≔ (s .wires) is (set (s .wires .queued) i false))
+  to-be-checked s i is = wires≔ s (taken (s .wires) i is)
 
   -- what was raised before comes first
   pub raised-before :

@@ -1,24 +1,24 @@
 -- The rounds of settling, one after the other: one law for each way out of a function.
 use Prim.Native.Nat.{ℕ, zero, suc, _+_, _-_, _*_, _≤_, _<_}
 use mathlib.Core.Path.{_≡_, refl, sym, ap, ap₂, subst, _∙_}
-use mathlib.Core.Bool.{false}
+use mathlib.Core.Bool.{Bool}
 use mathlib.Core.List.{List, [], _∷_, _++_}
 use mathlib.Core.Option.{Option, none, some}
 use native.Mathlib.Nat.{mul-le-mul}
 use native.Mathlib.Omega.{arith}
 use native.Mathlib.Numerals.{add-one}
-use lib.ListN.{length, set}
+use lib.ListN.{length}
 use Rattle.schedule.specs.Schedule.{by-rank}
 use Rattle.lists.specs.declared.Filed.{Filed as Answer}
 use Rattle.lists.specs.declared.Filed.the-variants.{Full as NoRoom, Done as Room}
 use Rattle.model.specs.Circuit.{Circuit}
-use Rattle.model.specs.State.{State, Wires, wires≔, to-check≔}
+use Rattle.model.specs.State.{State, Wires, wires≔}
 use Rattle.model.specs.Wires.{refresh-all}
-use Rattle.model.specs.Settle.{Settled, calm, check, check-on, most-checks, settle}
+use Rattle.model.specs.Settle.{Settled, calm, taken, check, check-on, most-checks, settle}
 use Rattle.wires.specs.declared.Waiting.{Waiting}
 use Rattle.wires.specs.declared.Waiting.the-variants.{Input, Nothing as NoInput}
 use Rattle.wires.specs.View.{Values, with-wires}
-use Rattle.wires.specs.Checks.{waiting, oldest, taken}
+use Rattle.wires.specs.Checks.{waiting, oldest, oldest-taken}
 use Rattle.states.specs.View.{Delays}
 use Rattle.units.specs.declared.Place.{Place}
 use Rattle.units.specs.View.{act-of, Lists, Units}
@@ -61,7 +61,7 @@ module _ (c : Circuit) (to : Place) where
 
   -- a round, then the others
   pub round-first : (n : ℕ) (s : State) (l : Lists) → goes-on c to (suc n) s l ≡ rest-of s l (goes-on c to n) (round-of c to s l)
-  unfolding goes-on round-of oldest taken check-on calm filed-into raise-into
+  unfolding goes-on round-of oldest oldest-taken check-on calm filed-into raise-into
   round-first n s l = go (s .wires .to-check)
     where
       go :
@@ -70,7 +70,7 @@ module _ (c : Circuit) (to : Place) where
           ≡ rest-of s l (goes-on c to n)
           (elim (first-on x none (λ i is. some i)) [
             | none ↦ none
-            | some i ↦ some (filed-into c to (check c (wires≔ s (first-on x (s .wires) (λ j is. to-check≔ (s .wires) is (set (s .wires .queued) j false)))) i) l)
+            | some i ↦ some (filed-into c to (check c (wires≔ s (first-on x (s .wires) (taken (s .wires)))) i) l)
           ])
       go [] = refl
       go (i ∷ is) = filed-first n (record { state = check c (to-be-checked c s i is) i .state; raises = [] ++ check c (to-be-checked c s i is) i .raises }) l
@@ -87,16 +87,16 @@ unfolding answer-of
 filed-done a b e h = ap answer-of (sym h ∙ e)
 
 -- nothing is taken where nothing waits
-none-taken : (w : Wires) → none ≡ oldest w → taken w ≡ w
-unfolding oldest taken
+none-taken : (w : Wires) → none ≡ oldest w → oldest-taken w ≡ w
+unfolding oldest oldest-taken
 none-taken w e = go (w .to-check) e
   where
-    go : (x : List ℕ) → _≡_ {A = Option ℕ} none (first-on x none (λ i is. some i)) → first-on x w (λ i is. to-check≔ w is (set (w .queued) i false)) ≡ w
+    go : (x : List ℕ) → _≡_ {A = Option ℕ} none (first-on x none (λ i is. some i)) → first-on x w (taken w) ≡ w
     go [] h = refl
     go (i ∷ is) h = cc
 
 -- one round, by what waits and what the check raises
-module _ (c : Circuit) (to : Place) (v v₁ : Values) (u : Units) (d : Delays) (n : Waiting) (en : (waiting n ≡ oldest (v .wires)) × (v₁ ≡ with-wires v (taken (v .wires)))) where
+module _ (c : Circuit) (to : Place) (v v₁ : Values) (u : Units) (d : Delays) (n : Waiting) (en : (waiting n ≡ oldest (v .wires)) × (v₁ ≡ with-wires v (oldest-taken (v .wires)))) where
   pub next-idle :
       n ≡ NoInput →
       (Idle ≡ round-answer (round-of c to (together v u d .state) (u .lists))) × (together v₁ u d ≡ after-round (together v u d) (round-of c to (together v u d .state) (u .lists)))
@@ -106,13 +106,13 @@ module _ (c : Circuit) (to : Place) (v v₁ : Values) (u : Units) (d : Delays) (
       let p : round-of c to (together v u d .state) (u .lists) ≡ none = rw (← q, round-of) in
       (ap round-answer (sym p), ap (λ (y : Values). together y u d) (en .1) ∙ ap (λ (w : Wires). together (with-wires v w) u d) (none-taken (v .wires) q) ∙ ap (after-round (together v u d)) (sym p))
 
-  module _ (i : ℕ) (v₂ : Values) (e : Delays) (r : Raised) (ei : n ≡ Input i) (ec : Acts c v₁ d v₂ e (λ s. check c s i) r) where
+  module _ (i : ℕ) (late : Bool) (v₂ : Values) (e : Delays) (r : Raised) (ei : n ≡ Input i late) (ec : Acts c v₁ d v₂ e (λ s. check c s i) r) where
     -- what the check leads to
     abbrev found : Settled
-    found = check c (wires≔ (together v u d .state) (taken (v .wires))) i
+    found = check c (wires≔ (together v u d .state) (oldest-taken (v .wires))) i
 
     -- in the state in which it is made
-    acts : Acts c (with-wires v (taken (v .wires))) d v₂ e (λ s. check c s i) r
+    acts : Acts c (with-wires v (oldest-taken (v .wires))) d v₂ e (λ s. check c s i) r
     acts = subst (λ (y : Values). Acts c y d v₂ e (λ s. check c s i) r) (en .1) ec
 
     -- so the round comes to what it raises, filed

@@ -9,7 +9,7 @@ use Rattle.model.specs.Circuit.{Circuit, kind-of-gate, input, gate-at-input}
 use Rattle.model.specs.State.{State, wires≔}
 use Rattle.model.specs.Settle.{Settled, calm, detect, check, check-on}
 use Rattle.wires.specs.View.{Values}
-use Rattle.wires.specs.Checks.{oldest, taken}
+use Rattle.wires.specs.Checks.{oldest, oldest-taken}
 use Rattle.states.specs.View.{Delays}
 use Rattle.units.specs.declared.Place.{Place}
 use Rattle.units.specs.View.{Lists, Units}
@@ -45,7 +45,7 @@ goes-on c to n s l = filed-into c to (check-on c n (calm s)) l
 
 -- what a round comes to, where an input waits
 unfoldable pub round-of : Circuit → Place → State → Lists → Option Went
-round-of c to s l = elim (oldest (s .wires)) [ none ↦ none | some i ↦ some (filed-into c to (check c (wires≔ s (taken (s .wires))) i) l) ]
+round-of c to s l = elim (oldest (s .wires)) [ none ↦ none | some i ↦ some (filed-into c to (check c (wires≔ s (oldest-taken (s .wires))) i) l) ]
 
 -- its answer
 unfoldable pub answer-of : Answer → Round

@@ -213,7 +213,7 @@ fn check_next(
     let next = take_check(links, values);
     match next {
         Waiting::Nothing => Round::Idle,
-        Waiting::Input(i) => {
+        Waiting::Input(i, _) => {
             let raised = check(links, values, delays, i);
             match raised {
                 Raised::Nothing => Round::Done,

@@ -67,62 +67,62 @@ pub queue-kind : (c : Circuit) (g k : ℕ) → k ≡ kind-of-gate c g → OneOf 
 unfolding is-queue within
 queue-kind c g k e h = rw (← e) (⊎-elim (λ (z : k ≡ 16). rw z) (λ (z : k ≡ 17). rw z) h)
 
-module _ (c : Circuit) (i g k p : ℕ) (a b : Contents) (r : Step) (eg : g ≡ gate-at-input c i) (ep : p ≡ i - input c g 0) (ek : k ≡ kind-of-gate c g) where
-  by-kind : (d : Stepped) → exec-kind c k (a .state) g p ≡ d → Makes a b r d → Makes a b r (exec-gate c (a .state) i)
+module _ (c : Circuit) (inside : Bool) (i g k p : ℕ) (a b : Contents) (r : Step) (eg : g ≡ gate-at-input c i) (ep : p ≡ i - input c g 0) (ek : k ≡ kind-of-gate c g) where
+  by-kind : (d : Stepped) → exec-kind c inside k (a .state) g p ≡ d → Makes a b r d → Makes a b r (exec-gate c inside (a .state) i)
   unfolding exec-gate
   by-kind d h m = makes-as a b r d _ (rw (← eg, ← ek, ← ep) h) m
 
-  pub on-buffer : OneOf (11 ∷ 13 ∷ []) k → Makes a b r (exec-Buffer c (a .state) g) → Makes a b r (exec-gate c (a .state) i)
+  pub on-buffer : OneOf (11 ∷ 13 ∷ []) k → Makes a b r (exec-Buffer c (a .state) g) → Makes a b r (exec-gate c inside (a .state) i)
   unfolding exec-kind if_then_else_
   on-buffer h m = by-kind _ (⊎-elim (λ (z : k ≡ 11). rw z) (λ (z : k ≡ 13). rw z) h) m
 
-  pub on-stopwatch : k ≡ 15 → Makes a b r (exec-Stopwatch c (a .state) g p) → Makes a b r (exec-gate c (a .state) i)
+  pub on-stopwatch : k ≡ 15 → Makes a b r (exec-Stopwatch c (a .state) g p) → Makes a b r (exec-gate c inside (a .state) i)
   unfolding exec-kind if_then_else_
   on-stopwatch h m = by-kind _ (rw h) m
 
-  pub on-queue : OneOf (16 ∷ 17 ∷ []) k → Makes a b r (exec-Queue c (a .state) g (queue-countdown (eqb (kind-of-gate c g) 17))) → Makes a b r (exec-gate c (a .state) i)
+  pub on-queue : OneOf (16 ∷ 17 ∷ []) k → Makes a b r (exec-Queue c (a .state) g (queue-countdown (eqb (kind-of-gate c g) 17))) → Makes a b r (exec-gate c inside (a .state) i)
   unfolding exec-kind if_then_else_ queue-countdown
   on-queue h m = by-kind _ (rw (← ek) (⊎-elim (λ (z : k ≡ 16). rw z) (λ (z : k ≡ 17). rw z) h)) m
 
-  pub on-var-get : k ≡ 18 → Makes a b r (exec-VarGet c (a .state) g) → Makes a b r (exec-gate c (a .state) i)
+  pub on-var-get : k ≡ 18 → Makes a b r (exec-VarGet c (a .state) g) → Makes a b r (exec-gate c inside (a .state) i)
   unfolding exec-kind if_then_else_
   on-var-get h m = by-kind _ (rw h) m
 
-  pub on-var-set : k ≡ 19 → Makes a b r (exec-VarSet c (a .state) g) → Makes a b r (exec-gate c (a .state) i)
+  pub on-var-set : k ≡ 19 → Makes a b r (exec-VarSet c inside (a .state) g) → Makes a b r (exec-gate c inside (a .state) i)
   unfolding exec-kind if_then_else_
   on-var-set h m = by-kind _ (rw h) m
 
-  pub on-branch : k ≡ 20 → Makes a b r (exec-Branch c (a .state) g) → Makes a b r (exec-gate c (a .state) i)
+  pub on-branch : k ≡ 20 → Makes a b r (exec-Branch c (a .state) g) → Makes a b r (exec-gate c inside (a .state) i)
   unfolding exec-kind if_then_else_
   on-branch h m = by-kind _ (rw h) m
 
-  pub on-union : k ≡ 21 → Makes a b r (exec-Union c (a .state) g) → Makes a b r (exec-gate c (a .state) i)
+  pub on-union : k ≡ 21 → Makes a b r (exec-Union c (a .state) g) → Makes a b r (exec-gate c inside (a .state) i)
   unfolding exec-kind if_then_else_
   on-union h m = by-kind _ (rw h) m
 
-  pub on-toggle : k ≡ 22 → Makes a b r (exec-Toggle c (a .state) g) → Makes a b r (exec-gate c (a .state) i)
+  pub on-toggle : k ≡ 22 → Makes a b r (exec-Toggle c (a .state) g) → Makes a b r (exec-gate c inside (a .state) i)
   unfolding exec-kind if_then_else_
   on-toggle h m = by-kind _ (rw h) m
 
-  pub on-cycle : k ≡ 23 → Makes a b r (exec-Cycle c (a .state) g p) → Makes a b r (exec-gate c (a .state) i)
+  pub on-cycle : k ≡ 23 → Makes a b r (exec-Cycle c (a .state) g p) → Makes a b r (exec-gate c inside (a .state) i)
   unfolding exec-kind if_then_else_
   on-cycle h m = by-kind _ (rw h) m
 
-  pub on-send : OneOf (24 ∷ 25 ∷ []) k → Makes a b r (exec-SendEvent c (a .state) g) → Makes a b r (exec-gate c (a .state) i)
+  pub on-send : OneOf (24 ∷ 25 ∷ []) k → Makes a b r (exec-SendEvent c (a .state) g) → Makes a b r (exec-gate c inside (a .state) i)
   unfolding exec-kind if_then_else_
   on-send h m = by-kind _ (⊎-elim (λ (z : k ≡ 24). rw z) (λ (z : k ≡ 25). rw z) h) m
 
-module _ (c : Circuit) (i g k p : ℕ) (a : Contents) (eg : g ≡ gate-at-input c i) (ep : p ≡ i - input c g 0) (ek : k ≡ kind-of-gate c g) where
-  pub on-reroute : (o : ℕ) → k ≡ 2 → (o ≡ output c g 0) × (o < 131072) → Makes a a (Fires o) (exec-gate c (a .state) i)
+module _ (c : Circuit) (inside : Bool) (i g k p : ℕ) (a : Contents) (eg : g ≡ gate-at-input c i) (ep : p ≡ i - input c g 0) (ek : k ≡ kind-of-gate c g) where
+  pub on-reroute : (o : ℕ) → k ≡ 2 → (o ≡ output c g 0) × (o < 131072) → Makes a a (Fires o) (exec-gate c inside (a .state) i)
   unfolding exec-kind if_then_else_
-  on-reroute o h e = by-kind c i g k p a a (Fires o) eg ep ek _ (rw h) (makes-passes a o (output c g 0) (e .0))
+  on-reroute o h e = by-kind c inside i g k p a a (Fires o) eg ep ek _ (rw h) (makes-passes a o (output c g 0) (e .0))
 
   on-others :
       (k ≡ 2 → ⊥) → (k ≡ 11 → ⊥) → (k ≡ 13 → ⊥) → (k ≡ 15 → ⊥) → (k ≡ 16 → ⊥) → (k ≡ 17 → ⊥) → (k ≡ 18 → ⊥) → (k ≡ 19 → ⊥) → (k ≡ 20 → ⊥) → (k ≡ 21 → ⊥) → (k ≡ 22 → ⊥) → (k ≡ 23 → ⊥) → (k ≡ 24 → ⊥) → (k ≡ 25 → ⊥) →
-      Makes a a Ends (exec-gate c (a .state) i)
+      Makes a a Ends (exec-gate c inside (a .state) i)
   unfolding exec-kind if_then_else_
   on-others h₂ h₁₁ h₁₃ h₁₅ h₁₆ h₁₇ h₁₈ h₁₉ h₂₀ h₂₁ h₂₂ h₂₃ h₂₄ h₂₅ =
-      by-kind c i g k p a a Ends eg ep ek _
+      by-kind c inside i g k p a a Ends eg ep ek _
       (rw (
         ne-eqb k 2 h₂,
         ne-eqb k 11 h₁₁,
@@ -141,13 +141,13 @@ module _ (c : Circuit) (i g k p : ℕ) (a : Contents) (eg : g ≡ gate-at-input 
       ))
       (makes-ends a)
 
-  pub on-low : Others k → k < 15 → Makes a a Ends (exec-gate c (a .state) i)
+  pub on-low : Others k → k < 15 → Makes a a Ends (exec-gate c inside (a .state) i)
   on-low n h =
       on-others
       (n .0 .0 .0 .0 .0 .0 .0 .0 .1) (λ z. n .0 .0 .0 .0 .0 .0 .0 .1 (inl z)) (λ z. n .0 .0 .0 .0 .0 .0 .0 .1 (inr z)) (λ z. omega arith) (λ z. omega arith) (λ z. omega arith) (λ z. omega arith)
       (λ z. omega arith) (λ z. omega arith) (λ z. omega arith) (λ z. omega arith) (λ z. omega arith) (λ z. omega arith) (λ z. omega arith)
 
-  pub on-high : 26 ≤ k → Makes a a Ends (exec-gate c (a .state) i)
+  pub on-high : 26 ≤ k → Makes a a Ends (exec-gate c inside (a .state) i)
   on-high h =
       on-others
       (λ z. omega arith) (λ z. omega arith) (λ z. omega arith) (λ z. omega arith) (λ z. omega arith) (λ z. omega arith) (λ z. omega arith)

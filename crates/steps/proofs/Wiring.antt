@@ -68,12 +68,12 @@ module _ (c : Circuit) (g : ℕ) (v : Values) where
       makes-fires v v₁ (set-out c (v .wires) (output c g 1) (shown (v .wires) (var c g))) o₀ (output c g 0) p (e₀ .0) u d
 
   pub sets :
-      (i o o₀ : ℕ) (x : Value) (v₁ v₂ v₃ : Values) → (i ≡ input c g 2) × (i < 131072) → o ≡ var c g → v₁ ≡ with-wires v (ready c (v .wires) i) → x ≡ look c (v₁ .wires) i →
-      v₂ ≡ with-wires v₁ (show (v₁ .wires) o x) → v₃ ≡ with-wires v₂ (record-write c (v₂ .wires) o) → (o₀ ≡ output c g 0) × (o₀ < 131072) →
-      (u : Units) (d : Delays) → Makes (together v u d) (together v₃ u d) (Fires o₀) (exec-VarSet c (together v u d .state) g)
+      (inside : Bool) (i o o₀ : ℕ) (x : Value) (v₁ v₂ v₃ : Values) → (i ≡ input c g 2) × (i < 131072) → o ≡ var c g → v₁ ≡ with-wires v (ready c (v .wires) i) → x ≡ look c (v₁ .wires) i →
+      v₂ ≡ with-wires v₁ (show (v₁ .wires) o x) → v₃ ≡ with-wires v₂ (record-write c inside (v₂ .wires) o) → (o₀ ≡ output c g 0) × (o₀ < 131072) →
+      (u : Units) (d : Delays) → Makes (together v u d) (together v₃ u d) (Fires o₀) (exec-VarSet c inside (together v u d .state) g)
   unfolding exec-VarSet readied read each from wires≔
-  sets i o o₀ x v₁ v₂ v₃ ei eo e₁ ex e₂ e₃ e₀ u d =
-      let w : Wires = record-write c (show (ready c (v .wires) (input c g 2)) (var c g) (look c (ready c (v .wires) (input c g 2)) (input c g 2))) (var c g) in
+  sets inside i o o₀ x v₁ v₂ v₃ ei eo e₁ ex e₂ e₃ e₀ u d =
+      let w : Wires = record-write c inside (show (ready c (v .wires) (input c g 2)) (var c g) (look c (ready c (v .wires) (input c g 2)) (input c g 2))) (var c g) in
       let p : v₃ ≡ with-wires v w = rw (← eo, ← ei .0, e₃, e₂, ex, e₁) in
       makes-fires v v₃ w o₀ (output c g 0) p (e₀ .0) u d
 

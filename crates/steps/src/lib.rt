@@ -71,17 +71,17 @@ fn exec_var_get(links: &[usize], values: &mut [u8], g: usize) -> Step
     Step::Fires(output(links, g, 0))
 }
 
-// 19 VarSet: Value, as it reads, to the Var, with no conversion; direct readers see it at once.
-fn exec_var_set(links: &[usize], values: &mut [u8], g: usize) -> Step
+// 19 VarSet: Value, as it reads, to the Var, with no conversion; direct readers see it at once. `inside` says whether a body is running.
+fn exec_var_set(links: &[usize], values: &mut [u8], g: usize, inside: bool) -> Step
     requires { ⌜ Linked links × Room values ⌝ }
-    ensures { λ r. ⌜ Over-values links values (λ c old new. Makes old new r (exec-VarSet c (old .state) g)) ⌝ }
+    ensures { λ r. ⌜ Over-values links values (λ c old new. Makes old new r (exec-VarSet c inside (old .state) g)) ⌝ }
 {
     let i = input(links, g, 2);
     let o = var(links, g);
     ready(links, values, i);
     let v = look(links, values, i);
     show(links, values, o, v);
-    record_write(links, values, o);
+    record_write(links, values, o, inside);
     Step::Fires(output(links, g, 0))
 }
 
@@ -212,16 +212,17 @@ fn pin(links: &[usize], g: usize, i: usize) -> usize
     less(i, input(links, g, 0))
 }
 
-// The gate that has input i, entered through it.
+// The gate that has input i, entered through it; `inside` says whether a body is running.
 pub fn exec(
     links: &[usize],
     values: &mut [u8],
     units: &mut [u8],
     delays: &mut [u8],
     i: usize,
+    inside: bool,
 ) -> Step
     requires { ⌜ All-lent links values units delays ⌝ }
-    ensures { λ r. ⌜ Over-all links values units delays (λ c old new. Makes old new r (exec-gate c (old .state) i)) ⌝ }
+    ensures { λ r. ⌜ Over-all links values units delays (λ c old new. Makes old new r (exec-gate c inside (old .state) i)) ⌝ }
     ensures { λ _. ⌜ Slots-stay links delays ⌝ }
 {
     let g = gate_at_input(links, i);
@@ -232,7 +233,7 @@ pub fn exec(
         15 => exec_stopwatch(links, values, delays, g, p),
         16..=17 => exec_queue(links, values, delays, g),
         18 => exec_var_get(links, values, g),
-        19 => exec_var_set(links, values, g),
+        19 => exec_var_set(links, values, g, inside),
         20 => exec_branch(links, values, g),
         21 => exec_union(links, values, g),
         22 => exec_toggle(links, values, g),

@@ -28,7 +28,7 @@ same-length : tie.Need-same-length
 same-length c = search needs
 
 returns : tie.Need-returns
-returns c = (next-idle _ _ _ _ _ _ _ (c .before .before .before .before .take-check .ensures) (c .enum-told .given .1), c .before .before .before .before .before .before .before .before .before .before .pre .3)
+returns c = (next-idle _ _ _ _ _ _ _ (c .before .before .before .before .take-check .ensures .0) (c .enum-told .given .1), c .before .before .before .before .before .before .before .before .before .before .pre .3)
 
 same-length-2 : tie.Need-same-length-2
 same-length-2 c = search needs
@@ -37,7 +37,7 @@ same-length-3 : tie.Need-same-length-3
 same-length-3 c = search needs
 
 returns-2 : tie.Need-returns-2
-returns-2 c = (next-calm _ _ _ _ _ _ _ (c .before .before .before .before .before .before .before .before .before .before .before .before .before .before .take-check .ensures) _ _ _ _ (c .before .before .before .before .before .before .before .before .before .before .next .given .1) (c .before .before .before .before .before .before .check .ensures .0) (c .enum-told2 .given .1), c .before .before .before .before .before .before .check .ensures .1)
+returns-2 c = (next-calm _ _ _ _ _ _ _ (c .before .before .before .before .before .before .before .before .before .before .before .before .before .before .take-check .ensures .0) _ _ _ _ _ (c .before .before .before .before .before .before .before .before .before .before .next .given .1) (c .before .before .before .before .before .before .check .ensures .0) (c .enum-told2 .given .1), c .before .before .before .before .before .before .check .ensures .1)
 
 same-length-4 : tie.Need-same-length-4
 same-length-4 c = search needs
@@ -49,7 +49,7 @@ same-length-6 : tie.Need-same-length-6
 same-length-6 c = search needs
 
 returns-3 : tie.Need-returns-3
-returns-3 c = (next-entry _ _ _ _ _ _ _ (c .before .before .before .before .before .before .before .before .before .before .before .before .before .before .before .before .before .before .before .take-check .ensures) _ _ _ _ (c .before .before .before .before .before .before .before .before .before .before .before .before .before .before .before .next .given .1) (c .before .before .before .before .before .before .before .before .before .before .before .check .ensures .0) _ _ _ (c .before .before .before .before .before .raised .given .1) (c .before .before .file .ensures), c .before .before .before .before .before .before .before .before .before .before .before .check .ensures .1)
+returns-3 c = (next-entry _ _ _ _ _ _ _ (c .before .before .before .before .before .before .before .before .before .before .before .before .before .before .before .before .before .before .before .take-check .ensures .0) _ _ _ _ _ (c .before .before .before .before .before .before .before .before .before .before .before .before .before .before .before .next .given .1) (c .before .before .before .before .before .before .before .before .before .before .before .check .ensures .0) _ _ _ (c .before .before .before .before .before .raised .given .1) (c .before .before .file .ensures), c .before .before .before .before .before .before .before .before .before .before .before .check .ensures .1)
 
 pub check-next-spec : {M : Type 1} → statement M
 check-next-spec =

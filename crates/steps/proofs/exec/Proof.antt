@@ -46,13 +46,13 @@ exec-send-requires : tie.Need-exec-send-requires
 exec-send-requires c κs = search needs
 
 returns : tie.Need-returns
-returns c = (on-reroute _ _ _ _ _ _ (c .before .before .before .before .gate-at-input .ensures) (c .before .before .before .pin .ensures) (c .before .before .kind-of-gate .ensures) _ (c .before .match .keys1) (c .output .ensures), c .before .before .before .before .before .before .before .before .before .pre .3)
+returns c = (on-reroute _ _ _ _ _ _ _ (c .before .before .before .before .gate-at-input .ensures) (c .before .before .before .pin .ensures) (c .before .before .kind-of-gate .ensures) _ (c .before .match .keys1) (c .output .ensures), c .before .before .before .before .before .before .before .before .before .pre .3)
 
 same-length : tie.Need-same-length
 same-length c = search needs
 
 returns-2 : tie.Need-returns-2
-returns-2 c = let m = (c .before .before .exec-buffer .ensures) _ _ in (on-buffer _ _ _ _ _ _ _ _ (c .before .before .before .before .before .before .before .gate-at-input .ensures) (c .before .before .before .before .before .before .pin .ensures) (c .before .before .before .before .before .kind-of-gate .ensures) (c .before .before .before .before .match .keys2) m, lent-kept _ _ _ _ _ _ _ _ (c .before .before .before .before .before .before .before .before .before .before .before .before .pre .3) (search needs) (m .state))
+returns-2 c = let m = (c .before .before .exec-buffer .ensures) _ _ in (on-buffer _ _ _ _ _ _ _ _ _ (c .before .before .before .before .before .before .before .gate-at-input .ensures) (c .before .before .before .before .before .before .pin .ensures) (c .before .before .before .before .before .kind-of-gate .ensures) (c .before .before .before .before .match .keys2) m, lent-kept _ _ _ _ _ _ _ _ (c .before .before .before .before .before .before .before .before .before .before .before .before .pre .3) (search needs) (m .state))
 
 same-length-2 : tie.Need-same-length-2
 same-length-2 c = search needs
@@ -61,43 +61,43 @@ same-length-3 : tie.Need-same-length-3
 same-length-3 c = search needs
 
 returns-3 : tie.Need-returns-3
-returns-3 c = let m = (c .before .before .before .before .exec-stopwatch .ensures) _ in (on-stopwatch _ _ _ _ _ _ _ _ (c .before .before .before .before .before .before .before .before .before .before .gate-at-input .ensures) (c .before .before .before .before .before .before .before .before .before .pin .ensures) (c .before .before .before .before .before .before .before .before .kind-of-gate .ensures) (c .before .before .before .before .before .before .before .match .keys3) m, lent-kept _ _ _ _ _ _ _ _ (c .before .before .before .before .before .before .before .before .before .before .before .before .before .before .before .pre .3) (search needs) (m .state))
+returns-3 c = let m = (c .before .before .before .before .exec-stopwatch .ensures) _ in (on-stopwatch _ _ _ _ _ _ _ _ _ (c .before .before .before .before .before .before .before .before .before .before .gate-at-input .ensures) (c .before .before .before .before .before .before .before .before .before .pin .ensures) (c .before .before .before .before .before .before .before .before .kind-of-gate .ensures) (c .before .before .before .before .before .before .before .match .keys3) m, lent-kept _ _ _ _ _ _ _ _ (c .before .before .before .before .before .before .before .before .before .before .before .before .before .before .before .pre .3) (search needs) (m .state))
 
 same-length-4 : tie.Need-same-length-4
 same-length-4 c = search needs
 
 returns-4 : tie.Need-returns-4
-returns-4 c = (on-var-get _ _ _ _ _ _ _ _ (c .before .before .before .before .before .before .before .gate-at-input .ensures) (c .before .before .before .before .before .before .pin .ensures) (c .before .before .before .before .before .kind-of-gate .ensures) (c .before .before .before .before .match .keys4) ((c .before .before .exec-var-get .ensures) _ _), c .before .before .before .before .before .before .before .before .before .before .before .before .pre .3)
+returns-4 c = (on-var-get _ _ _ _ _ _ _ _ _ (c .before .before .before .before .before .before .before .gate-at-input .ensures) (c .before .before .before .before .before .before .pin .ensures) (c .before .before .before .before .before .kind-of-gate .ensures) (c .before .before .before .before .match .keys4) ((c .before .before .exec-var-get .ensures) _ _), c .before .before .before .before .before .before .before .before .before .before .before .before .pre .3)
 
 same-length-5 : tie.Need-same-length-5
 same-length-5 c = search needs
 
 returns-5 : tie.Need-returns-5
-returns-5 c = (on-var-set _ _ _ _ _ _ _ _ (c .before .before .before .before .before .before .before .gate-at-input .ensures) (c .before .before .before .before .before .before .pin .ensures) (c .before .before .before .before .before .kind-of-gate .ensures) (c .before .before .before .before .match .keys5) ((c .before .before .exec-var-set .ensures) _ _), c .before .before .before .before .before .before .before .before .before .before .before .before .pre .3)
+returns-5 c = (on-var-set _ _ _ _ _ _ _ _ _ (c .before .before .before .before .before .before .before .gate-at-input .ensures) (c .before .before .before .before .before .before .pin .ensures) (c .before .before .before .before .before .kind-of-gate .ensures) (c .before .before .before .before .match .keys5) ((c .before .before .exec-var-set .ensures) _ _), c .before .before .before .before .before .before .before .before .before .before .before .before .pre .3)
 
 same-length-6 : tie.Need-same-length-6
 same-length-6 c = search needs
 
 returns-6 : tie.Need-returns-6
-returns-6 c = (on-branch _ _ _ _ _ _ _ _ (c .before .before .before .before .before .before .before .gate-at-input .ensures) (c .before .before .before .before .before .before .pin .ensures) (c .before .before .before .before .before .kind-of-gate .ensures) (c .before .before .before .before .match .keys6) ((c .before .before .exec-branch .ensures) _ _), c .before .before .before .before .before .before .before .before .before .before .before .before .pre .3)
+returns-6 c = (on-branch _ _ _ _ _ _ _ _ _ (c .before .before .before .before .before .before .before .gate-at-input .ensures) (c .before .before .before .before .before .before .pin .ensures) (c .before .before .before .before .before .kind-of-gate .ensures) (c .before .before .before .before .match .keys6) ((c .before .before .exec-branch .ensures) _ _), c .before .before .before .before .before .before .before .before .before .before .before .before .pre .3)
 
 same-length-7 : tie.Need-same-length-7
 same-length-7 c = search needs
 
 returns-7 : tie.Need-returns-7
-returns-7 c = (on-union _ _ _ _ _ _ _ _ (c .before .before .before .before .before .before .before .gate-at-input .ensures) (c .before .before .before .before .before .before .pin .ensures) (c .before .before .before .before .before .kind-of-gate .ensures) (c .before .before .before .before .match .keys7) ((c .before .before .exec-union .ensures) _ _), c .before .before .before .before .before .before .before .before .before .before .before .before .pre .3)
+returns-7 c = (on-union _ _ _ _ _ _ _ _ _ (c .before .before .before .before .before .before .before .gate-at-input .ensures) (c .before .before .before .before .before .before .pin .ensures) (c .before .before .before .before .before .kind-of-gate .ensures) (c .before .before .before .before .match .keys7) ((c .before .before .exec-union .ensures) _ _), c .before .before .before .before .before .before .before .before .before .before .before .before .pre .3)
 
 same-length-8 : tie.Need-same-length-8
 same-length-8 c = search needs
 
 returns-8 : tie.Need-returns-8
-returns-8 c = (on-toggle _ _ _ _ _ _ _ _ (c .before .before .before .before .before .before .before .gate-at-input .ensures) (c .before .before .before .before .before .before .pin .ensures) (c .before .before .before .before .before .kind-of-gate .ensures) (c .before .before .before .before .match .keys8) ((c .before .before .exec-toggle .ensures) _ _), c .before .before .before .before .before .before .before .before .before .before .before .before .pre .3)
+returns-8 c = (on-toggle _ _ _ _ _ _ _ _ _ (c .before .before .before .before .before .before .before .gate-at-input .ensures) (c .before .before .before .before .before .before .pin .ensures) (c .before .before .before .before .before .kind-of-gate .ensures) (c .before .before .before .before .match .keys8) ((c .before .before .exec-toggle .ensures) _ _), c .before .before .before .before .before .before .before .before .before .before .before .before .pre .3)
 
 same-length-9 : tie.Need-same-length-9
 same-length-9 c = search needs
 
 returns-9 : tie.Need-returns-9
-returns-9 c = (on-cycle _ _ _ _ _ _ _ _ (c .before .before .before .before .before .before .before .gate-at-input .ensures) (c .before .before .before .before .before .before .pin .ensures) (c .before .before .before .before .before .kind-of-gate .ensures) (c .before .before .before .before .match .keys9) ((c .before .before .exec-cycle .ensures) _ _), c .before .before .before .before .before .before .before .before .before .before .before .before .pre .3)
+returns-9 c = (on-cycle _ _ _ _ _ _ _ _ _ (c .before .before .before .before .before .before .before .gate-at-input .ensures) (c .before .before .before .before .before .before .pin .ensures) (c .before .before .before .before .before .kind-of-gate .ensures) (c .before .before .before .before .match .keys9) ((c .before .before .exec-cycle .ensures) _ _), c .before .before .before .before .before .before .before .before .before .before .before .before .pre .3)
 
 same-length-10 : tie.Need-same-length-10
 same-length-10 c = search needs
@@ -106,7 +106,7 @@ same-length-11 : tie.Need-same-length-11
 same-length-11 c = search needs
 
 returns-10 : tie.Need-returns-10
-returns-10 c = let m = (c .before .before .before .before .exec-queue .ensures) _ in (on-queue _ _ _ _ _ _ _ _ (c .before .before .before .before .before .before .before .before .before .before .before .before .gate-at-input .ensures) (c .before .before .before .before .before .before .before .before .before .before .before .pin .ensures) (c .before .before .before .before .before .before .before .before .before .before .kind-of-gate .ensures) (queue-kinds _ (c .before .before .before .before .before .before .before .before .before .match .rest) (c .before .before .before .before .before .before .before .before .if1 .left) (c .before .before .before .before .before .before .before .if2 .taken)) m, lent-kept _ _ _ _ _ _ _ _ (c .before .before .before .before .before .before .before .before .before .before .before .before .before .before .before .before .before .pre .3) (search needs) (m .state))
+returns-10 c = let m = (c .before .before .before .before .exec-queue .ensures) _ in (on-queue _ _ _ _ _ _ _ _ _ (c .before .before .before .before .before .before .before .before .before .before .before .before .gate-at-input .ensures) (c .before .before .before .before .before .before .before .before .before .before .before .pin .ensures) (c .before .before .before .before .before .before .before .before .before .before .kind-of-gate .ensures) (queue-kinds _ (c .before .before .before .before .before .before .before .before .before .match .rest) (c .before .before .before .before .before .before .before .before .if1 .left) (c .before .before .before .before .before .before .before .if2 .taken)) m, lent-kept _ _ _ _ _ _ _ _ (c .before .before .before .before .before .before .before .before .before .before .before .before .before .before .before .before .before .pre .3) (search needs) (m .state))
 
 same-length-12 : tie.Need-same-length-12
 same-length-12 c = search needs
@@ -115,13 +115,13 @@ same-length-13 : tie.Need-same-length-13
 same-length-13 c = search needs
 
 returns-11 : tie.Need-returns-11
-returns-11 c = (on-send _ _ _ _ _ _ _ _ (c .before .before .before .before .before .before .before .before .before .before .before .before .before .gate-at-input .ensures) (c .before .before .before .before .before .before .before .before .before .before .before .before .pin .ensures) (c .before .before .before .before .before .before .before .before .before .before .before .kind-of-gate .ensures) (send-kinds _ (c .before .before .before .before .before .before .before .before .before .before .match .rest) (c .before .before .before .before .before .before .before .before .if2 .left) (c .before .before .before .before .before .before .before .if3 .taken)) ((c .before .before .before .before .exec-send .ensures) _), c .before .before .before .before .before .before .before .before .before .before .before .before .before .before .before .before .before .before .pre .3)
+returns-11 c = (on-send _ _ _ _ _ _ _ _ _ (c .before .before .before .before .before .before .before .before .before .before .before .before .before .gate-at-input .ensures) (c .before .before .before .before .before .before .before .before .before .before .before .before .pin .ensures) (c .before .before .before .before .before .before .before .before .before .before .before .kind-of-gate .ensures) (send-kinds _ (c .before .before .before .before .before .before .before .before .before .before .match .rest) (c .before .before .before .before .before .before .before .before .if2 .left) (c .before .before .before .before .before .before .before .if3 .taken)) ((c .before .before .before .before .exec-send .ensures) _), c .before .before .before .before .before .before .before .before .before .before .before .before .before .before .before .before .before .before .pre .3)
 
 returns-12 : tie.Need-returns-12
-returns-12 c = (on-low _ _ _ _ _ _ (c .before .before .before .before .gate-at-input .ensures) (c .before .before .before .pin .ensures) (c .before .before .kind-of-gate .ensures) (c .before .match .rest) (c .if1 .taken), c .before .before .before .before .before .before .before .before .before .pre .3)
+returns-12 c = (on-low _ _ _ _ _ _ _ (c .before .before .before .before .gate-at-input .ensures) (c .before .before .before .pin .ensures) (c .before .before .kind-of-gate .ensures) (c .before .match .rest) (c .if1 .taken), c .before .before .before .before .before .before .before .before .before .pre .3)
 
 returns-13 : tie.Need-returns-13
-returns-13 c = (on-high _ _ _ _ _ _ (c .before .before .before .before .before .before .gate-at-input .ensures) (c .before .before .before .before .before .pin .ensures) (c .before .before .before .before .kind-of-gate .ensures) (c .if3 .left), c .before .before .before .before .before .before .before .before .before .before .before .pre .3)
+returns-13 c = (on-high _ _ _ _ _ _ _ (c .before .before .before .before .before .before .gate-at-input .ensures) (c .before .before .before .before .before .pin .ensures) (c .before .before .before .before .kind-of-gate .ensures) (c .if3 .left), c .before .before .before .before .before .before .before .before .before .before .before .pre .3)
 
 pub exec-spec : {M : Type 1} → statement M
 exec-spec =

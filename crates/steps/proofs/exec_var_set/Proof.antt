@@ -28,7 +28,7 @@ same-length : tie.Need-same-length
 same-length c = search needs
 
 returns : tie.Need-returns
-returns c = sets _ _ _ _ _ _ _ _ _ _ (c .before .before .before .before .before .before .before .before .before .before .before .before .before .before .before .before .input .ensures) (c .before .before .before .before .before .before .before .before .before .before .before .before .before .before .before .var .ensures) (c .before .before .before .before .before .before .before .before .before .before .before .before .before .ready .ensures) (c .before .before .before .before .before .before .before .before .before .look .ensures) (c .before .before .before .before .before .before .before .show .ensures) (c .before .before .before .record-write .ensures) (c .output .ensures)
+returns c = sets _ _ _ _ _ _ _ _ _ _ _ (c .before .before .before .before .before .before .before .before .before .before .before .before .before .before .before .before .input .ensures) (c .before .before .before .before .before .before .before .before .before .before .before .before .before .before .before .var .ensures) (c .before .before .before .before .before .before .before .before .before .before .before .before .before .ready .ensures) (c .before .before .before .before .before .before .before .before .before .look .ensures) (c .before .before .before .before .before .before .before .show .ensures) (c .before .before .before .record-write .ensures) (c .output .ensures)
 
 pub exec-var-set-spec : {M : Type 1} → statement M
 exec-var-set-spec =
