@@ -18,6 +18,8 @@ pub mod Sized
 pub mod Checks
 -- what small changes keep, chains, settling and the opening of a tick keep
 pub mod Walks
+-- nothing is put off: `never-put-off`
+pub mod PutOff
 -- every operation on the state keeps its sizes
 pub mod Kept
 -- so does every world of a run: `run-sized`
