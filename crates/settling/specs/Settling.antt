@@ -15,6 +15,6 @@ unfoldable pub settled : Circuit → State → Raised → Settled
 settled c s Nothing = record { state = s; raises = [] }
 settled c s (Entry x) = record { state = s; raises = record { at = s; act = act-of c x; place = by-rank } ∷ [] }
 
--- what was raised, filed in order as it was raised, up to the first that finds its list full
+-- what was raised, filed in order, each by how it is raised, up to the first that finds its list full
 unfoldable pub filed-into : Circuit → Place → Settled → Lists → Went
 filed-into c to z l = raise-into (λ p. activate c (place-for p to)) (z .raises) l (z .state)
