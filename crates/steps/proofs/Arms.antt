@@ -13,7 +13,7 @@ use Rattle.model.specs.Base.{if_then_else_}
 use Rattle.model.specs.Circuit.{Circuit, kind-of-gate, input, output, gate-at-input}
 use Rattle.model.specs.Questions.{within}
 use Rattle.model.specs.State.{State}
-use Rattle.model.specs.Exec.{Stepped, exec-Buffer, exec-Stopwatch, exec-Queue, exec-VarGet, exec-VarSet, exec-Branch, exec-Union, exec-Toggle, exec-Cycle, exec-SendEvent, exec-kind, exec-gate}
+use Rattle.model.specs.Exec.{Stepped, exec-Buffer, exec-Stopwatch, exec-Queue, exec-VarGet, exec-VarSet, exec-Branch, exec-Union, exec-Toggle, exec-Cycle, exec-SendEvent, exec-Break, exec-kind, exec-gate}
 use Rattle.states.specs.View.{is-queue, queue-countdown, Lent}
 use Rattle.areas.specs.Areas.{Contents, areas, with-state}
 use Rattle.steps.specs.declared.Step.{Step}
@@ -26,8 +26,8 @@ use Rattle.steps.proofs.Making.{makes-as, makes-passes, makes-ends}
 -- none of the kinds that have an arm of their own
 abbrev pub Others : ℕ → Type 0
 Others k =
-    ((((((((Unit {0} × (OneOf (2 ∷ []) k → ⊥)) × (OneOf (11 ∷ 13 ∷ []) k → ⊥)) × (OneOf (15 ∷ []) k → ⊥)) × (OneOf (18 ∷ []) k → ⊥)) × (OneOf (19 ∷ []) k → ⊥)) × (OneOf (20 ∷ []) k → ⊥))
-    × (OneOf (21 ∷ []) k → ⊥)) × (OneOf (22 ∷ []) k → ⊥)) × (OneOf (23 ∷ []) k → ⊥)
+    (((((((((Unit {0} × (OneOf (2 ∷ []) k → ⊥)) × (OneOf (11 ∷ 13 ∷ []) k → ⊥)) × (OneOf (15 ∷ []) k → ⊥)) × (OneOf (18 ∷ []) k → ⊥)) × (OneOf (19 ∷ []) k → ⊥)) × (OneOf (20 ∷ []) k → ⊥))
+    × (OneOf (21 ∷ []) k → ⊥)) × (OneOf (22 ∷ []) k → ⊥)) × (OneOf (23 ∷ []) k → ⊥)) × (OneOf (31 ∷ []) k → ⊥)
 
 above : (n k : ℕ) → n ≤ k → (k ≡ n → ⊥) → suc n ≤ k
 above n k h f = go (leb k n) refl
@@ -45,13 +45,13 @@ either n k h t = go (leb k n) refl
 
 -- 16 or 17
 pub queue-kinds : (k : ℕ) → Others k → 15 ≤ k → k < 18 → OneOf (16 ∷ 17 ∷ []) k
-queue-kinds k n h l = either 16 k (above 15 k h (n .0 .0 .0 .0 .0 .0 .1)) (omega arith)
+queue-kinds k n h l = either 16 k (above 15 k h (n .0 .0 .0 .0 .0 .0 .0 .1)) (omega arith)
 
 -- 24 or 25
 pub send-kinds : (k : ℕ) → Others k → 18 ≤ k → k < 26 → OneOf (24 ∷ 25 ∷ []) k
 send-kinds k n h l =
     either 24 k
-    (above 23 k (above 22 k (above 21 k (above 20 k (above 19 k (above 18 k h (n .0 .0 .0 .0 .0 .1)) (n .0 .0 .0 .0 .1)) (n .0 .0 .0 .1)) (n .0 .0 .1)) (n .0 .1)) (n .1))
+    (above 23 k (above 22 k (above 21 k (above 20 k (above 19 k (above 18 k h (n .0 .0 .0 .0 .0 .0 .1)) (n .0 .0 .0 .0 .0 .1)) (n .0 .0 .0 .0 .1)) (n .0 .0 .0 .1)) (n .0 .0 .1)) (n .0 .1))
     (omega arith)
 
 -- an area of small states stays one
@@ -108,6 +108,10 @@ module _ (c : Circuit) (inside : Bool) (i g k p : ℕ) (a b : Contents) (r : Ste
   unfolding exec-kind if_then_else_
   on-cycle h m = by-kind _ (rw h) m
 
+  pub on-break : k ≡ 31 → Makes a b r (exec-Break c (a .state) g) → Makes a b r (exec-gate c inside (a .state) i)
+  unfolding exec-kind if_then_else_
+  on-break h m = by-kind _ (rw h) m
+
   pub on-send : OneOf (24 ∷ 25 ∷ []) k → Makes a b r (exec-SendEvent c (a .state) g) → Makes a b r (exec-gate c inside (a .state) i)
   unfolding exec-kind if_then_else_
   on-send h m = by-kind _ (⊎-elim (λ (z : k ≡ 24). rw z) (λ (z : k ≡ 25). rw z) h) m
@@ -118,10 +122,10 @@ module _ (c : Circuit) (inside : Bool) (i g k p : ℕ) (a : Contents) (eg : g �
   on-reroute o h e = by-kind c inside i g k p a a (Fires o) eg ep ek _ (rw h) (makes-passes a o (output c g 0) (e .0))
 
   on-others :
-      (k ≡ 2 → ⊥) → (k ≡ 11 → ⊥) → (k ≡ 13 → ⊥) → (k ≡ 15 → ⊥) → (k ≡ 16 → ⊥) → (k ≡ 17 → ⊥) → (k ≡ 18 → ⊥) → (k ≡ 19 → ⊥) → (k ≡ 20 → ⊥) → (k ≡ 21 → ⊥) → (k ≡ 22 → ⊥) → (k ≡ 23 → ⊥) → (k ≡ 24 → ⊥) → (k ≡ 25 → ⊥) →
+      (k ≡ 2 → ⊥) → (k ≡ 11 → ⊥) → (k ≡ 13 → ⊥) → (k ≡ 15 → ⊥) → (k ≡ 16 → ⊥) → (k ≡ 17 → ⊥) → (k ≡ 18 → ⊥) → (k ≡ 19 → ⊥) → (k ≡ 20 → ⊥) → (k ≡ 21 → ⊥) → (k ≡ 22 → ⊥) → (k ≡ 23 → ⊥) → (k ≡ 24 → ⊥) → (k ≡ 25 → ⊥) → (k ≡ 31 → ⊥) →
       Makes a a Ends (exec-gate c inside (a .state) i)
   unfolding exec-kind if_then_else_
-  on-others h₂ h₁₁ h₁₃ h₁₅ h₁₆ h₁₇ h₁₈ h₁₉ h₂₀ h₂₁ h₂₂ h₂₃ h₂₄ h₂₅ =
+  on-others h₂ h₁₁ h₁₃ h₁₅ h₁₆ h₁₇ h₁₈ h₁₉ h₂₀ h₂₁ h₂₂ h₂₃ h₂₄ h₂₅ h₃₁ =
       by-kind c inside i g k p a a Ends eg ep ek _
       (rw (
         ne-eqb k 2 h₂,
@@ -138,17 +142,18 @@ module _ (c : Circuit) (inside : Bool) (i g k p : ℕ) (a : Contents) (eg : g �
         ne-eqb k 23 h₂₃,
         ne-eqb k 24 h₂₄,
         ne-eqb k 25 h₂₅,
+        ne-eqb k 31 h₃₁,
       ))
       (makes-ends a)
 
   pub on-low : Others k → k < 15 → Makes a a Ends (exec-gate c inside (a .state) i)
   on-low n h =
       on-others
-      (n .0 .0 .0 .0 .0 .0 .0 .0 .1) (λ z. n .0 .0 .0 .0 .0 .0 .0 .1 (inl z)) (λ z. n .0 .0 .0 .0 .0 .0 .0 .1 (inr z)) (λ z. omega arith) (λ z. omega arith) (λ z. omega arith) (λ z. omega arith)
-      (λ z. omega arith) (λ z. omega arith) (λ z. omega arith) (λ z. omega arith) (λ z. omega arith) (λ z. omega arith) (λ z. omega arith)
+      (n .0 .0 .0 .0 .0 .0 .0 .0 .0 .1) (λ z. n .0 .0 .0 .0 .0 .0 .0 .0 .1 (inl z)) (λ z. n .0 .0 .0 .0 .0 .0 .0 .0 .1 (inr z)) (λ z. omega arith) (λ z. omega arith) (λ z. omega arith) (λ z. omega arith)
+      (λ z. omega arith) (λ z. omega arith) (λ z. omega arith) (λ z. omega arith) (λ z. omega arith) (λ z. omega arith) (λ z. omega arith) (λ z. omega arith)
 
-  pub on-high : 26 ≤ k → Makes a a Ends (exec-gate c inside (a .state) i)
-  on-high h =
+  pub on-high : Others k → 26 ≤ k → Makes a a Ends (exec-gate c inside (a .state) i)
+  on-high n h =
       on-others
       (λ z. omega arith) (λ z. omega arith) (λ z. omega arith) (λ z. omega arith) (λ z. omega arith) (λ z. omega arith) (λ z. omega arith)
-      (λ z. omega arith) (λ z. omega arith) (λ z. omega arith) (λ z. omega arith) (λ z. omega arith) (λ z. omega arith) (λ z. omega arith)
+      (λ z. omega arith) (λ z. omega arith) (λ z. omega arith) (λ z. omega arith) (λ z. omega arith) (λ z. omega arith) (λ z. omega arith) (n .1)

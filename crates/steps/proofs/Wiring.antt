@@ -16,10 +16,10 @@ use Rattle.model.specs.declared.Value.the-variants.{Int, Bool as Truth}
 use Rattle.model.specs.Base.{if_then_else_, each, from}
 use Rattle.model.specs.Value.{truthy, as-int}
 use Rattle.model.specs.Circuit.{Circuit, input, output, setting}
-use Rattle.model.specs.State.{Wires, wires≔, unions-passed≔}
+use Rattle.model.specs.State.{Wires, wires≔, unions-passed≔, breaking≔}
 use Rattle.model.specs.Delays.{nat}
 use Rattle.model.specs.Wires.{shown, show, look, ready, set-out}
-use Rattle.model.specs.Exec.{cycle-next, set-output, readied, read, var, record-write, exec-VarGet, exec-VarSet, exec-Branch, exec-Union, exec-Toggle, exec-Cycle}
+use Rattle.model.specs.Exec.{cycle-next, set-output, readied, read, var, record-write, exec-VarGet, exec-VarSet, exec-Branch, exec-Union, exec-Toggle, exec-Cycle, exec-Break}
 use Rattle.wires.specs.View.{Values, with-wires}
 use Rattle.states.specs.View.{Delays}
 use Rattle.units.specs.View.{Units}
@@ -110,6 +110,14 @@ module _ (c : Circuit) (g : ℕ) (v : Values) where
         makes-as _ _ _ _ _
         (if-false (getD (v .wires .unions-passed) g false) _ _ (sym et ∙ h))
         (makes-fires v v₁ (unions-passed≔ (v .wires) (set (v .wires .unions-passed) g true)) o (output c g 0) e (eo .0) u d)
+
+  -- ---- Break
+
+  pub breaks :
+      (v₁ : Values) (o : ℕ) → v₁ ≡ with-wires v (breaking≔ (v .wires) true) → (o ≡ output c g 0) × (o < 131072) →
+      (u : Units) (d : Delays) → Makes (together v u d) (together v₁ u d) (Fires o) (exec-Break c (together v u d .state) g)
+  unfolding exec-Break
+  breaks v₁ o e eo u d = makes-fires v v₁ (breaking≔ (v .wires) true) o (output c g 0) e (eo .0) u d
 
   -- ---- Toggle
 

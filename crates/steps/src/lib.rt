@@ -4,7 +4,7 @@ ghost use mathlib.Core.Bool.{true};
 ghost use Prim.Native.Nat.{_-_};
 ghost use lib.Dec.{eqb};
 ghost use Rattle.model.specs.Circuit.{kind-of-gate, input};
-ghost use Rattle.model.specs.Exec.{var, exec-Buffer, exec-Stopwatch, exec-Queue, exec-VarGet, exec-VarSet, exec-Branch, exec-Union, exec-Toggle, exec-Cycle, exec-SendEvent, exec-gate};
+ghost use Rattle.model.specs.Exec.{var, exec-Buffer, exec-Stopwatch, exec-Queue, exec-VarGet, exec-VarSet, exec-Branch, exec-Union, exec-Toggle, exec-Cycle, exec-SendEvent, exec-Break, exec-gate};
 ghost use Rattle.links.specs.Links.{net};
 ghost use Rattle.links.specs.Lent.{Linked, net-of, Room};
 ghost use Rattle.states.specs.View.{is-queue, queue-countdown};
@@ -28,6 +28,7 @@ use units::events::has_sent;
 use units::events::send;
 use value::as_int;
 use value::truthy;
+use wires::bodies::set_breaking;
 use wires::marking::set_out;
 use wires::reading::look;
 use wires::reading::show;
@@ -101,7 +102,7 @@ fn exec_branch(links: &[usize], values: &mut [u8], g: usize) -> Step
     Step::Fires(output(links, g, 1))
 }
 
-// 21 Union: it passes once a tick.
+// 21 Union: it passes once a tick, and inside a body once in each run of it.
 fn exec_union(links: &[usize], values: &mut [u8], g: usize) -> Step
     requires { ⌜ Linked links × Room values ⌝ }
     ensures { λ r. ⌜ Over-values links values (λ c old new. Makes old new r (exec-Union c (old .state) g)) ⌝ }
@@ -202,6 +203,15 @@ fn exec_send(links: &[usize], values: &mut [u8], units: &mut [u8], g: usize) -> 
     Step::Fires(output(links, g, 0))
 }
 
+// 31 Break: the loop whose body is running ends after this run of it, which goes on.
+fn exec_break(links: &[usize], values: &mut [u8], g: usize) -> Step
+    requires { ⌜ Linked links × Room values ⌝ }
+    ensures { λ r. ⌜ Over-values links values (λ c old new. Makes old new r (exec-Break c (old .state) g)) ⌝ }
+{
+    set_breaking(links, values, true);
+    Step::Fires(output(links, g, 0))
+}
+
 // ---- by kind
 
 // The pin of gate g that input i is.
@@ -239,6 +249,7 @@ pub fn exec(
         22 => exec_toggle(links, values, g),
         23 => exec_cycle(links, values, g, p),
         24..=25 => exec_send(links, values, units, g),
+        31 => exec_break(links, values, g),
         _ => Step::Ends,
     }
 }
