@@ -41,7 +41,7 @@ module _ (c : Circuit) (o left : ℕ) (vs : Values) (ds : Delays) (u v : Units) 
     where
       go : (b : Bool) → fit (push-calls c (some o) (u .calls)) ≡ b → (if fit (push-calls c (some o) (u .calls)) then 0 else list-full) ≡ 0 → v .calls ≡ push-calls c (some o) (u .calls)
       go true e z = p .calls e
-      go false e z = let w : 12 ≡ 0 = sym (ap (λ (x : Bool). if x then 0 else list-full) e) ∙ z in absurd (omega (arith, w))
+      go false e z = let w : _≡_ {A = ℕ} 12 0 = sym (ap (λ (x : Bool). if x then 0 else list-full) e) ∙ z in absurd (omega (arith, w))
 
   pub output-fired : f ≡ Done → Runs (together vs u ds) (together vs v ds) (record { left = left; stop = 0 }) (fire-output c o (started (together vs u ds) left))
   unfolding if_then_else_
@@ -81,7 +81,7 @@ module _ (c : Circuit) (inside : Bool) (i left : ℕ) (a b : Contents) (step : S
   unfolding stepped fire-output chained if_then_else_
   call-fires o h v r p =
       let k : fire-output c o (started b left) ≡ after (some o) false =
-      (λ j. fire-output c o (started (e .state j) left)) ∙ ap (λ (x : Bool). chained (d .state) left (if x then 0 else list-full) (push-calls c (some o) (a .calls))) (sym (and-true _)) in
+      (λ j. fire-output c o (started (e .state j) left)) ∙ ap (λ (x : Bool). chained (d .state) left (if x then 0 else list-full) (push-calls c (some o) (a .calls))) (sym (and-true (fit (push-calls c (some o) (a .calls))))) in
       subst (Runs a v r) (k ∙ sym (made-is (some o) false (ap (stepped (d .state)) h))) (runs-from same-lists same-kept p)
 
   -- it fires nothing, and the calls fit as they did
@@ -100,7 +100,7 @@ module _ (c : Circuit) (inside : Bool) (i left : ℕ) (a b : Contents) (step : S
   pub call-full : step ≡ NoRoom → Runs a b (record { left = left; stop = 12 }) made
   unfolding stepped chained if_then_else_
   call-full h =
-      let z : (fit (push-calls c none (a .calls)) && not true) ≡ false = and-false _ in
+      let z : (fit (push-calls c none (a .calls)) && not true) ≡ false = and-false (fit (push-calls c none (a .calls))) in
       let s : (if fit (push-calls c none (a .calls)) && not true then 0 else list-full) ≡ 12 = ap (λ (x : Bool). if x then 0 else list-full) z in
       subst (Runs a b (record { left = left; stop = 12 })) (sym (made-is none true (ap (stepped (d .state)) h)))
       record {
