@@ -3,12 +3,14 @@ use Prim.Native.Nat.{ℕ}
 use mathlib.Core.Path.{_≡_}
 use mathlib.Core.Bool.{Bool, not, false, _&&_}
 use lib.Dec.{eqb}
-use lib.IntN.{ℤ, pos}
+use lib.IntN.{pos}
+use Rattle.words.specs.Words.{signed}
 use Rattle.model.specs.Value.{as-int}
-use Rattle.model.specs.Circuit.{Circuit}
+use Rattle.model.specs.Circuit.{Circuit, input}
 use Rattle.model.specs.State.{Wires}
+use Rattle.model.specs.Wires.{look}
 use Rattle.model.specs.Delays.{nat}
-use Rattle.model.specs.Exec.{readied, read}
+use Rattle.model.specs.Exec.{readied}
 use Rattle.model.specs.Chain.{no-calls, Chained, chained}
 use Rattle.model.specs.Loops as model
 use Rattle.model.specs.Loops.{break-set, run-body, loop-on, loop-over}
@@ -26,9 +28,16 @@ going-on a r = chained (a .state) (r .left) (r .stop) (a .calls)
 abbrev pub stays-on : ℕ → Wires → Bool
 stays-on stop w = eqb stop 0 && not (w .breaking)
 
--- the runs of Loop g's body that are still to come, where bodies nest so deep at the most
-abbrev pub looping : Circuit → ℕ → ℕ → ℤ → ℤ → ℕ → ℕ → Chained → model.Looped
-looping c nesting g first step more done r = loop-on c (run-body c nesting) g first step more done r
+-- the runs of Loop g's body that are still to come, by the words of the first index and the step, where bodies nest so deep at the most
+abbrev pub looping : Circuit → ℕ → ℕ → ℕ → ℕ → ℕ → ℕ → Chained → model.Looped
+looping c nesting g first step more done r = loop-on c (run-body c nesting) g (signed first) (signed step) more done r
+
+-- what Loop g is to count, as its inputs read, and whether a Break was asked for before it
+pub record Counts-read (c : Circuit) (g : ℕ) (w : Wires) (asked : Bool) (r : Counts) : Type 0 where
+  pub count : r .count ≡ nat (as-int (pos 0) (look c w (input c g 1)))
+  pub first : signed (r .first) ≡ as-int (pos 0) (look c w (input c g 2))
+  pub step : signed (r .step) ≡ as-int (pos 1) (look c w (input c g 3))
+  pub broke : r .broke ≡ asked
 
 -- ---- the areas a became b
 
@@ -39,12 +48,8 @@ pub record Loops-as (a b : Contents) (r : Looped) (l : model.Looped) : Type 0 wh
   pub aborted : r .aborted ≡ l .aborted
 
 -- when the Loop of gate g began, with what it is to count
-pub record Begins-loop (c : Circuit) (g : ℕ) (a b : Contents) (r : Counts) : Type 0 where
-  pub state : let s = readied c (a .state) g 1 3 in b ≡ with-state a (break-set false s)
-  pub count : let s = readied c (a .state) g 1 3 in r .count ≡ nat (as-int (pos 0) (read c s g 1))
-  pub first : let s = readied c (a .state) g 1 3 in r .first ≡ as-int (pos 0) (read c s g 2)
-  pub step : let s = readied c (a .state) g 1 3 in r .step ≡ as-int (pos 1) (read c s g 3)
-  pub broke : let s = readied c (a .state) g 1 3 in r .broke ≡ s .wires .breaking
+abbrev pub Begins-loop : Circuit → ℕ → Contents → Contents → Counts → Type 0
+Begins-loop c g a b r = let s = readied c (a .state) g 1 3 in (b ≡ with-state a (break-set false s)) × Counts-read c g (s .wires) (s .wires .breaking) r
 
 -- when its runs were over, which had come to l, with the answer r
 abbrev pub Ends-loop : Circuit → ℕ → Bool → Looped → Contents → Contents → Ran → Type 0

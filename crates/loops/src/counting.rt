@@ -5,11 +5,11 @@ ghost use lib.Dec.{ltb};
 ghost use Rattle.model.specs.State.{runs-left≔};
 ghost use Rattle.model.specs.Delays.{nat};
 ghost use Rattle.model.specs.Loops.{begin-body, goes-on};
-ghost use Rattle.links.specs.Lent.{Linked, Room};
+ghost use Rattle.links.specs.Lent.{Linked, net-of, Room};
 ghost use Rattle.wires.specs.Lent.{Turns, wires-in};
 ghost use Rattle.areas.specs.Lent.{Over-values, Over-values-units};
 ghost use Rattle.chain.specs.Chain.{Runs, started};
-ghost use Rattle.loops.specs.Loops.{Begins-loop, Ends-loop, stays-on};
+ghost use Rattle.loops.specs.Loops.{Counts-read, Begins-loop, Ends-loop, stays-on};
 use chain::Ran;
 use chain::fire_output;
 use links::entry_of_loop;
@@ -25,12 +25,13 @@ use wires::bodies::set_breaking;
 use wires::bodies::set_runs_left;
 use wires::marking::set_out;
 use wires::reading::look;
+use words::unsigned;
 
-// What a Loop counts, as read before its first run, and whether a Break was asked for before it.
+// What a Loop counts, as read before its first run: how many runs, and the words of its first index and its step; and whether a Break was asked for before it.
 pub struct Counts {
     pub count: u64,
-    pub first: i64,
-    pub step: i64,
+    pub first: u64,
+    pub step: u64,
     pub broke: bool,
 }
 
@@ -53,23 +54,31 @@ fn natural(z: i64) -> u64
     z as u64
 }
 
-// The Loop of gate g begins: Count, FirstIndex and Step are read, and no Break is set.
-pub fn begin_loop(links: &[usize], values: &mut [u8], g: usize) -> Counts
+// What the inputs of Loop g read, which are ready.
+fn read_counts(links: &[usize], values: &[u8], g: usize, broke: bool) -> Counts
     requires { ⌜ Linked links × Room values ⌝ }
-    ensures { λ r. ⌜ Over-values links values (λ c old new. Begins-loop c g old new r) ⌝ }
+    ensures { λ r. ⌜ Counts-read (net-of links) g (wires-in links values) broke r ⌝ }
 {
-    readied(links, values, input(links, g, 1), 3);
     let count = natural(as_int(look(links, values, input(links, g, 1)), 0));
-    let first = as_int(look(links, values, input(links, g, 2)), 0);
-    let step = as_int(look(links, values, input(links, g, 3)), 1);
-    let broke = breaking(links, values);
-    set_breaking(links, values, false);
+    let first = unsigned(as_int(look(links, values, input(links, g, 2)), 0));
+    let step = unsigned(as_int(look(links, values, input(links, g, 3)), 1));
     Counts {
         count: count,
         first: first,
         step: step,
         broke: broke,
     }
+}
+
+// The Loop of gate g begins: Count, FirstIndex and Step are read, and no Break is set.
+pub fn begin_loop(links: &[usize], values: &mut [u8], g: usize) -> Counts
+    requires { ⌜ Linked links × Room values ⌝ }
+    ensures { λ r. ⌜ Over-values links values (λ c old new. Begins-loop c g old new r) ⌝ }
+{
+    readied(links, values, input(links, g, 1), 3);
+    let counts = read_counts(links, values, g, breaking(links, values));
+    set_breaking(links, values, false);
+    counts
 }
 
 // A run of a body is counted, if the tick may make one more.

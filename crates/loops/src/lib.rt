@@ -78,8 +78,8 @@ fn iterate(
     left: u64,
     g: usize,
     count: u64,
-    first: i64,
-    step: i64,
+    first: u64,
+    step: u64,
     nesting: usize,
 ) -> Looped
     requires { ⌜ All-lent links values units delays ⌝ }

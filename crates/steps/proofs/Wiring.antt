@@ -30,12 +30,12 @@ use Rattle.steps.proofs.Making.{if-true, if-false, makes-as, makes-fire
 
 -- ---- the Var that a setting names
 
-nat-below : (x : ℤ) → ltZ x (pos 0) ≡ true → nat x ≡ 0
+pub nat-below : (x : ℤ) → ltZ x (pos 0) ≡ true → nat x ≡ 0
 unfolding nat
 nat-below (pos n) h = absurd (omega (arith, ltb-true n 0 h))
 nat-below (negsuc n) h = refl
 
-nat-rest : (x : ℤ) → SFits w64 x → ltZ x (pos 0) ≡ false → (T (nonNeg x)) × (Fits w64 (natAbs x)) × (natAbs x ≡ nat x)
+pub nat-rest : (x : ℤ) → SFits w64 x → ltZ x (pos 0) ≡ false → (T (nonNeg x)) × (Fits w64 (natAbs x)) × (natAbs x ≡ nat x)
 unfolding nat
 nat-rest (pos n) f h = let s : n < 2 ^ 63 = f .sfits in (tt, record { fits = omega arith }, refl)
 nat-rest (negsuc n) f h = absurd (subst T h tt)

@@ -8,8 +8,8 @@ use lib.Dec.{ltb}
 use lib.IntN.{ℤ, pos, negsuc, negℤ, subℕ, _+ℤ_, _*ℤ_}
 use borrow.Author.Tests.{ltb-true, ltb-false, lt-ltb, le-ltb}
 use mir.Syntax.{w64}
-use mir.Val.{toZ, ofZ, SFits}
-use mir.ValLaws.{toZ-ofZ}
+use mir.Val.{toZ, ofZ, Fits, SFits}
+use mir.ValLaws.{toZ-fits, ofZ-toZ}
 use Rattle.model.specs.Loops.{wrapped, index}
 
 -- a word that b wraps to a
@@ -87,12 +87,10 @@ index-of-words (negsuc f) (negsuc s) d hf hs =
     let x : 2 ^ 64 - suc f + d * (2 ^ 64 - suc s) + (suc f + d * suc s) ≡ 2 ^ 64 + d * 2 ^ 64 = omega (arith, l, hf) in
     by-sub _ 0 (suc f + d * suc s) (2 ^ 64 - suc f + d * (2 ^ 64 - suc s)) (neg-less f (d * suc s)) (ap (λ (y : ℕ). y % 2 ^ 64) x ∙ m)
 
--- the index, as the code adds it up of the bits of two signed numbers
+-- the index, as the code adds it up of two words
 pub index-found :
-    (first step : ℤ) (done f s p r : ℕ) → SFits w64 first → SFits w64 step → f ≡ ofZ w64 (toZ w64 (ofZ w64 first)) → s ≡ ofZ w64 (toZ w64 (ofZ w64 step)) → p ≡ (done * s) % 2 ^ 64 →
-    r ≡ (f + p) % 2 ^ 64 → r ≡ index first done step
-index-found first step done f s p r hf hs ef es ep er =
-    let f₁ : f ≡ ofZ w64 first = ef ∙ ap (ofZ w64) (toZ-ofZ w64 first hf) in
-    let s₁ : s ≡ ofZ w64 step = es ∙ ap (ofZ w64) (toZ-ofZ w64 step hs) in
-    er ∙ ap (λ (x : ℕ). (f + x) % 2 ^ 64) ep ∙ add-mod-mod f (done * s) (2 ^ 64) ∙ (λ j. (f₁ j + done * s₁ j) % 2 ^ 64)
-    ∙ index-of-words first step done (word-of first hf) (word-of step hs)
+    (first done step p r : ℕ) → Fits w64 first → Fits w64 step → p ≡ (done * step) % 2 ^ 64 → r ≡ (first + p) % 2 ^ 64 → r ≡ index (toZ w64 first) done (toZ w64 step)
+index-found first done step p r hf hs ep er =
+    er ∙ ap (λ (x : ℕ). (first + x) % 2 ^ 64) ep ∙ add-mod-mod first (done * step) (2 ^ 64)
+    ∙ (λ j. (sym (ofZ-toZ w64 first hf) j + done * sym (ofZ-toZ w64 step hs) j) % 2 ^ 64)
+    ∙ index-of-words (toZ w64 first) (toZ w64 step) done (word-of (toZ w64 first) (toZ-fits w64 first hf)) (word-of (toZ w64 step) (toZ-fits w64 step hs))
