@@ -1,4 +1,4 @@
-use Rattle.settling.proofs.Turns.{next-idle, next-calm, next-entry}
+use Rattle.settling.proofs.Turns.{next-idle, next-calm, next-entry, next-waits}
 use borrow.Author.Needs.{needs}
 use Rattle.settling.proofs.check_next.Statement.{statement}
 use Rattle.settling.proofs.check_next.Tie as tie
@@ -23,6 +23,15 @@ enum-known-raised c = search needs
 
 file-requires : tie.Need-file-requires
 file-requires c κs = search needs
+
+enum-known-raised-2 : tie.Need-enum-known-raised-2
+enum-known-raised-2 c = search needs
+
+place-for-requires : tie.Need-place-for-requires
+place-for-requires c κs = search needs
+
+file-requires-2 : tie.Need-file-requires-2
+file-requires-2 c κs = search needs
 
 same-length : tie.Need-same-length
 same-length c = search needs
@@ -51,6 +60,18 @@ same-length-6 c = search needs
 returns-3 : tie.Need-returns-3
 returns-3 c = (next-entry _ _ _ _ _ _ _ (c .before .before .before .before .before .before .before .before .before .before .before .before .before .before .before .before .before .before .before .take-check .ensures .0) _ _ _ _ _ (c .before .before .before .before .before .before .before .before .before .before .before .before .before .before .before .next .given .1) (c .before .before .before .before .before .before .before .before .before .before .before .check .ensures .0) _ _ _ (c .before .before .before .before .before .raised .given .1) (c .before .before .file .ensures), c .before .before .before .before .before .before .before .before .before .before .before .check .ensures .1)
 
+same-length-7 : tie.Need-same-length-7
+same-length-7 c = search needs
+
+same-length-8 : tie.Need-same-length-8
+same-length-8 c = search needs
+
+same-length-9 : tie.Need-same-length-9
+same-length-9 c = search needs
+
+returns-4 : tie.Need-returns-4
+returns-4 c = (next-waits _ _ _ _ _ _ _ (c .before .before .before .before .before .before .before .before .before .before .before .before .before .before .before .before .before .before .before .before .take-check .ensures .0) _ _ _ _ _ (c .before .before .before .before .before .before .before .before .before .before .before .before .before .before .before .before .next .given .1) (c .before .before .before .before .before .before .before .before .before .before .before .before .check .ensures .0) _ _ _ _ (c .before .before .before .before .before .before .raised2 .given .1) (c .before .before .before .before .before .before .before .before .before .before .before .before .before .before .before .before .before .before .before .before .take-check .ensures .1) (c .before .before .before .place-for .ensures) (c .before .before .file2 .ensures), c .before .before .before .before .before .before .before .before .before .before .before .before .check .ensures .1)
+
 pub check-next-spec : {M : Type 1} → statement M
 check-next-spec =
     tie.close
@@ -62,6 +83,9 @@ check-next-spec =
     enum-told-2
     enum-known-raised
     file-requires
+    enum-known-raised-2
+    place-for-requires
+    file-requires-2
     same-length
     returns
     same-length-2
@@ -70,4 +94,8 @@ check-next-spec =
     same-length-4
     same-length-5
     same-length-6
-    returns-3)
+    returns-3
+    same-length-7
+    same-length-8
+    same-length-9
+    returns-4)
