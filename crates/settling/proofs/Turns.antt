@@ -88,22 +88,18 @@ pub filed-done : (a b : Answer) → a ≡ b → a ≡ Room → Done ≡ answer-o
 unfolding answer-of
 filed-done a b e h = ap answer-of (sym h ∙ e)
 
--- where what may wait is filed, by the mark and the pass
-pub place-ranked : (late : Bool) (to : Place) → late ≡ false → to ≡ place-for (if late then put-off else by-rank) to
-unfolding if_then_else_
-place-ranked late to h = rw h (sym (ranked-for to))
-
-pub place-late : (late : Bool) (to : Place) → to ≡ Late → Late ≡ place-for (if late then put-off else by-rank) to
+-- where what is put off is filed, by the pass
+pub puts-late : (to : Place) → to ≡ Late → Late ≡ place-for put-off to
 unfolding place-for
-place-late late to h = rw h refl
+puts-late to h = rw h refl
 
-pub place-pending : (late : Bool) (to : Place) → to ≡ Pending → Pending ≡ place-for (if late then put-off else by-rank) to
+pub puts-pending : (to : Place) → to ≡ Pending → Pending ≡ place-for put-off to
 unfolding place-for
-place-pending late to h = rw h refl
+puts-pending to h = rw h refl
 
-pub place-put-off : (late : Bool) (to : Place) (reached : ℕ) → late ≡ true → to ≡ After reached → After most-rank ≡ place-for (if late then put-off else by-rank) to
-unfolding place-for if_then_else_
-place-put-off late to reached h k = rw (h, k) refl
+pub puts-after : (to : Place) (reached : ℕ) → to ≡ After reached → After most-rank ≡ place-for put-off to
+unfolding place-for
+puts-after to reached h = rw h refl
 
 -- nothing is taken where nothing waits
 none-taken : (w : Wires) → none ≡ oldest w → oldest-taken w ≡ w
@@ -192,14 +188,28 @@ module _ (c : Circuit) (to : Place) (v v₁ : Values) (u : Units) (d : Delays) (
     unfolding settled
     next-entry x q u₂ er = filed-so x by-rank to q u₂ (ap (settled c (when-checked (v .wires) i) (found .state)) er) (ranked-for to)
 
-    pub next-waits :
-        (x : ℕ) (y : Place) (q : Round) (u₂ : Units) → r ≡ MayWait x → for-late n ≡ oldest-late (v .wires) → y ≡ place-for (if late then put-off else by-rank) to →
+    -- how it raises what may wait, by its mark
+    raises-so : for-late n ≡ oldest-late (v .wires) → (if late then put-off else by-rank) ≡ when-checked (v .wires) i
+    unfolding waiting for-late
+    raises-so el = marked-so (v .wires) i late (ap waiting (sym ei) ∙ en .0) (ap for-late (sym ei) ∙ el)
+
+    pub next-put-off :
+        (x : ℕ) (y : Place) (q : Round) (u₂ : Units) → r ≡ MayWait x → for-late n ≡ oldest-late (v .wires) → late ≡ true → y ≡ place-for put-off to →
         (q ≡ answer-of (answer (activate c y (act-of c x) (u .lists)))) × (u₂ ≡ with-lists u (lists-after (u .lists) (activate c y (act-of c x) (u .lists)))) →
         (q ≡ round-answer (round-of c to (together v u d .state) (u .lists))) × (together v₂ u₂ e ≡ after-round (together v u d) (round-of c to (together v u d .state) (u .lists)))
-    unfolding settled waiting for-late
-    next-waits x y q u₂ er el ey =
-        let w : (if late then put-off else by-rank) ≡ when-checked (v .wires) i = marked-so (v .wires) i late (ap waiting (sym ei) ∙ en .0) (ap for-late (sym ei) ∙ el) in
-        filed-so x (when-checked (v .wires) i) y q u₂ (ap (settled c (when-checked (v .wires) i) (found .state)) er) (ap (λ (p : When). place-for p to) (sym w) ∙ sym ey)
+    unfolding settled if_then_else_
+    next-put-off x y q u₂ er el h ey =
+        let p : put-off ≡ when-checked (v .wires) i = ap (λ (b : Bool). if b then put-off else by-rank) (sym h) ∙ raises-so el in
+        filed-so x (when-checked (v .wires) i) y q u₂ (ap (settled c (when-checked (v .wires) i) (found .state)) er) (ap (λ (w : When). place-for w to) (sym p) ∙ sym ey)
+
+    pub next-ranked :
+        (x : ℕ) (q : Round) (u₂ : Units) → r ≡ MayWait x → for-late n ≡ oldest-late (v .wires) → late ≡ false →
+        (q ≡ answer-of (answer (activate c to (act-of c x) (u .lists)))) × (u₂ ≡ with-lists u (lists-after (u .lists) (activate c to (act-of c x) (u .lists)))) →
+        (q ≡ round-answer (round-of c to (together v u d .state) (u .lists))) × (together v₂ u₂ e ≡ after-round (together v u d) (round-of c to (together v u d .state) (u .lists)))
+    unfolding settled if_then_else_
+    next-ranked x q u₂ er el h =
+        let p : by-rank ≡ when-checked (v .wires) i = ap (λ (b : Bool). if b then put-off else by-rank) (sym h) ∙ raises-so el in
+        filed-so x (when-checked (v .wires) i) to q u₂ (ap (settled c (when-checked (v .wires) i) (found .state)) er) (ap (λ (w : When). place-for w to) (sym p) ∙ ranked-for to)
 
 -- ---- one turn of the loop
 

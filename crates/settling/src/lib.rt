@@ -190,18 +190,14 @@ pub fn check(links: &[usize], values: &mut [u8], delays: &mut [u8], i: usize) ->
     }
 }
 
-// Where what may wait is filed, `to` being the place of what is raised by rank: a late check puts it off, and in the main pass that is after every rank.
-fn place_for(late: bool, to: Place) -> Place
-    ensures { λ r. ⌜ r ≡ place-for (if late then put-off else by-rank) to ⌝ }
+// Where what is put off is filed, `to` being the place of what is raised by rank: in the main pass as after every rank.
+fn put_off(to: Place) -> Place
+    ensures { λ r. ⌜ r ≡ place-for put-off to ⌝ }
 {
-    if late {
-        match to {
-            Place::Late => Place::Late,
-            Place::Pending => Place::Pending,
-            Place::After(_) => Place::After(MOST_RANK),
-        }
-    } else {
-        to
+    match to {
+        Place::Late => Place::Late,
+        Place::Pending => Place::Pending,
+        Place::After(_) => Place::After(MOST_RANK),
     }
 }
 
@@ -237,7 +233,12 @@ fn check_next(
             match raised {
                 Raised::Nothing => Round::Done,
                 Raised::Entry(x) => file(links, units, to, x),
-                Raised::MayWait(x) => file(links, units, place_for(late, to), x),
+                Raised::MayWait(x) => {
+                    if late {
+                        return file(links, units, put_off(to), x);
+                    }
+                    file(links, units, to, x)
+                }
             }
         }
     }
