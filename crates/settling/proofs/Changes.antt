@@ -10,7 +10,7 @@ use borrow.Author.Tests.{ne-eqb, leb-true, leb-false}
 use types.Run.{OneOf}
 use lib.Dec.{eqb, leb}
 use lib.ListN.{getD, set}
-use Rattle.schedule.specs.Schedule.{by-rank}
+use Rattle.schedule.specs.Schedule.{When, by-rank}
 use Rattle.model.specs.declared.Value.{Value}
 use Rattle.model.specs.declared.Value.the-variants.{Nothing}
 use Rattle.model.specs.Base.{if_then_else_}
@@ -32,7 +32,7 @@ use Rattle.units.specs.View.{entry-of, row-of, act-of, Units}
 use Rattle.units.proofs.Parts.{act-of-entry}
 use Rattle.areas.specs.Areas.{together, with-state}
 use Rattle.settling.specs.declared.Raised.{Raised}
-use Rattle.settling.specs.declared.Raised.the-variants.{Nothing as NoRaise, Entry}
+use Rattle.settling.specs.declared.Raised.the-variants.{Nothing as NoRaise, Entry, MayWait}
 use Rattle.settling.specs.declared.Edge.{Edge}
 use Rattle.settling.specs.declared.Edge.the-variants.{Rising, Falling, Level}
 use Rattle.settling.specs.Settling.{settled}
@@ -73,19 +73,21 @@ entry-act c g form hg hf =
 -- ---- what acts
 
 -- the state of an answer
-pub settled-at : (c : Circuit) (s : State) (r : Raised) → settled c s r .state ≡ s
+pub settled-at : (c : Circuit) (when : When) (s : State) (r : Raised) → settled c when s r .state ≡ s
 unfolding settled
-settled-at c s NoRaise = refl
-settled-at c s (Entry x) = refl
+settled-at c when s NoRaise = refl
+settled-at c when s (Entry x) = refl
+settled-at c when s (MayWait x) = refl
 
 -- by the state after it
 pub acts-by :
-    (c : Circuit) (v w : Values) (d e : Delays) (f : State → Settled) (r : Raised) →
-    ((u : Units) → (settled c (together w u e .state) r ≡ f (together v u d .state)) × (together w u e ≡ with-state (together v u d) (together w u e .state))) →
+    (c : Circuit) (v w : Values) (d e : Delays) (f : When → State → Settled) (r : Raised) →
+    ((u : Units) (when : When) → (settled c when (together w u e .state) r ≡ f when (together v u d .state)) × (together w u e ≡ with-state (together v u d) (together w u e .state))) →
     Acts c v d w e f r
-acts-by c v w d e f r h u =
-    let q : f (together v u d .state) .state ≡ together w u e .state = sym (ap (λ (z : Settled). z .state) (h u .0)) ∙ settled-at c (together w u e .state) r in
-    (h u .1 ∙ ap (with-state (together v u d)) (sym q), ap (λ (s : State). settled c s r) q ∙ h u .0)
+acts-by c v w d e f r h u when =
+    let q : f when (together v u d .state) .state ≡ together w u e .state =
+    sym (ap (λ (z : Settled). z .state) (h u when .0)) ∙ settled-at c when (together w u e .state) r in
+    (h u when .1 ∙ ap (with-state (together v u d)) (sym q), ap (λ (s : State). settled c when s r) q ∙ h u when .0)
 
 -- ---- an Edge
 
@@ -117,93 +119,106 @@ module _ (c : Circuit) (v : Values) (g : ℕ) (was now : Value) (e : Edge) (ee :
 
   pub pulse-hits :
       (p o : ℕ) (w : Values) → Hits e p → (o ≡ output c g p) × (o < 131072) → w ≡ with-wires v (pulse c (v .wires) o) → (d : Delays) →
-      Acts c v d w d (λ s. edge c s was now edge-hit) NoRaise
+      Acts c v d w d (λ _ s. edge c s was now edge-hit) NoRaise
   unfolding settled calm wires≔
   pulse-hits p o w h eo ew d =
-      acts-by c v w d d (λ s. edge c s was now edge-hit) NoRaise (λ u. (
+      acts-by c v w d d (λ _ s. edge c s was now edge-hit) NoRaise (λ u when. (
         rw (ew, eo .0) (h (together v u d .state) edge-hit ∙ ee c (together v u d .state) edge-hit),
         rw ew,
       ))
 
-  pub pulse-stays : e ≡ Level → (d : Delays) → Acts c v d v d (λ s. edge c s was now edge-hit) NoRaise
+  pub pulse-stays : e ≡ Level → (d : Delays) → Acts c v d v d (λ _ s. edge c s was now edge-hit) NoRaise
   unfolding settled calm
   pulse-stays h d =
-      acts-by c v v d d (λ s. edge c s was now edge-hit) NoRaise (λ u. (
+      acts-by c v v d d (λ _ s. edge c s was now edge-hit) NoRaise (λ u when. (
         level-hits e h (together v u d .state) edge-hit ∙ ee c (together v u d .state) edge-hit,
         refl,
       ))
 
 -- ---- raising a gate
 
--- an entry's raise
-pub entry-raise : (c : Circuit) (g form x : ℕ) (s : State) → x ≡ entry-of g form 0 → g < 65536 → form < 65536 → settled c s (Entry x) ≡ raise by-rank s g form
+-- an entry's raise, by rank
+entry-raise :
+    (c : Circuit) (g form x : ℕ) (when : When) (s : State) → x ≡ entry-of g form 0 → g < 65536 → form < 65536 → settled c when s (Entry x) ≡ raise by-rank s g form
 unfolding settled raise
-entry-raise c g form x s ex hg hf = rw (ex, entry-act c g form hg hf)
+entry-raise c g form x when s ex hg hf = rw (ex, entry-act c g form hg hf)
+
+-- and of one that may wait
+waiting-raise :
+    (c : Circuit) (g form x : ℕ) (when : When) (s : State) → x ≡ entry-of g form 0 → g < 65536 → form < 65536 → settled c when s (MayWait x) ≡ raise when s g form
+unfolding settled raise
+waiting-raise c g form x when s ex hg hf = rw (ex, entry-act c g form hg hf)
 
 -- an EdgeExec
 module _ (g : ℕ) (was now : Value) (e : Edge) (ee : Moves-so e was now) where
   pub raise-hits :
-      (p x : ℕ) → p < 2 → Hits e p → x ≡ entry-of g (32 + p) 0 → g < 65536 → (c : Circuit) (s : State) → settled c s (Entry x) ≡ edge c s was now (λ t o. raise by-rank t g (32 + o))
-  raise-hits p x k h ex hg c s =
-      entry-raise c g (32 + p) x s ex hg (omega arith) ∙ h s (λ t o. raise by-rank t g (32 + o)) ∙ ee c s (λ t o. raise by-rank t g (32 + o))
+      (p x : ℕ) → p < 2 → Hits e p → x ≡ entry-of g (32 + p) 0 → g < 65536 → (c : Circuit) (when : When) (s : State) →
+      settled c when s (Entry x) ≡ edge c s was now (λ t o. raise by-rank t g (32 + o))
+  raise-hits p x k h ex hg c when s =
+      entry-raise c g (32 + p) x when s ex hg (omega arith) ∙ h s (λ t o. raise by-rank t g (32 + o)) ∙ ee c s (λ t o. raise by-rank t g (32 + o))
 
-  pub raise-stays : e ≡ Level → g < 65536 → (c : Circuit) (s : State) → settled c s NoRaise ≡ edge c s was now (λ t o. raise by-rank t g (32 + o))
+  pub raise-stays : e ≡ Level → g < 65536 → (c : Circuit) (when : When) (s : State) → settled c when s NoRaise ≡ edge c s was now (λ t o. raise by-rank t g (32 + o))
   unfolding settled calm
-  raise-stays h hg c s = level-hits e h s (λ t o. raise by-rank t g (32 + o)) ∙ ee c s (λ t o. raise by-rank t g (32 + o))
+  raise-stays h hg c when s = level-hits e h s (λ t o. raise by-rank t g (32 + o)) ∙ ee c s (λ t o. raise by-rank t g (32 + o))
 
 -- an exec pin
 module _ (c : Circuit) (g i : ℕ) (now : Value) (t : Bool) (et : t ≡ truthy now) where
   pub pin-true :
-      (n p x : ℕ) → t ≡ true → (n ≡ input c g 0) × (n < 131072) → p ≡ i - n → x ≡ entry-of g (16 + p % 65536) 0 → g < 65536 → (truthy now ≡ true → i < 640) → (s : State) →
-      settled c s (Entry x) ≡ (if truthy now then raise by-rank s g (16 + (i - input c g 0)) else calm s)
+      (n p x : ℕ) → t ≡ true → (n ≡ input c g 0) × (n < 131072) → p ≡ i - n → x ≡ entry-of g (16 + p % 65536) 0 → g < 65536 → (truthy now ≡ true → i < 640) → (when : When) (s : State) →
+      settled c when s (MayWait x) ≡ (if truthy now then raise when s g (16 + (i - input c g 0)) else calm s)
   unfolding if_then_else_
-  pin-true n p x h en ep ex hg hi s =
+  pin-true n p x h en ep ex hg hi when s =
       let k : truthy now ≡ true = sym et ∙ h in
       let small : i < 640 = hi k in
       let ef : 16 + p % 65536 ≡ 16 + (i - n) = omega arith in
-      rw k (entry-raise c g (16 + p % 65536) x s ex hg (omega arith) ∙ ap (raise by-rank s g) (ef ∙ ap (λ (y : ℕ). 16 + (i - y)) (en .0)))
+      rw k (waiting-raise c g (16 + p % 65536) x when s ex hg (omega arith) ∙ ap (raise when s g) (ef ∙ ap (λ (y : ℕ). 16 + (i - y)) (en .0)))
 
-  pub pin-false : t ≡ false → g < 65536 → (truthy now ≡ true → i < 640) → (s : State) → settled c s NoRaise ≡ (if truthy now then raise by-rank s g (16 + (i - input c g 0)) else calm s)
+  pub pin-false :
+      t ≡ false → g < 65536 → (truthy now ≡ true → i < 640) → (when : When) (s : State) →
+      settled c when s NoRaise ≡ (if truthy now then raise when s g (16 + (i - input c g 0)) else calm s)
   unfolding if_then_else_ settled calm
-  pin-false h hg hi s = let k : truthy now ≡ false = sym et ∙ h in rw k
+  pin-false h hg hi when s = let k : truthy now ≡ false = sym et ∙ h in rw k
 
 -- ---- what a change leads to, by kind
 
 -- as another function has it
 pub acts-like :
-    (c : Circuit) (v w : Values) (d e : Delays) (f k : State → Settled) (r : Raised) → ((s : State) → f s ≡ k s) → Acts c v d w e f r → Acts c v d w e k r
-acts-like c v w d e f k r h a u =
-    let s = together v u d .state in
-    (a u .0 ∙ ap (λ (z : Settled). with-state (together v u d) (z .state)) (h s), ap (λ (z : Settled). settled c (z .state) r) (sym (h s)) ∙ a u .1 ∙ h s)
+    (c : Circuit) (v w : Values) (d e : Delays) (f k : When → State → Settled) (r : Raised) → ((when : When) (s : State) → f when s ≡ k when s) → Acts c v d w e f r →
+    Acts c v d w e k r
+acts-like c v w d e f k r h a u when =
+    let s = together v u d .state in (
+      a u when .0 ∙ ap (λ (z : Settled). with-state (together v u d) (z .state)) (h when s),
+      ap (λ (z : Settled). settled c when (z .state) r) (sym (h when s)) ∙ a u when .1 ∙ h when s,
+    )
 
 -- a gate that has an input is below 65,536
 pub gate-small : (l : List ℕ) (i : ℕ) → gate-at-input (net l) i < 65536
 gate-small l i = omega (arith, input-gate l i (getD (entries l 2 640 inputs-at) i 0) refl)
 
 -- the definition at each kind
-module _ (c : Circuit) (s : State) (g p : ℕ) (was now : Value) (k : ℕ) where
-  kind-6 : k ≡ 6 → detect c k s g p was now ≡ raise by-rank s g 0
+module _ (c : Circuit) (when : When) (s : State) (g p : ℕ) (was now : Value) (k : ℕ) where
+  kind-6 : k ≡ 6 → detect c k when s g p was now ≡ raise when s g 0
   unfolding detect if_then_else_
   kind-6 e = rw e
 
-  kind-7 : k ≡ 7 → edge c s was now (λ t o. calm (wires≔ t (pulse c (t .wires) (output c g o)))) ≡ detect c k s g p was now
+  kind-7 : k ≡ 7 → edge c s was now (λ t o. calm (wires≔ t (pulse c (t .wires) (output c g o)))) ≡ detect c k when s g p was now
   unfolding detect if_then_else_
   kind-7 e = rw e
 
-  kind-8 : k ≡ 8 → detect c k s g p was now ≡ calm (wires≔ s (pulse c (s .wires) (output c g 0)))
+  kind-8 : k ≡ 8 → detect c k when s g p was now ≡ calm (wires≔ s (pulse c (s .wires) (output c g 0)))
   unfolding detect if_then_else_
   kind-8 e = rw e
 
-  kind-9 : k ≡ 9 → detect c k s g p was now ≡ edge c s was now (λ t o. raise by-rank t g (32 + o))
+  kind-9 : k ≡ 9 → detect c k when s g p was now ≡ edge c s was now (λ t o. raise by-rank t g (32 + o))
   unfolding detect if_then_else_
   kind-9 e = rw e
 
-  kind-buffer : OneOf (10 ∷ 12 ∷ []) k → detect c k s g p was now ≡ calm (with-countdown c s g (λ d left. buffer-input d now left) (countdown c g (truthy now)))
+  kind-buffer : OneOf (10 ∷ 12 ∷ []) k → detect c k when s g p was now ≡ calm (with-countdown c s g (λ d left. buffer-input d now left) (countdown c g (truthy now)))
   unfolding detect if_then_else_
   kind-buffer h = ⊎-elim (λ e. rw e) (λ e. rw e) h
 
   kind-other :
-      ((((Unit {0} × (k ≡ 6 → ⊥)) × (k ≡ 7 → ⊥)) × (k ≡ 8 → ⊥)) × (k ≡ 9 → ⊥)) × (OneOf (10 ∷ 12 ∷ []) k → ⊥) → detect c k s g p was now ≡ (if truthy now then raise by-rank s g (16 + p) else calm s)
+      ((((Unit {0} × (k ≡ 6 → ⊥)) × (k ≡ 7 → ⊥)) × (k ≡ 8 → ⊥)) × (k ≡ 9 → ⊥)) × (OneOf (10 ∷ 12 ∷ []) k → ⊥) → detect c k when s g p was now ≡ (if truthy now then raise when s g (16 + p) else calm s)
   unfolding detect if_then_else_
   kind-other f =
       rw (
@@ -220,55 +235,55 @@ module _ (l : List ℕ) (v : Values) (d : Delays) (i g k : ℕ) (was now : Value
   small : g < 65536
   small = omega (arith, gate-small l i)
 
-  known : (s : State) → detect (net l) k s g (i - input (net l) g 0) was now ≡ acted (net l) i was now s
+  known : (when : When) (s : State) → detect (net l) k when s g (i - input (net l) g 0) was now ≡ acted (net l) i was now when s
   unfolding acted
-  known s = rw (← eg, ← ek)
+  known when s = rw (← eg, ← ek)
 
-  pub change-6 : (x : ℕ) → k ≡ 6 → x ≡ entry-of g 0 0 → (truthy now ≡ true → i < 640) → Acts (net l) v d v d (acted (net l) i was now) (Entry x)
+  pub change-6 : (x : ℕ) → k ≡ 6 → x ≡ entry-of g 0 0 → (truthy now ≡ true → i < 640) → Acts (net l) v d v d (acted (net l) i was now) (MayWait x)
   change-6 x e ex hi =
-      acts-by (net l) v v d d (acted (net l) i was now) (Entry x) (λ u.
+      acts-by (net l) v v d d (acted (net l) i was now) (MayWait x) (λ u when.
       let s = together v u d .state in
-      (entry-raise (net l) g 0 x s ex small (omega arith) ∙ sym (kind-6 (net l) s g _ was now k e) ∙ known s, refl))
+      (waiting-raise (net l) g 0 x when s ex small (omega arith) ∙ sym (kind-6 (net l) when s g _ was now k e) ∙ known when s, refl))
 
   pub change-7 :
-      (w : Values) → k ≡ 7 → ((d : Delays) → Acts (net l) v d w d (λ s. edge (net l) s was now (λ t o. calm (wires≔ t (pulse (net l) (t .wires) (output (net l) g o))))) NoRaise) →
+      (w : Values) → k ≡ 7 → ((d : Delays) → Acts (net l) v d w d (λ _ s. edge (net l) s was now (λ t o. calm (wires≔ t (pulse (net l) (t .wires) (output (net l) g o))))) NoRaise) →
       (truthy now ≡ true → i < 640) → Acts (net l) v d w d (acted (net l) i was now) NoRaise
-  change-7 w e h hi = acts-like (net l) v w d d _ (acted (net l) i was now) NoRaise (λ s. kind-7 (net l) s g _ was now k e ∙ known s) (h d)
+  change-7 w e h hi = acts-like (net l) v w d d _ (acted (net l) i was now) NoRaise (λ when s. kind-7 (net l) when s g _ was now k e ∙ known when s) (h d)
 
   pub change-8 :
       (o : ℕ) (w : Values) → k ≡ 8 → (o ≡ output (net l) g 0) × (o < 131072) → w ≡ with-wires v (pulse (net l) (v .wires) o) → (truthy now ≡ true → i < 640) →
       Acts (net l) v d w d (acted (net l) i was now) NoRaise
   unfolding settled calm wires≔
   change-8 o w e eo ew hi =
-      acts-by (net l) v w d d (acted (net l) i was now) NoRaise (λ u.
+      acts-by (net l) v w d d (acted (net l) i was now) NoRaise (λ u when.
       let s = together v u d .state in
-      (rw (ew, eo .0) (sym (kind-8 (net l) s g _ was now k e) ∙ known s), rw ew))
+      (rw (ew, eo .0) (sym (kind-8 (net l) when s g _ was now k e) ∙ known when s), rw ew))
 
   pub change-9 :
-      (r : Raised) → k ≡ 9 → (g < 65536 → (c : Circuit) (s : State) → settled c s r ≡ edge c s was now (λ t o. raise by-rank t g (32 + o))) → (truthy now ≡ true → i < 640) →
+      (r : Raised) → k ≡ 9 → (g < 65536 → (c : Circuit) (when : When) (s : State) → settled c when s r ≡ edge c s was now (λ t o. raise by-rank t g (32 + o))) → (truthy now ≡ true → i < 640) →
       Acts (net l) v d v d (acted (net l) i was now) r
   change-9 r e h hi =
-      acts-by (net l) v v d d (acted (net l) i was now) r (λ u.
+      acts-by (net l) v v d d (acted (net l) i was now) r (λ u when.
       let s = together v u d .state in
-      (h small (net l) s ∙ sym (kind-9 (net l) s g _ was now k e) ∙ known s, refl))
+      (h small (net l) when s ∙ sym (kind-9 (net l) when s g _ was now k e) ∙ known when s, refl))
 
   pub change-buffer :
       (x : Delays) → OneOf (10 ∷ 12 ∷ []) k → x ≡ starting d g (λ y left. buffer-input y now left) (countdown (net l) g (truthy now)) → (truthy now ≡ true → i < 640) →
       Acts (net l) v d v x (acted (net l) i was now) NoRaise
   unfolding settled calm delay delay≔ delays≔ count-changed changed≔
   change-buffer x e ex hi =
-      acts-by (net l) v v d x (acted (net l) i was now) NoRaise (λ u.
+      acts-by (net l) v v d x (acted (net l) i was now) NoRaise (λ u when.
       let s = together v u d .state in
-      (rw ex (sym (kind-buffer (net l) s g _ was now k e) ∙ known s), rw ex))
+      (rw ex (sym (kind-buffer (net l) when s g _ was now k e) ∙ known when s), rw ex))
 
   pub change-pin :
       (r : Raised) → ((((Unit {0} × (k ≡ 6 → ⊥)) × (k ≡ 7 → ⊥)) × (k ≡ 8 → ⊥)) × (k ≡ 9 → ⊥)) × (OneOf (10 ∷ 12 ∷ []) k → ⊥) →
-      (g < 65536 → (truthy now ≡ true → i < 640) → (s : State) → settled (net l) s r ≡ (if truthy now then raise by-rank s g (16 + (i - input (net l) g 0)) else calm s)) →
+      (g < 65536 → (truthy now ≡ true → i < 640) → (when : When) (s : State) → settled (net l) when s r ≡ (if truthy now then raise when s g (16 + (i - input (net l) g 0)) else calm s)) →
       (truthy now ≡ true → i < 640) → Acts (net l) v d v d (acted (net l) i was now) r
   change-pin r f h hi =
-      acts-by (net l) v v d d (acted (net l) i was now) r (λ u.
+      acts-by (net l) v v d d (acted (net l) i was now) r (λ u when.
       let s = together v u d .state in
-      (h small hi s ∙ sym (kind-other (net l) s g (i - input (net l) g 0) was now k f) ∙ known s, refl))
+      (h small hi when s ∙ sym (kind-other (net l) when s g (i - input (net l) g 0) was now k f) ∙ known when s, refl))
 
 -- ---- a check
 
@@ -292,13 +307,13 @@ look-true l w i now e h = go (leb 640 i) refl
 
 -- what acts after a change of wires
 acts-after :
-    (c : Circuit) (v v₂ w : Values) (d e : Delays) (f k : State → Settled) (r : Raised) (x : Wires) → v₂ ≡ with-wires v x →
-    ((u : Units) → f (together v₂ u d .state) ≡ k (together v u d .state)) → Acts c v₂ d w e f r → Acts c v d w e k r
-acts-after c v v₂ w d e f k r x ev h a u = (
-  a u .0
-      ∙ ap (λ (z : Settled). with-state (together v₂ u d) (z .state)) (h u)
-      ∙ ap (λ (y : Values). with-state (together y u d) (k (together v u d .state) .state)) ev,
-  ap (λ (z : Settled). settled c (z .state) r) (sym (h u)) ∙ a u .1 ∙ h u,
+    (c : Circuit) (v v₂ w : Values) (d e : Delays) (f k : When → State → Settled) (r : Raised) (x : Wires) → v₂ ≡ with-wires v x →
+    ((u : Units) (when : When) → f when (together v₂ u d .state) ≡ k when (together v u d .state)) → Acts c v₂ d w e f r → Acts c v d w e k r
+acts-after c v v₂ w d e f k r x ev h a u when = (
+  a u when .0
+      ∙ ap (λ (z : Settled). with-state (together v₂ u d) (z .state)) (h u when)
+      ∙ ap (λ (y : Values). with-state (together y u d) (k when (together v u d .state) .state)) ev,
+  ap (λ (z : Settled). settled c when (z .state) r) (sym (h u when)) ∙ a u when .1 ∙ h u when,
 )
 
 module _ (l : List ℕ) (v v₁ v₂ : Values) (d : Delays) (i : ℕ) (m : Remembered) (now : Value)
@@ -310,39 +325,39 @@ module _ (l : List ℕ) (v v₁ v₂ : Values) (d : Delays) (i : ℕ) (m : Remem
   noted = es ∙ ap (λ (y : Values). with-wires y (last≔ (v₁ .wires) (set (v₁ .wires .last) i (some now)))) er
 
   checked :
-      (u : Units) →
-      (if unchanged (remembered m) now then calm (together v₂ u d .state) else acted (net l) i (last-value (remembered m)) now (together v₂ u d .state))
-      ≡ check (net l) (together v u d .state) i
+      (u : Units) (when : When) →
+      (if unchanged (remembered m) now then calm (together v₂ u d .state) else acted (net l) i (last-value (remembered m)) now when (together v₂ u d .state))
+      ≡ check (net l) when (together v u d .state) i
   unfolding check compared acted wires≔
-  checked u = rw (es, eo, er, el)
+  checked u when = rw (es, eo, er, el)
 
   module _ (v₃ : Values) (e : Delays) (r : Raised) where
     pub check-first :
-        m ≡ NoRead → ((truthy now ≡ true → i < 640) → Acts (net l) v₂ d v₃ e (acted (net l) i Nothing now) r) → Acts (net l) v d v₃ e (λ s. check (net l) s i) r
+        m ≡ NoRead → ((truthy now ≡ true → i < 640) → Acts (net l) v₂ d v₃ e (acted (net l) i Nothing now) r) → Acts (net l) v d v₃ e (λ when s. check (net l) when s i) r
     unfolding remembered unchanged last-value if_then_else_
     check-first em a =
-        acts-after (net l) v v₂ v₃ d e (acted (net l) i Nothing now) (λ s. check (net l) s i) r _ noted
-        (λ u. ap (λ (x : Remembered). if unchanged (remembered x) now then calm (together v₂ u d .state) else acted (net l) i (last-value (remembered x)) now (together v₂ u d .state)) (sym em) ∙ checked u)
+        acts-after (net l) v v₂ v₃ d e (acted (net l) i Nothing now) (λ when s. check (net l) when s i) r _ noted
+        (λ u when. ap (λ (x : Remembered). if unchanged (remembered x) now then calm (together v₂ u d .state) else acted (net l) i (last-value (remembered x)) now when (together v₂ u d .state)) (sym em) ∙ checked u when)
         (a (look-true l (v₁ .wires) i now eo))
 
     pub check-new :
         (was : Value) (t : Bool) → m ≡ Read was → t ≡ same was now → t ≡ false →
-        ((truthy now ≡ true → i < 640) → Acts (net l) v₂ d v₃ e (acted (net l) i was now) r) → Acts (net l) v d v₃ e (λ s. check (net l) s i) r
+        ((truthy now ≡ true → i < 640) → Acts (net l) v₂ d v₃ e (acted (net l) i was now) r) → Acts (net l) v d v₃ e (λ when s. check (net l) when s i) r
     unfolding remembered unchanged last-value if_then_else_
     check-new was t em et h a =
-        acts-after (net l) v v₂ v₃ d e (acted (net l) i was now) (λ s. check (net l) s i) r _ noted
-        (λ u.
-        ap (λ (b : Bool). if b then calm (together v₂ u d .state) else acted (net l) i was now (together v₂ u d .state)) (sym h ∙ et)
-        ∙ ap (λ (x : Remembered). if unchanged (remembered x) now then calm (together v₂ u d .state) else acted (net l) i (last-value (remembered x)) now (together v₂ u d .state)) (sym em)
-        ∙ checked u)
+        acts-after (net l) v v₂ v₃ d e (acted (net l) i was now) (λ when s. check (net l) when s i) r _ noted
+        (λ u when.
+        ap (λ (b : Bool). if b then calm (together v₂ u d .state) else acted (net l) i was now when (together v₂ u d .state)) (sym h ∙ et)
+        ∙ ap (λ (x : Remembered). if unchanged (remembered x) now then calm (together v₂ u d .state) else acted (net l) i (last-value (remembered x)) now when (together v₂ u d .state)) (sym em)
+        ∙ checked u when)
         (a (look-true l (v₁ .wires) i now eo))
 
-  pub check-same : (was : Value) (t : Bool) → m ≡ Read was → t ≡ same was now → t ≡ true → Acts (net l) v d v₂ d (λ s. check (net l) s i) NoRaise
+  pub check-same : (was : Value) (t : Bool) → m ≡ Read was → t ≡ same was now → t ≡ true → Acts (net l) v d v₂ d (λ when s. check (net l) when s i) NoRaise
   unfolding remembered unchanged last-value if_then_else_ settled calm
   check-same was t em et h =
-      acts-by (net l) v v₂ d d (λ s. check (net l) s i) NoRaise (λ u. (
-        ap (λ (b : Bool). if b then calm (together v₂ u d .state) else acted (net l) i was now (together v₂ u d .state)) (sym h ∙ et)
-            ∙ ap (λ (x : Remembered). if unchanged (remembered x) now then calm (together v₂ u d .state) else acted (net l) i (last-value (remembered x)) now (together v₂ u d .state)) (sym em)
-            ∙ checked u,
+      acts-by (net l) v v₂ d d (λ when s. check (net l) when s i) NoRaise (λ u when. (
+        ap (λ (b : Bool). if b then calm (together v₂ u d .state) else acted (net l) i was now when (together v₂ u d .state)) (sym h ∙ et)
+            ∙ ap (λ (x : Remembered). if unchanged (remembered x) now then calm (together v₂ u d .state) else acted (net l) i (last-value (remembered x)) now when (together v₂ u d .state)) (sym em)
+            ∙ checked u when,
         ap (λ (y : Values). with-state (together y u d) (together v₂ u d .state)) noted,
       ))

@@ -8,7 +8,7 @@ use Rattle.lists.specs.declared.Filed.{Filed as Answer}
 use Rattle.lists.specs.declared.Filed.the-variants.{Full, Done}
 use Rattle.model.specs.Circuit.{Circuit}
 use Rattle.model.specs.State.{Act, State, wires≔}
-use Rattle.model.specs.Settle.{calm, taken, check, check-on}
+use Rattle.model.specs.Settle.{Settled, calm, taken, when-checked, check, check-on}
 use Rattle.units.specs.View.{Lists}
 use Rattle.units.specs.Raising.{answer, lists-after, Went, raise-into}
 
@@ -74,6 +74,10 @@ module _ (c : Circuit) where
   abbrev pub to-be-checked : State → ℕ → List ℕ → State
   to-be-checked s i is = wires≔ s (taken (s .wires) i is)
 
+  -- its check
+  abbrev pub checked-now : State → ℕ → List ℕ → Settled
+  checked-now s i is = check c (when-checked (s .wires) i) (to-be-checked s i is) i
+
   -- what was raised before comes first
   pub raised-before :
       (n : ℕ) (s : State) (rs : List (Raise State Act When)) →
@@ -85,12 +89,12 @@ module _ (c : Circuit) where
       go :
           ((t : State) (qs : List (Raise State Act When)) → check-on c n (record { state = t; raises = qs }) ≡ record { state = check-on c n (calm t) .state; raises = qs ++ check-on c n (calm t) .raises }) →
           (x : List ℕ) →
-          first-on x (record { state = s; raises = rs }) (λ i is. check-on c n (record { state = check c (to-be-checked s i is) i .state; raises = rs ++ check c (to-be-checked s i is) i .raises }))
+          first-on x (record { state = s; raises = rs }) (λ i is. check-on c n (record { state = checked-now s i is .state; raises = rs ++ checked-now s i is .raises }))
           ≡ record {
-            state = first-on x (calm s) (λ i is. check-on c n (record { state = check c (to-be-checked s i is) i .state; raises = [] ++ check c (to-be-checked s i is) i .raises })) .state;
-            raises = rs ++ first-on x (calm s) (λ i is. check-on c n (record { state = check c (to-be-checked s i is) i .state; raises = [] ++ check c (to-be-checked s i is) i .raises })) .raises;
+            state = first-on x (calm s) (λ i is. check-on c n (record { state = checked-now s i is .state; raises = [] ++ checked-now s i is .raises })) .state;
+            raises = rs ++ first-on x (calm s) (λ i is. check-on c n (record { state = checked-now s i is .state; raises = [] ++ checked-now s i is .raises })) .raises;
           }
       go rec [] = rw (append-nil rs)
       go rec (i ∷ is) =
-          let r = check c (to-be-checked s i is) i in
+          let r = checked-now s i is in
           rw (rec (r .state) (rs ++ r .raises), rec (r .state) ([] ++ r .raises), append-assoc rs (r .raises) (check-on c n (calm (r .state)) .raises))

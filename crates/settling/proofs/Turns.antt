@@ -1,37 +1,39 @@
 -- The rounds of settling, one after the other: one law for each way out of a function.
 use Prim.Native.Nat.{ℕ, zero, suc, _+_, _-_, _*_, _≤_, _<_}
 use mathlib.Core.Path.{_≡_, refl, sym, ap, ap₂, subst, _∙_}
-use mathlib.Core.Bool.{Bool}
+use mathlib.Core.Bool.{Bool, true, false}
 use mathlib.Core.List.{List, [], _∷_, _++_}
 use mathlib.Core.Option.{Option, none, some}
 use native.Mathlib.Nat.{mul-le-mul}
 use native.Mathlib.Omega.{arith}
 use native.Mathlib.Numerals.{add-one}
-use lib.ListN.{length}
-use Rattle.schedule.specs.Schedule.{by-rank}
+use lib.ListN.{length, getD}
+use Rattle.schedule.specs.Schedule.{When, by-rank, put-off}
 use Rattle.lists.specs.declared.Filed.{Filed as Answer}
 use Rattle.lists.specs.declared.Filed.the-variants.{Full as NoRoom, Done as Room}
+use Rattle.model.specs.Base.{if_then_else_}
 use Rattle.model.specs.Circuit.{Circuit}
 use Rattle.model.specs.State.{State, Wires, wires≔}
 use Rattle.model.specs.Wires.{refresh-all}
-use Rattle.model.specs.Settle.{Settled, calm, taken, check, check-on, most-checks, settle}
+use Rattle.model.specs.Settle.{Settled, calm, taken, when-checked, check, check-on, most-checks, settle}
 use Rattle.wires.specs.declared.Waiting.{Waiting}
 use Rattle.wires.specs.declared.Waiting.the-variants.{Input, Nothing as NoInput}
 use Rattle.wires.specs.View.{Values, with-wires}
-use Rattle.wires.specs.Checks.{waiting, oldest, oldest-taken}
+use Rattle.wires.specs.Checks.{waiting, for-late, oldest, oldest-late, oldest-taken}
 use Rattle.states.specs.View.{Delays}
 use Rattle.units.specs.declared.Place.{Place}
+use Rattle.units.specs.declared.Place.the-variants.{Late, Pending, After}
 use Rattle.units.specs.View.{act-of, Lists, Units}
-use Rattle.units.specs.Raising.{with-lists, activate, place-for, answer, lists-after, Went, raise-into}
+use Rattle.units.specs.Raising.{with-lists, activate, most-rank, place-for, answer, lists-after, Went, raise-into}
 use Rattle.units.proofs.Places.{ranked-for}
 use Rattle.areas.specs.Areas.{Contents, together, with-went}
 use Rattle.settling.specs.declared.Raised.{Raised}
-use Rattle.settling.specs.declared.Raised.the-variants.{Nothing as NoRaise, Entry}
+use Rattle.settling.specs.declared.Raised.the-variants.{Nothing as NoRaise, Entry, MayWait}
 use Rattle.settling.specs.declared.Round.{Round}
 use Rattle.settling.specs.declared.Round.the-variants.{Idle, Done, Full}
 use Rattle.settling.specs.Settling.{settled, filed-into}
 use Rattle.settling.specs.Rounds.{Acts, goes-on, round-of, answer-of, round-answer, after-round}
-use Rattle.settling.proofs.Rounds.{raised-on, raised-full, raised-one, first-on, to-be-checked, raised-before}
+use Rattle.settling.proofs.Rounds.{raised-on, raised-full, raised-one, first-on, checked-now, raised-before}
 
 -- ---- one round, then the others
 
@@ -66,14 +68,14 @@ module _ (c : Circuit) (to : Place) where
     where
       go :
           (x : List ℕ) →
-          filed-into c to (first-on x (calm s) (λ i is. check-on c n (record { state = check c (to-be-checked c s i is) i .state; raises = [] ++ check c (to-be-checked c s i is) i .raises }))) l
+          filed-into c to (first-on x (calm s) (λ i is. check-on c n (record { state = checked-now c s i is .state; raises = [] ++ checked-now c s i is .raises }))) l
           ≡ rest-of s l (goes-on c to n)
           (elim (first-on x none (λ i is. some i)) [
             | none ↦ none
-            | some i ↦ some (filed-into c to (check c (wires≔ s (first-on x (s .wires) (taken (s .wires)))) i) l)
+            | some i ↦ some (filed-into c to (check c (when-checked (s .wires) i) (wires≔ s (first-on x (s .wires) (taken (s .wires)))) i) l)
           ])
       go [] = refl
-      go (i ∷ is) = filed-first n (record { state = check c (to-be-checked c s i is) i .state; raises = [] ++ check c (to-be-checked c s i is) i .raises }) l
+      go (i ∷ is) = filed-first n (record { state = checked-now c s i is .state; raises = [] ++ checked-now c s i is .raises }) l
 
 -- ---- what a round comes to
 
@@ -86,6 +88,19 @@ pub filed-done : (a b : Answer) → a ≡ b → a ≡ Room → Done ≡ answer-o
 unfolding answer-of
 filed-done a b e h = ap answer-of (sym h ∙ e)
 
+-- where what is put off is filed, by the pass
+pub puts-late : (to : Place) → to ≡ Late → Late ≡ place-for put-off to
+unfolding place-for
+puts-late to h = rw h refl
+
+pub puts-pending : (to : Place) → to ≡ Pending → Pending ≡ place-for put-off to
+unfolding place-for
+puts-pending to h = rw h refl
+
+pub puts-after : (to : Place) (reached : ℕ) → to ≡ After reached → After most-rank ≡ place-for put-off to
+unfolding place-for
+puts-after to reached h = rw h refl
+
 -- nothing is taken where nothing waits
 none-taken : (w : Wires) → none ≡ oldest w → oldest-taken w ≡ w
 unfolding oldest oldest-taken
@@ -94,6 +109,17 @@ none-taken w e = go (w .to-check) e
     go : (x : List ℕ) → _≡_ {A = Option ℕ} none (first-on x none (λ i is. some i)) → first-on x w (taken w) ≡ w
     go [] h = refl
     go (i ∷ is) h = cc
+
+-- the input that waits longest raises what may wait by its mark
+marked-so : (w : Wires) (i : ℕ) (late : Bool) → some i ≡ oldest w → late ≡ oldest-late w → (if late then put-off else by-rank) ≡ when-checked w i
+unfolding oldest oldest-late when-checked
+marked-so w i late e h = go (w .to-check) e h
+  where
+    go :
+        (x : List ℕ) → some i ≡ first-on x none (λ j is. some j) → late ≡ first-on x false (λ j is. getD (w .late-checks) j false) →
+        (if late then put-off else by-rank) ≡ (if getD (w .late-checks) i false then put-off else by-rank)
+    go [] p q = cc
+    go (j ∷ is) p q = let k : i ≡ j = cc in rw (q, k) refl
 
 -- one round, by what waits and what the check raises
 module _ (c : Circuit) (to : Place) (v v₁ : Values) (u : Units) (d : Delays) (n : Waiting) (en : (waiting n ≡ oldest (v .wires)) × (v₁ ≡ with-wires v (oldest-taken (v .wires)))) where
@@ -106,14 +132,14 @@ module _ (c : Circuit) (to : Place) (v v₁ : Values) (u : Units) (d : Delays) (
       let p : round-of c to (together v u d .state) (u .lists) ≡ none = rw (← q, round-of) in
       (ap round-answer (sym p), ap (λ (y : Values). together y u d) (en .1) ∙ ap (λ (w : Wires). together (with-wires v w) u d) (none-taken (v .wires) q) ∙ ap (after-round (together v u d)) (sym p))
 
-  module _ (i : ℕ) (late : Bool) (v₂ : Values) (e : Delays) (r : Raised) (ei : n ≡ Input i late) (ec : Acts c v₁ d v₂ e (λ s. check c s i) r) where
+  module _ (i : ℕ) (late : Bool) (v₂ : Values) (e : Delays) (r : Raised) (ei : n ≡ Input i late) (ec : Acts c v₁ d v₂ e (λ when s. check c when s i) r) where
     -- what the check leads to
     abbrev found : Settled
-    found = check c (wires≔ (together v u d .state) (oldest-taken (v .wires))) i
+    found = check c (when-checked (v .wires) i) (wires≔ (together v u d .state) (oldest-taken (v .wires))) i
 
     -- in the state in which it is made
-    acts : Acts c (with-wires v (oldest-taken (v .wires))) d v₂ e (λ s. check c s i) r
-    acts = subst (λ (y : Values). Acts c y d v₂ e (λ s. check c s i) r) (en .1) ec
+    acts : Acts c (with-wires v (oldest-taken (v .wires))) d v₂ e (λ when s. check c when s i) r
+    acts = subst (λ (y : Values). Acts c y d v₂ e (λ when s. check c when s i) r) (en .1) ec
 
     -- so the round comes to what it raises, filed
     round-is : round-of c to (together v u d .state) (u .lists) ≡ some (filed-into c to found (u .lists))
@@ -126,8 +152,8 @@ module _ (c : Circuit) (to : Place) (v v₁ : Values) (u : Units) (d : Delays) (
     unfolding filed-into raise-into settled round-answer answer-of after-round wires≔
     next-calm er =
         let p : round-of c to (together v u d .state) (u .lists) ≡ some (record { state = found .state; lists = u .lists; answer = Room }) =
-        round-is ∙ ap (λ (z : Settled). some (filed-into c to z (u .lists))) (sym (acts u .1) ∙ ap (settled c (found .state)) er) in
-        (ap round-answer (sym p), acts u .0 ∙ ap (after-round (together v u d)) (sym p))
+        round-is ∙ ap (λ (z : Settled). some (filed-into c to z (u .lists))) (sym (acts u (when-checked (v .wires) i) .1) ∙ ap (settled c (when-checked (v .wires) i) (found .state)) er) in
+        (ap round-answer (sym p), acts u (when-checked (v .wires) i) .0 ∙ ap (after-round (together v u d)) (sym p))
 
     -- what filing x there comes to
     abbrev went-to : ℕ → Place → Went
@@ -135,19 +161,55 @@ module _ (c : Circuit) (to : Place) (v v₁ : Values) (u : Units) (d : Delays) (
         let k = activate c y (act-of c x) (u .lists) in
         record { state = found .state; lists = lists-after (u .lists) k; answer = answer k }
 
+    -- x, raised so, is filed where that goes
+    filed-so :
+        (x : ℕ) (p : When) (y : Place) (q : Round) (u₂ : Units) →
+        settled c (when-checked (v .wires) i) (found .state) r ≡ record { state = found .state; raises = record { at = found .state; act = act-of c x; place = p } ∷ [] } → place-for p to ≡ y →
+        (q ≡ answer-of (answer (activate c y (act-of c x) (u .lists)))) × (u₂ ≡ with-lists u (lists-after (u .lists) (activate c y (act-of c x) (u .lists)))) →
+        (q ≡ round-answer (round-of c to (together v u d .state) (u .lists))) × (together v₂ u₂ e ≡ after-round (together v u d) (round-of c to (together v u d .state) (u .lists)))
+    unfolding filed-into round-answer after-round wires≔
+    filed-so x p y q u₂ er ey eq =
+        let k = activate c y (act-of c x) (u .lists) in
+        let h : round-of c to (together v u d .state) (u .lists) ≡ some (went-to x y) =
+        round-is
+        ∙ ap (λ (z : Settled). some (filed-into c to z (u .lists))) (sym (acts u (when-checked (v .wires) i) .1) ∙ er)
+        ∙ ap (λ (w : Went). some w) (raised-one (λ p. activate c (place-for p to)) p (act-of c x) (u .lists) (found .state))
+        ∙ ap (λ (y : Place). some (went-to x y)) ey in (
+          eq .0 ∙ ap round-answer (sym h),
+          ap (λ (y : Units). together v₂ y e) (eq .1)
+              ∙ acts (with-lists u (lists-after (u .lists) k)) (when-checked (v .wires) i) .0
+              ∙ ap (after-round (together v u d)) (sym h),
+        )
+
     pub next-entry :
         (x : ℕ) (q : Round) (u₂ : Units) → r ≡ Entry x →
         (q ≡ answer-of (answer (activate c to (act-of c x) (u .lists)))) × (u₂ ≡ with-lists u (lists-after (u .lists) (activate c to (act-of c x) (u .lists)))) →
         (q ≡ round-answer (round-of c to (together v u d .state) (u .lists))) × (together v₂ u₂ e ≡ after-round (together v u d) (round-of c to (together v u d .state) (u .lists)))
-    unfolding filed-into settled round-answer after-round wires≔
-    next-entry x q u₂ er eq =
-        let k = activate c to (act-of c x) (u .lists) in
-        let p : round-of c to (together v u d .state) (u .lists) ≡ some (went-to x to) =
-        round-is
-        ∙ ap (λ (z : Settled). some (filed-into c to z (u .lists))) (sym (acts u .1) ∙ ap (settled c (found .state)) er)
-        ∙ ap (λ (w : Went). some w) (raised-one (λ p. activate c (place-for p to)) by-rank (act-of c x) (u .lists) (found .state))
-        ∙ ap (λ (y : Place). some (went-to x y)) (ranked-for to) in
-        (eq .0 ∙ ap round-answer (sym p), ap (λ (y : Units). together v₂ y e) (eq .1) ∙ acts (with-lists u (lists-after (u .lists) k)) .0 ∙ ap (after-round (together v u d)) (sym p))
+    unfolding settled
+    next-entry x q u₂ er = filed-so x by-rank to q u₂ (ap (settled c (when-checked (v .wires) i) (found .state)) er) (ranked-for to)
+
+    -- how it raises what may wait, by its mark
+    raises-so : for-late n ≡ oldest-late (v .wires) → (if late then put-off else by-rank) ≡ when-checked (v .wires) i
+    unfolding waiting for-late
+    raises-so el = marked-so (v .wires) i late (ap waiting (sym ei) ∙ en .0) (ap for-late (sym ei) ∙ el)
+
+    pub next-put-off :
+        (x : ℕ) (y : Place) (q : Round) (u₂ : Units) → r ≡ MayWait x → for-late n ≡ oldest-late (v .wires) → late ≡ true → y ≡ place-for put-off to →
+        (q ≡ answer-of (answer (activate c y (act-of c x) (u .lists)))) × (u₂ ≡ with-lists u (lists-after (u .lists) (activate c y (act-of c x) (u .lists)))) →
+        (q ≡ round-answer (round-of c to (together v u d .state) (u .lists))) × (together v₂ u₂ e ≡ after-round (together v u d) (round-of c to (together v u d .state) (u .lists)))
+    unfolding settled if_then_else_
+    next-put-off x y q u₂ er el h ey =
+        let p : put-off ≡ when-checked (v .wires) i = ap (λ (b : Bool). if b then put-off else by-rank) (sym h) ∙ raises-so el in
+        filed-so x (when-checked (v .wires) i) y q u₂ (ap (settled c (when-checked (v .wires) i) (found .state)) er) (ap (λ (w : When). place-for w to) (sym p) ∙ sym ey)
+
+    pub next-ranked :
+        (x : ℕ) (q : Round) (u₂ : Units) → r ≡ MayWait x → for-late n ≡ oldest-late (v .wires) → late ≡ false →
+        (q ≡ answer-of (answer (activate c to (act-of c x) (u .lists)))) × (u₂ ≡ with-lists u (lists-after (u .lists) (activate c to (act-of c x) (u .lists)))) →
+        (q ≡ round-answer (round-of c to (together v u d .state) (u .lists))) × (together v₂ u₂ e ≡ after-round (together v u d) (round-of c to (together v u d .state) (u .lists)))
+    unfolding settled if_then_else_
+    next-ranked x q u₂ er el h =
+        let p : by-rank ≡ when-checked (v .wires) i = ap (λ (b : Bool). if b then put-off else by-rank) (sym h) ∙ raises-so el in
+        filed-so x (when-checked (v .wires) i) to q u₂ (ap (settled c (when-checked (v .wires) i) (found .state)) er) (ap (λ (w : When). place-for w to) (sym p) ∙ ranked-for to)
 
 -- ---- one turn of the loop
 

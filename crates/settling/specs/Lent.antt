@@ -2,7 +2,7 @@
 use mathlib.Core.Path.{_≡_}
 use mathlib.Core.Option.{Option}
 use Rattle.words.specs.Slices.{Slice, before, after}
-use Rattle.schedule.specs.Schedule.{Filed}
+use Rattle.schedule.specs.Schedule.{When, Filed}
 use Rattle.model.specs.Circuit.{Circuit}
 use Rattle.model.specs.State.{State}
 use Rattle.model.specs.Settle.{Settled}
@@ -18,10 +18,10 @@ use Rattle.settling.specs.Settling.{settled}
 use Rattle.settling.specs.Rounds.{Acts, answer-of, round-answer, after-round}
 
 -- wires and small states go on as f has it, and r is what f raises: of the wires alone, and of both
-abbrev pub Acts-in-values : Slice → Slice → (Circuit → State → Settled) → Raised → Type 0
+abbrev pub Acts-in-values : Slice → Slice → (Circuit → When → State → Settled) → Raised → Type 0
 Acts-in-values links vs f r = (d : Delays) → Acts (net-of links) (values-in links vs) d (values-out links vs) d (f (net-of links)) r
 
-abbrev pub Acts-in-both : Slice → Slice → Slice → (Circuit → State → Settled) → Raised → Type 0
+abbrev pub Acts-in-both : Slice → Slice → Slice → (Circuit → When → State → Settled) → Raised → Type 0
 Acts-in-both links vs ds f r =
     Acts
     (net-of links)
@@ -32,9 +32,9 @@ Acts-in-both links vs ds f r =
     (f (net-of links))
     r
 
--- a became b, and r is what z raises
-abbrev pub Settles : Circuit → Contents → Contents → Raised → Settled → Type 0
-Settles c a b r z = (b ≡ with-state a (z .state)) × (settled c (z .state) r ≡ z)
+-- a became b, and r is what z raises, however what may wait is raised
+abbrev pub Settles : Circuit → Contents → Contents → Raised → (When → Settled) → Type 0
+Settles c a b r z = (when : When) → (b ≡ with-state a (z when .state)) × (settled c when (z when .state) r ≡ z when)
 
 -- u became v, and r is a round's answer, as filing came to x
 abbrev pub Files-in-round : Units → Units → Round → Filed Lists → Type 0

@@ -3,7 +3,7 @@ ghost use mathlib.Core.Path.{_≡_};
 ghost use mathlib.Core.Bool.{true};
 ghost use Prim.Native.Nat.{ℕ, _+_, _-_, _<_};
 ghost use Rattle.words.specs.Slices.{was};
-ghost use Rattle.schedule.specs.Schedule.{by-rank};
+ghost use Rattle.schedule.specs.Schedule.{When, by-rank, put-off};
 ghost use Rattle.model.specs.Base.{if_then_else_};
 ghost use Rattle.model.specs.Value.{truthy};
 ghost use Rattle.model.specs.Circuit.{Circuit, input, output, most-inputs};
@@ -12,7 +12,7 @@ ghost use Rattle.model.specs.Settle.{Settled, calm, raise, pulse, edge, check, 
 ghost use Rattle.links.specs.Lent.{Linked, net-of, Room, Short};
 ghost use Rattle.states.specs.Lent.{Slots, Slots-stay};
 ghost use Rattle.units.specs.View.{act-of};
-ghost use Rattle.units.specs.Raising.{activate};
+ghost use Rattle.units.specs.Raising.{activate, place-for};
 ghost use Rattle.units.specs.Lent.{Units-change};
 ghost use Rattle.areas.specs.Lent.{Over-all, Over-values-delays, Goes, All-lent};
 ghost use Rattle.settling.specs.declared.Raised.the-variants.{Nothing};
@@ -50,10 +50,14 @@ use wires::refreshing::ready;
 use wires::refreshing::refresh_all;
 use words::counting::less;
 
-// What a check raises: nothing, or the activation of an entry.
+// No rank is above this.
+const MOST_RANK: u64 = 65535;
+
+// What a check raises: nothing, the activation of an entry, or one that a late check puts off.
 pub enum Raised {
     Nothing,
     Entry(u64),
+    MayWait(u64),
 }
 
 // How a value moved.
@@ -88,7 +92,7 @@ fn edge_of(was: Value, v: Value) -> Edge
 // An Edge: its output for the direction goes up.
 fn edge_pulse(links: &[usize], values: &mut [u8], g: usize, was: Value, v: Value)
     requires { ⌜ Linked links × Room values ⌝ }
-    ensures { λ _. ⌜ Acts-in-values links values (λ c s. edge c s was v (λ t o. calm (wires≔ t (pulse c (t .wires) (output c g o))))) Nothing ⌝ }
+    ensures { λ _. ⌜ Acts-in-values links values (λ c _ s. edge c s was v (λ t o. calm (wires≔ t (pulse c (t .wires) (output c g o))))) Nothing ⌝ }
 {
     let e = edge_of(was, v);
     match e {
@@ -104,7 +108,7 @@ fn edge_pulse(links: &[usize], values: &mut [u8], g: usize, was: Value, v: Value
 
 // An EdgeExec: it is raised, by its output for the direction.
 fn edge_raised(g: usize, was: Value, v: Value) -> Raised
-    ensures { λ r. ⌜ (Short g → (c : Circuit) (s : State) → settled c s r ≡ edge c s was v (λ t o. raise by-rank t g (32 + o))) ⌝ }
+    ensures { λ r. ⌜ (Short g → (c : Circuit) (when : When) (s : State) → settled c when s r ≡ edge c s was v (λ t o. raise by-rank t g (32 + o))) ⌝ }
 {
     let e = edge_of(was, v);
     match e {
@@ -117,11 +121,11 @@ fn edge_raised(g: usize, was: Value, v: Value) -> Raised
 // Input i of gate g, an exec pin: the gate is raised where the value is true.
 fn pin_raised(links: &[usize], g: usize, i: usize, v: Value) -> Raised
     requires { ⌜ Linked links ⌝ }
-    ensures { λ r. ⌜ (Short g → (truthy v ≡ true → i < most-inputs) → (s : State) → settled (net-of links) s r ≡ (if truthy v then raise by-rank s g (16 + (i - input (net-of links) g 0)) else calm s)) ⌝ }
+    ensures { λ r. ⌜ (Short g → (truthy v ≡ true → i < most-inputs) → (when : When) (s : State) → settled (net-of links) when s r ≡ (if truthy v then raise when s g (16 + (i - input (net-of links) g 0)) else calm s)) ⌝ }
 {
     if truthy(v) {
         let p = less(i, input(links, g, 0));
-        return Raised::Entry(entry(g, BY_PIN + p % FORMS, 0));
+        return Raised::MayWait(entry(g, BY_PIN + p % FORMS, 0));
     }
     Raised::Nothing
 }
@@ -142,7 +146,7 @@ fn detect(
     let g = gate_at_input(links, i);
     match kind_of_gate(links, g) {
         // a ChangeDetector
-        6 => Raised::Entry(entry(g, FIRE, 0)),
+        6 => Raised::MayWait(entry(g, FIRE, 0)),
         // an Edge
         7 => {
             edge_pulse(links, values, g, was, v);
@@ -168,7 +172,7 @@ fn detect(
 // Watched input i is read again, and acted on if it changed.
 pub fn check(links: &[usize], values: &mut [u8], delays: &mut [u8], i: usize) -> Raised
     requires { ⌜ Linked links × Room values × Slots links delays ⌝ }
-    ensures { λ r. ⌜ Over-values-delays links values delays (λ c old new. Settles c old new r (check c (old .state) i)) ⌝ }
+    ensures { λ r. ⌜ Over-values-delays links values delays (λ c old new. Settles c old new r (λ when. check c when (old .state) i)) ⌝ }
     ensures { λ _. ⌜ Slots-stay links delays ⌝ }
 {
     let was = last(links, values, i);
@@ -183,6 +187,17 @@ pub fn check(links: &[usize], values: &mut [u8], delays: &mut [u8], i: usize) ->
             }
             detect(links, values, delays, i, u, v)
         }
+    }
+}
+
+// Where what is put off is filed, `to` being the place of what is raised by rank: in the main pass as after every rank.
+fn put_off(to: Place) -> Place
+    ensures { λ r. ⌜ r ≡ place-for put-off to ⌝ }
+{
+    match to {
+        Place::Late => Place::Late,
+        Place::Pending => Place::Pending,
+        Place::After(_) => Place::After(MOST_RANK),
     }
 }
 
@@ -213,11 +228,17 @@ fn check_next(
     let next = take_check(links, values);
     match next {
         Waiting::Nothing => Round::Idle,
-        Waiting::Input(i, _) => {
+        Waiting::Input(i, late) => {
             let raised = check(links, values, delays, i);
             match raised {
                 Raised::Nothing => Round::Done,
                 Raised::Entry(x) => file(links, units, to, x),
+                Raised::MayWait(x) => {
+                    if late {
+                        return file(links, units, put_off(to), x);
+                    }
+                    file(links, units, to, x)
+                }
             }
         }
     }
