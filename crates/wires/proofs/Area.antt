@@ -14,7 +14,7 @@ use Rattle.wires.specs.View.{Tables, sizes, of, cut}
 abbrev pub to : Tables → List (List ℕ)
 to t =
     t .tick ∷ t .dt ∷ t .uptime ∷ t .dirty ∷ t .unions-passed ∷ t .head ∷ t .count ∷ t .written-count ∷ t .out-tags ∷ t .out-contents ∷ t .queued
-    ∷ t .slots ∷ t .last-kinds ∷ t .last-contents ∷ t .ticks ∷ t .up ∷ t .written ∷ t .stack ∷ t .late-checks ∷ t .written-outside ∷ t .breaking ∷ t .runs-left ∷ t .rest ∷ []
+    ∷ t .slots ∷ t .last-kinds ∷ t .last-contents ∷ t .ticks ∷ t .up ∷ t .written ∷ t .stack ∷ t .late-checks ∷ t .written-outside ∷ t .breaking ∷ t .runs-left ∷ t .marking-late ∷ t .rest ∷ []
 
 -- place i of table n becomes v
 abbrev pub poke : ℕ → ℕ → ℕ → Tables → Tables
@@ -29,6 +29,6 @@ unfolding cut
 cut-peek ws n i h = tables-get sizes ws n i h
 
 -- how long table n is
-pub sized : (bs : List ℕ) (n : ℕ) → 65536 ≤ length bs → n < 22 → base sizes n + getD sizes n 0 ≤ 8192 → length (getD (to (cut (words bs))) n []) ≡ getD sizes n 0
+pub sized : (bs : List ℕ) (n : ℕ) → 65536 ≤ length bs → n < 23 → base sizes n + getD sizes n 0 ≤ 8192 → length (getD (to (cut (words bs))) n []) ≡ getD sizes n 0
 unfolding cut
 sized bs n l k h = tables-length sizes (words bs) n k (omega (arith, words-long 8192 bs (omega arith)))

@@ -1,5 +1,5 @@
 -- What the functions that read and write the tables come to: one law for each way out of one.
-use Prim.Native.Nat.{ℕ, _+_, _*_, _/_, _%_, _^_, _≤_, _<_}
+use Prim.Native.Nat.{ℕ, _+_, _*_, _/_, _%_, _^_, _≤_, _<_, min}
 use mathlib.Core.Path.{_≡_, refl, sym, ap, ap₂, _∙_}
 use mathlib.Core.Bool.{Bool, true, false, not, _||_, or-true}
 use mathlib.Core.List.{List, map}
@@ -20,6 +20,8 @@ use Rattle.model.specs.Value.{content-of}
 use Rattle.model.specs.Circuit.{Circuit}
 use Rattle.model.specs.State.{Wires, outs≔, dirty≔, to-check≔, late-checks≔}
 use Rattle.model.specs.Wires.{shown, show, is-dirty, is-clean, soil, clean, watch, watch-for}
+use Rattle.links.specs.Links.{cell, net}
+use Rattle.links.proofs.Reading.{inputs-counted}
 use Rattle.wires.specs.Held.{held, tag-of}
 use Rattle.wires.specs.View.{cut, with-wires, values}
 use Rattle.wires.specs.Marking.{Area, area-with, area}
@@ -257,6 +259,23 @@ module _ (c : Circuit) (bs : List ℕ) (i n : ℕ) (en : Counts 640 n (length (c
 
 -- ---- inputs marked for a late check
 
+module _ (c : Circuit) (bs : List ℕ) (i : ℕ) where
+  late-off : (x : ℕ) → x ≡ getD (words bs) 5461 0 → x ≡ 0 → area c bs .late ≡ false
+  unfolding area
+  late-off x e z = ap marked (sym (e ∙ cut-peek (words bs) 22 0 (omega arith)) ∙ z)
+
+  late-on : (x : ℕ) → x ≡ getD (words bs) 5461 0 → (x ≡ 0 → ⊥) → area c bs .late ≡ true
+  unfolding area
+  late-on x e f = ap marked (sym (e ∙ cut-peek (words bs) 22 0 (omega arith))) ∙ ap not (ne-eqb x 0 f)
+
+  -- marked, if marking is for a late check
+  abbrev marked-late : Wires → Wires
+  marked-late w = if area c bs .late then late-checks≔ w (set (w .late-checks) i true) else w
+
+  pub mark-not-late : (x : ℕ) → x ≡ getD (words bs) 5461 0 → x ≡ 0 → area c bs ≡ area-with (area c bs) (marked-late (area c bs .values .wires))
+  unfolding if_then_else_
+  mark-not-late x ex z = rw (late-off x ex z) refl
+
 module _ (c : Circuit) (bs : List ℕ) (i n : ℕ) (en : Counts 640 n (length (c .pins))) where
   pub late-few : length (values c bs .wires .late-checks) ≤ n
   unfolding values
@@ -271,35 +290,44 @@ module _ (c : Circuit) (bs : List ℕ) (i n : ℕ) (en : Counts 640 n (length (c
   pub late-past : n ≤ i → false ≡ getD (values c bs .wires .late-checks) i false
   late-past h = sym (List·getD-eq-default (values c bs .wires .late-checks) false {n = i} (omega (arith, late-few)))
 
-  module _ (late : Bool) where
-    pub mark-late-in :
-        (bs₁ : List ℕ) → late ≡ true → i < n → Stored bs bs₁ (4818 + i) 1 →
-        area c bs₁ ≡ area-with (area c bs) (if late then late-checks≔ (area c bs .values .wires) (set (area c bs .values .wires .late-checks) i true) else area c bs .values .wires)
-    unfolding area values late-checks≔ if_then_else_
-    mark-late-in bs₁ q h e =
-        rw (
-          q,
-          e .words,
-          cut-poke (words bs) 18 i 1 (omega arith),
-          e .tail,
-          map-marked-set (cut (words bs) .late-checks) i 1,
-          take-set (length (c .pins)) (map marked (cut (words bs) .late-checks)) i true,
-        )
+late-most : (l bs : List ℕ) → length (values (net l) bs .wires .late-checks) ≤ 640
+late-most l bs = let n = inputs-counted l (min (cell l 2) 640) refl in omega (arith, n .1, late-few (net l) bs 0 _ n)
 
-    pub mark-late-past :
-        late ≡ true → n ≤ i →
-        area c bs ≡ area-with (area c bs) (if late then late-checks≔ (area c bs .values .wires) (set (area c bs .values .wires .late-checks) i true) else area c bs .values .wires)
-    unfolding area late-checks≔ if_then_else_
-    mark-late-past q h = rw (q, set-out (values c bs .wires .late-checks) i true (omega (arith, late-few)))
+module _ (l bs : List ℕ) (i x : ℕ) (ex : x ≡ getD (words bs) 5461 0) (f : x ≡ 0 → ⊥) where
+  pub mark-late-in : (bs₁ : List ℕ) → i < 640 → Stored bs bs₁ (4818 + i) 1 → area (net l) bs₁ ≡ area-with (area (net l) bs) (marked-late (net l) bs i (area (net l) bs .values .wires))
+  mark-late-in bs₁ h e = put ∙ ap (area-with (area (net l) bs)) (unfold if_then_else_ in rw (late-on (net l) bs i x ex f) refl)
+    where
+      put : area (net l) bs₁ ≡ area-with (area (net l) bs) (late-checks≔ (area (net l) bs .values .wires) (set (area (net l) bs .values .wires .late-checks) i true))
+      put = unfold area values late-checks≔ in rw (
+        e .words,
+        cut-poke (words bs) 18 i 1 (omega arith),
+        e .tail,
+        map-marked-set (cut (words bs) .late-checks) i 1,
+        take-set (length (net l .pins)) (map marked (cut (words bs) .late-checks)) i true,
+      )
 
-pub mark-not-late :
-    (a : Area) (i : ℕ) (late : Bool) → late ≡ false → a ≡ area-with a (if late then late-checks≔ (a .values .wires) (set (a .values .wires .late-checks) i true) else a .values .wires)
-unfolding if_then_else_
-mark-not-late a i late q = rw q refl
+  -- no circuit has that input
+  pub mark-late-past : 640 ≤ i → area (net l) bs ≡ area-with (area (net l) bs) (marked-late (net l) bs i (area (net l) bs .values .wires))
+  unfolding if_then_else_
+  mark-late-past h = rw (late-on (net l) bs i x ex f) (unfold area late-checks≔ in rw (set-out (values (net l) bs .wires .late-checks) i true (omega (arith, late-most l bs))))
+
+-- an input may be marked for a late check before it waits, or after
+late-after :
+    (late : Bool) (w : Wires) (i : ℕ) → (if late then late-checks≔ (watch w i) (set (watch w i .late-checks) i true) else watch w i) ≡ watch-for late w i
+unfolding watch-for if_then_else_ watch late-checks≔ to-check≔
+late-after false w i = refl
+late-after true w i = go (getD (w .queued) i true || leb 640 (length (w .to-check)))
+  where
+    go : (b : Bool) → late-checks≔ (if b then w else to-check≔ w (snoc (w .to-check) i) (set (w .queued) i true)) (set ((if b then w else to-check≔ w (snoc (w .to-check) i) (set (w .queued) i true)) .late-checks) i true)
+        ≡ (if b then late-checks≔ w (set (w .late-checks) i true) else to-check≔ (late-checks≔ w (set (w .late-checks) i true)) (snoc (w .to-check) i) (set (w .queued) i true))
+    go true = unfold if_then_else_ in refl
+    go false = unfold if_then_else_ late-checks≔ to-check≔ in refl
 
 pub watched-for :
-    (a a₁ a₂ : Area) (i : ℕ) (late : Bool) →
-    a₁ ≡ area-with a (if late then late-checks≔ (a .values .wires) (set (a .values .wires .late-checks) i true) else a .values .wires) →
-    a₂ ≡ area-with a₁ (watch (a₁ .values .wires) i) → a₂ ≡ area-with a (watch-for late (a .values .wires) i)
-unfolding watch-for
-watched-for a a₁ a₂ i late e₁ e₂ = e₂ ∙ ap (λ (x : Area). area-with x (watch (x .values .wires) i)) e₁
+    (a a₁ a₂ : Area) (i : ℕ) → a₁ ≡ area-with a (watch (a .values .wires) i) →
+    a₂ ≡ area-with a₁ (if a₁ .late then late-checks≔ (a₁ .values .wires) (set (a₁ .values .wires .late-checks) i true) else a₁ .values .wires) →
+    a₂ ≡ area-with a (watch-for (a .late) (a .values .wires) i)
+watched-for a a₁ a₂ i e₁ e₂ =
+    e₂
+    ∙ ap (λ (x : Area). area-with x (if x .late then late-checks≔ (x .values .wires) (set (x .values .wires .late-checks) i true) else x .values .wires)) e₁
+    ∙ ap (area-with a) (late-after (a .late) (a .values .wires) i)

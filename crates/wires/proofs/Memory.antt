@@ -1,5 +1,5 @@
 -- What is remembered of wires: last values, Unions passed, Breaks, runs of bodies, the tick, and Vars written; one law for each way out of a function.
-use Prim.Native.Nat.{ℕ, zero, suc, _+_, _-_, _*_, _/_, _%_, _^_, _≤_, _<_}
+use Prim.Native.Nat.{ℕ, zero, suc, _+_, _-_, _*_, _/_, _%_, _^_, _≤_, _<_, min}
 use mathlib.Core.Path.{_≡_, refl, sym, ap, ap₂, _∙_}
 use mathlib.Core.Bool.{Bool, true, false, not, _||_, or-true}
 use mathlib.Core.List.{List, map}
@@ -27,6 +27,8 @@ use Rattle.model.specs.Opening.{next-tick}
 use Rattle.model.proofs.Lists.{if-both}
 use Rattle.model.proofs.Sized.{mark-readers-for-keeps}
 use Rattle.value.proofs.Laws.{made-again}
+use Rattle.links.specs.Links.{cell, net}
+use Rattle.links.proofs.Reading.{gates-counted}
 use Rattle.wires.specs.declared.Remembered.the-variants.{Read, Nothing as NoRead}
 use Rattle.wires.specs.View.{cut, last-of, Values, with-wires, values}
 use Rattle.wires.specs.Checks.{remembered}
@@ -329,29 +331,35 @@ module _ (c : Circuit) (bs : List ℕ) (g n : ℕ) (en : Counts 64 n (length (c 
   pub outside-past : (o : ℕ) → g ≡ gate-at-output c o → n ≤ g → true ≡ not (getD (values c bs .wires .written-outside) (gate-at-output c o) false)
   outside-past o eg h = rw (← eg) (ap not (sym (List·getD-eq-default (values c bs .wires .written-outside) false {n = g} (omega (arith, outside-length)))))
 
-  module _ (o : ℕ) (inside : Bool) (q : inside ≡ false) (eg : g ≡ gate-at-output c o) where
-    pub mark-outside-in :
-        (bs₁ : List ℕ) (d : ℕ) → 65536 ≤ length bs → g < n → d ≡ getD (words bs) 5458 0 → Stored bs bs₁ 5458 (bitOr d (1 * 2 ^ g % 2 ^ 64)) →
-        values c bs₁ ≡ with-wires (values c bs) (if inside then values c bs .wires else written-outside≔ (values c bs .wires) (set (values c bs .wires .written-outside) (gate-at-output c o) true))
-    unfolding values written-outside≔ if_then_else_
-    mark-outside-in bs₁ d l h e s =
-        let m : length (cut (words bs) .written-outside) ≡ 1 = sized bs 19 l (omega arith) (omega arith) in
-        let p : d ≡ getD (cut (words bs) .written-outside) 0 0 = e ∙ cut-peek (words bs) 19 0 (omega arith) in
-        rw (
-          q,
-          ← eg,
-          s .words,
-          cut-poke (words bs) 19 0 (bitOr d (1 * 2 ^ g % 2 ^ 64)) (omega arith),
-          s .tail,
-          getD-set-same (cut (words bs) .written-outside) 0 (bitOr d (1 * 2 ^ g % 2 ^ 64)) 0 (omega arith),
-          one-mark (length (c .kinds)) g d (omega arith),
-          ← p,
-        )
+module _ (l bs : List ℕ) (o g : ℕ) (inside : Bool) (q : inside ≡ false) (eg : g ≡ gate-at-output (net l) o) where
+  -- one mark more
+  abbrev outside-marked : Wires → Wires
+  outside-marked w = if inside then w else written-outside≔ w (set (w .written-outside) (gate-at-output (net l) o) true)
 
-    pub mark-outside-past :
-        n ≤ g → values c bs ≡ with-wires (values c bs) (if inside then values c bs .wires else written-outside≔ (values c bs .wires) (set (values c bs .wires .written-outside) (gate-at-output c o) true))
-    unfolding written-outside≔ if_then_else_
-    mark-outside-past h = rw (q, ← eg, set-out (values c bs .wires .written-outside) g true (omega (arith, outside-length)))
+  pub mark-outside-in :
+      (bs₁ : List ℕ) (d : ℕ) → 65536 ≤ length bs → g < 64 → d ≡ getD (words bs) 5458 0 → Stored bs bs₁ 5458 (bitOr d (1 * 2 ^ g % 2 ^ 64)) →
+      values (net l) bs₁ ≡ with-wires (values (net l) bs) (outside-marked (values (net l) bs .wires))
+  unfolding values written-outside≔ if_then_else_
+  mark-outside-in bs₁ d r h e s =
+      let m : length (cut (words bs) .written-outside) ≡ 1 = sized bs 19 r (omega arith) (omega arith) in
+      let p : d ≡ getD (cut (words bs) .written-outside) 0 0 = e ∙ cut-peek (words bs) 19 0 (omega arith) in
+      rw (
+        q,
+        ← eg,
+        s .words,
+        cut-poke (words bs) 19 0 (bitOr d (1 * 2 ^ g % 2 ^ 64)) (omega arith),
+        s .tail,
+        getD-set-same (cut (words bs) .written-outside) 0 (bitOr d (1 * 2 ^ g % 2 ^ 64)) 0 (omega arith),
+        one-mark (length (net l .kinds)) g d h,
+        ← p,
+      )
+
+  -- no circuit has that gate
+  pub mark-outside-past : 64 ≤ g → values (net l) bs ≡ with-wires (values (net l) bs) (outside-marked (values (net l) bs .wires))
+  unfolding written-outside≔ if_then_else_
+  mark-outside-past h =
+      let n = gates-counted l (min (cell l 0) 64) refl in
+      rw (q, ← eg, set-out (values (net l) bs .wires .written-outside) g true (omega (arith, n .1, outside-length (net l) bs g _ n)))
 
 pub mark-inside :
     (c : Circuit) (v : Values) (o : ℕ) (inside : Bool) → inside ≡ true →

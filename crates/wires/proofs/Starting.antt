@@ -57,7 +57,7 @@ unfolding zeros
 clear-first bs = refl
 
 pub clear-next :
-    (bs₀ bs bs₁ : List ℕ) (k : ℕ) → 65536 ≤ length bs₀ → k < 5461 → words bs ≡ zeros k ++ drop k (words bs₀) → Stored bs bs₁ k 0 →
+    (bs₀ bs bs₁ : List ℕ) (k : ℕ) → 65536 ≤ length bs₀ → k < 5462 → words bs ≡ zeros k ++ drop k (words bs₀) → Stored bs bs₁ k 0 →
     words bs₁ ≡ zeros (k + 1) ++ drop (k + 1) (words bs₀)
 clear-next bs₀ bs bs₁ k l h e s =
     let m : k < length (words bs₀) = omega (arith, words-long 8192 bs₀ (omega arith)) in
@@ -86,11 +86,11 @@ tables-rest : (ns ws : List ℕ) → getD (tables ns ws) (length ns) [] ≡ drop
 tables-rest [] ws = refl
 tables-rest (n ∷ ns) ws = tables-rest ns (drop n ws) ∙ drop-drop (base ns (length ns)) n ws
 
-rest-is : (ws : List ℕ) → cut ws .rest ≡ drop 5461 ws
+rest-is : (ws : List ℕ) → cut ws .rest ≡ drop 5462 ws
 unfolding cut
 rest-is ws = tables-rest sizes ws
 
-cut-zeros : (r : List ℕ) → cut (zeros 5461 ++ r) ≡ of (zero-tables sizes ++ (r ∷ []))
+cut-zeros : (r : List ℕ) → cut (zeros 5462 ++ r) ≡ of (zero-tables sizes ++ (r ∷ []))
 unfolding cut
 cut-zeros r = ap of (tables-zeros sizes r)
 
@@ -124,14 +124,14 @@ no-digits zero = refl
 no-digits (suc n) = ap (λ (l : List Bool). false ∷ l) (no-digits n)
 
 pub cleared :
-    (c : Circuit) (bs₀ bs : List ℕ) → length (c .outputs) ≤ 576 → length (c .pins) ≤ 640 → words bs ≡ zeros 5461 ++ drop 5461 (words bs₀) → tail bs ≡ tail bs₀ →
+    (c : Circuit) (bs₀ bs : List ℕ) → length (c .outputs) ≤ 576 → length (c .pins) ≤ 640 → words bs ≡ zeros 5462 ++ drop 5462 (words bs₀) → tail bs ≡ tail bs₀ →
     values c bs ≡ with-wires (values c bs₀) (blank c)
 unfolding values blank ring held held-by value-of last-of
 cleared c bs₀ bs lo li ew et =
     let m : length (marks (zeros 9)) ≡ 576 = marks-length (zeros 9) ∙ (let q = zeros-length 9 in omega arith) in
     rw (
       ew,
-      cut-zeros (drop 5461 (words bs₀)),
+      cut-zeros (drop 5462 (words bs₀)),
       et,
       rest-is (words bs₀),
       one-zero,
@@ -143,10 +143,10 @@ cleared c bs₀ bs lo li ew et =
     )
 
 pub clear-last :
-    (l bs₀ bs : List ℕ) (k : ℕ) → k ≤ 5461 → 5461 ≤ k → words bs ≡ zeros k ++ drop k (words bs₀) → tail bs ≡ tail bs₀ →
+    (l bs₀ bs : List ℕ) (k : ℕ) → k ≤ 5462 → 5462 ≤ k → words bs ≡ zeros k ++ drop k (words bs₀) → tail bs ≡ tail bs₀ →
     values (net l) bs ≡ with-wires (values (net l) bs₀) (blank (net l))
 clear-last l bs₀ bs k h m ew et =
-    let e : k ≡ 5461 = omega arith in
+    let e : k ≡ 5462 = omega arith in
     cleared (net l) bs₀ bs (omega (arith, outputs-counted l (min (cell l 3) 576) refl)) (omega (arith, inputs-counted l (min (cell l 2) 640) refl))
     (ew ∙ ap (λ (n : ℕ). zeros n ++ drop n (words bs₀)) e) et
 

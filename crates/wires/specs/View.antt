@@ -17,7 +17,7 @@ use Rattle.wires.specs.Held.{held}
 -- how many Vars are written. Then tags and contents of 576 outputs; of 640 inputs whether each is queued; the 1,024 places of the check queue; kinds (0 for
 -- none, else the kind and 1) and contents of 640 last values; the ticks of 576 pulses, and nine words of marks that say which of them count; 64 Vars
 -- written; 65 places of the stack that marking works with; of 640 inputs whether each is marked for a late check; of one word each: the Vars written outside
--- bodies as marks, whether a Break ran, the runs of bodies left; and the words behind the tables.
+-- bodies as marks, whether a Break ran, the runs of bodies left, whether marking is for a late check; and the words behind the tables.
 pub record Tables : Type 0 where
   pub tick : List ℕ
   pub dt : List ℕ
@@ -41,11 +41,12 @@ pub record Tables : Type 0 where
   pub written-outside : List ℕ
   pub breaking : List ℕ
   pub runs-left : List ℕ
+  pub marking-late : List ℕ
   pub rest : List ℕ
 
 -- their sizes
 abbrev pub sizes : List ℕ
-sizes = 1 ∷ 1 ∷ 1 ∷ 1 ∷ 1 ∷ 1 ∷ 1 ∷ 1 ∷ 576 ∷ 576 ∷ 640 ∷ 1024 ∷ 640 ∷ 640 ∷ 576 ∷ 9 ∷ 64 ∷ 65 ∷ 640 ∷ 1 ∷ 1 ∷ 1 ∷ []
+sizes = 1 ∷ 1 ∷ 1 ∷ 1 ∷ 1 ∷ 1 ∷ 1 ∷ 1 ∷ 576 ∷ 576 ∷ 640 ∷ 1024 ∷ 640 ∷ 640 ∷ 576 ∷ 9 ∷ 64 ∷ 65 ∷ 640 ∷ 1 ∷ 1 ∷ 1 ∷ 1 ∷ []
 
 -- where the tags and the contents of the outputs begin, in words
 abbrev pub out-tags-at : ℕ
@@ -80,7 +81,8 @@ of ts =
       written-outside = getD ts 19 [];
       breaking = getD ts 20 [];
       runs-left = getD ts 21 [];
-      rest = getD ts 22 [];
+      marking-late = getD ts 22 [];
+      rest = getD ts 23 [];
     }
 
 -- the area's words, cut into tables
@@ -130,7 +132,7 @@ abbrev pub with-wires : Values → Wires → Values
 with-wires v w = record { wires = w; rest = v .rest }
 
 -- What the bytes of the area hold for circuit c. Left open are only places that are not in use (of outputs, inputs and gates that c does not have, of the
--- check queue and of Vars written past their counts, the tick of a pulse that is down, the marking stack), and which word stands for a mark or a value
+-- check queue and of Vars written past their counts, the tick of a pulse that is down, the marking stack and what marking is for), and which word stands for a mark or a value
 -- where several do.
 unfoldable pub values : Circuit → List ℕ → Values
 values c bs = record { wires = wires-of c (cut (words bs)); rest = cut (words bs) .rest ++ tail bs }

@@ -1,11 +1,10 @@
 // The watched inputs that wait to be checked, and what the last check of each read.
 ghost use mathlib.Core.Path.{_≡_};
-ghost use mathlib.Core.Bool.{true, false};
+ghost use mathlib.Core.Bool.{false};
 ghost use mathlib.Core.Option.{none, some};
 ghost use lib.ListN.{getD, set};
-ghost use Rattle.model.specs.Base.{if_then_else_};
-ghost use Rattle.model.specs.State.{late-checks≔, last≔};
-ghost use Rattle.model.specs.Wires.{watch, watch-for};
+ghost use Rattle.model.specs.State.{last≔};
+ghost use Rattle.model.specs.Wires.{watch};
 ghost use Rattle.model.specs.Settle.{taken};
 ghost use Rattle.links.specs.Lent.{Linked, Room};
 ghost use Rattle.wires.specs.Checks.{waiting, for-late, oldest, oldest-late, oldest-taken, remembered};
@@ -45,27 +44,6 @@ pub fn watch(links: &[usize], values: &mut [u8], i: usize)
             }
         }
     }
-}
-
-// Input i is marked for a late check, if `late` says so. The marking stack stays as it is.
-fn mark_late(links: &[usize], values: &mut [u8], i: usize, late: bool)
-    requires { ⌜ Linked links × Room values ⌝ }
-    ensures { λ _. ⌜ Turns-beside-stack links values (λ _ w. if late then late-checks≔ w (set (w .late-checks) i true) else w) ⌝ }
-{
-    if late {
-        if i < inputs(links) {
-            put(values, LATE_CHECKS + i, 1);
-        }
-    }
-}
-
-// Watched input i waits to be checked, for a late check if `late` says so, also where it waits already. The marking stack stays as it is.
-pub fn watch_for(links: &[usize], values: &mut [u8], i: usize, late: bool)
-    requires { ⌜ Linked links × Room values ⌝ }
-    ensures { λ _. ⌜ Turns-beside-stack links values (λ _ w. watch-for late w i) ⌝ }
-{
-    mark_late(links, values, i, late);
-    watch(links, values, i);
 }
 
 // Whether input i is marked for a late check.

@@ -57,5 +57,7 @@ pub const BREAKING: usize = WRITTEN_OUTSIDE + 1;
 
 pub const RUNS_LEFT: usize = BREAKING + 1;
 
+pub const MARKING_LATE: usize = RUNS_LEFT + 1;
+
 // How many words the tables have.
-pub const TABLES: usize = RUNS_LEFT + 1;
+pub const TABLES: usize = MARKING_LATE + 1;

@@ -19,6 +19,7 @@ use crate::layout::WRITTEN_OUTSIDE;
 use crate::marking::mark_readers_for;
 use links::gate_at_output;
 use links::gates;
+use links::layout::MOST_GATES;
 use words::get;
 use words::put;
 
@@ -62,7 +63,7 @@ fn mark_outside(links: &[usize], values: &mut [u8], o: usize, inside: bool)
         return;
     }
     let g = gate_at_output(links, o);
-    if g < gates(links) {
+    if g < MOST_GATES {
         let d = get(values, WRITTEN_OUTSIDE);
         put(values, WRITTEN_OUTSIDE, d | 1 << g);
     }

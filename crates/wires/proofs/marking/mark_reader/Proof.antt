@@ -20,16 +20,16 @@ soil-requires : tie.Need-soil-requires
 soil-requires c κs = search needs
 
 add-put : tie.Need-add-put
-add-put c = let q = room _ _ _ _ _ _ (c .before .before .before .before .before .before .before .before .before .before .before .before .before .before .pre .1) (c .before .before .before .before .before .before .is-clean .ensures) (c .before .before .before .before .before .if2 .taken) in omega (arith, q)
+add-put c = let q = room _ _ _ _ _ (c .before .before .before .before .before .before .before .before .before .before .before .before .before .before .pre .1) (c .before .before .before .before .before .before .is-clean .ensures) (c .before .before .before .before .before .if2 .taken) in omega (arith, q)
 
 output-requires : tie.Need-output-requires
 output-requires c κs = search needs
 
 put-requires : tie.Need-put-requires
-put-requires c κs = let q = room _ _ _ _ _ _ (c .before .before .before .before .before .before .before .before .before .before .before .before .before .before .before .pre .1) (c .before .before .before .before .before .before .before .is-clean .ensures) (c .before .before .before .before .before .before .if2 .taken) in search needs
+put-requires c κs = let q = room _ _ _ _ _ (c .before .before .before .before .before .before .before .before .before .before .before .before .before .before .before .pre .1) (c .before .before .before .before .before .before .before .is-clean .ensures) (c .before .before .before .before .before .before .if2 .taken) in search needs
 
 add-result : tie.Need-add-result
-add-result c = let q = room _ _ _ _ _ _ (c .before .before .before .before .before .before .before .before .before .before .before .before .before .before .before .before .before .before .pre .1) (c .before .before .before .before .before .before .before .before .before .before .is-clean .ensures) (c .before .before .before .before .before .before .before .before .before .if2 .taken) in omega (arith, q)
+add-result c = let q = room _ _ _ _ _ (c .before .before .before .before .before .before .before .before .before .before .before .before .before .before .before .before .before .before .pre .1) (c .before .before .before .before .before .before .before .before .before .before .is-clean .ensures) (c .before .before .before .before .before .before .before .before .before .if2 .taken) in omega (arith, q)
 
 watching-requires : tie.Need-watching-requires
 watching-requires c κs = search needs
@@ -41,22 +41,22 @@ same-length : tie.Need-same-length
 same-length c = search needs
 
 returns : tie.Need-returns
-returns c = reader-found _ _ _ _ _ _ _ _ (c .before .before .before .before .before .before .before .before .before .before .before .before .before .before .before .gate-at-input .ensures) (c .before .before .before .before .before .before .before .before .before .before .before .before .before .before .kind-of-gate .ensures) (c .before .before .before .before .before .before .before .before .before .before .before .before .before .is-pure .ensures) _ _ _ _ (search needs) (room _ _ _ _ _ _ (c .before .before .before .before .before .before .before .before .before .before .before .before .before .before .before .before .before .before .pre .1) (c .before .before .before .before .before .before .before .before .before .before .is-clean .ensures) (c .before .before .before .before .before .before .before .before .before .if2 .taken)) (c .before .before .before .before .before .before .before .before .before .before .before .before .if1 .taken) (c .before .before .before .before .before .before .before .before .before .before .is-clean .ensures) (c .before .before .before .before .before .before .before .before .before .if2 .taken) (c .before .before .before .before .before .before .before .soil .ensures) (c .before .before .before .output .ensures) (c .before .before .put .ensures)
+returns c = reader-found _ _ _ _ _ _ _ (c .before .before .before .before .before .before .before .before .before .before .before .before .before .before .before .gate-at-input .ensures) (c .before .before .before .before .before .before .before .before .before .before .before .before .before .before .kind-of-gate .ensures) (c .before .before .before .before .before .before .before .before .before .before .before .before .before .is-pure .ensures) _ _ _ _ (search needs) (room _ _ _ _ _ (c .before .before .before .before .before .before .before .before .before .before .before .before .before .before .before .before .before .before .pre .1) (c .before .before .before .before .before .before .before .before .before .before .is-clean .ensures) (c .before .before .before .before .before .before .before .before .before .if2 .taken)) (c .before .before .before .before .before .before .before .before .before .before .before .before .if1 .taken) (c .before .before .before .before .before .before .before .before .before .before .is-clean .ensures) (c .before .before .before .before .before .before .before .before .before .if2 .taken) (c .before .before .before .before .before .before .before .soil .ensures) (c .before .before .before .output .ensures) (c .before .before .put .ensures)
 
 same-length-2 : tie.Need-same-length-2
 same-length-2 c = search needs
 
 returns-2 : tie.Need-returns-2
-returns-2 c = reader-stale _ _ _ _ _ _ _ _ (c .before .before .before .before .before .before .gate-at-input .ensures) (c .before .before .before .before .before .kind-of-gate .ensures) (c .before .before .before .before .is-pure .ensures) _ (c .before .before .before .if1 .taken) (c .before .is-clean .ensures) (c .if2 .left)
+returns-2 c = reader-stale _ _ _ _ _ _ _ (c .before .before .before .before .before .before .gate-at-input .ensures) (c .before .before .before .before .before .kind-of-gate .ensures) (c .before .before .before .before .is-pure .ensures) _ (c .before .before .before .if1 .taken) (c .before .is-clean .ensures) (c .if2 .left)
 
 same-length-3 : tie.Need-same-length-3
 same-length-3 c = search needs
 
 returns-3 : tie.Need-returns-3
-returns-3 c = reader-watched _ _ _ _ _ _ _ _ (c .before .before .before .before .before .before .before .before .before .gate-at-input .ensures) (c .before .before .before .before .before .before .before .before .kind-of-gate .ensures) (c .before .before .before .before .before .before .before .is-pure .ensures) _ _ (c .before .before .before .before .before .before .if1 .left) (c .before .before .before .before .before .watching .ensures) (c .before .before .before .before .if3 .taken) (c .before .before .watch-for .ensures)
+returns-3 c = reader-watched _ _ _ _ _ _ _ (c .before .before .before .before .before .before .before .before .before .gate-at-input .ensures) (c .before .before .before .before .before .before .before .before .kind-of-gate .ensures) (c .before .before .before .before .before .before .before .is-pure .ensures) _ _ (c .before .before .before .before .before .before .if1 .left) (c .before .before .before .before .before .watching .ensures) (c .before .before .before .before .if3 .taken) (c .before .before .watch-for .ensures)
 
 returns-4 : tie.Need-returns-4
-returns-4 c = reader-not _ _ _ _ _ _ _ _ (c .before .before .before .before .before .gate-at-input .ensures) (c .before .before .before .before .kind-of-gate .ensures) (c .before .before .before .is-pure .ensures) _ (c .before .before .if1 .left) (c .before .watching .ensures) (c .if3 .left)
+returns-4 c = reader-not _ _ _ _ _ _ _ (c .before .before .before .before .before .gate-at-input .ensures) (c .before .before .before .before .kind-of-gate .ensures) (c .before .before .before .is-pure .ensures) _ (c .before .before .if1 .left) (c .before .watching .ensures) (c .if3 .left)
 
 pub mark-reader-spec : {M : Type 1} → statement M
 mark-reader-spec =

@@ -1,16 +1,19 @@
-use Rattle.wires.proofs.Marks.{marked-plainly}
+use Rattle.wires.proofs.Marks.{marked-for, marked-plainly}
 use borrow.Author.Needs.{needs}
 use Rattle.wires.proofs.marking.mark_readers.Statement.{statement}
 use Rattle.wires.proofs.marking.mark_readers.Tie as tie
 
-mark-readers-for-requires : tie.Need-mark-readers-for-requires
-mark-readers-for-requires c κs = search needs
+set-marking-requires : tie.Need-set-marking-requires
+set-marking-requires c κs = search needs
+
+mark-from-requires : tie.Need-mark-from-requires
+mark-from-requires c κs = search needs
 
 same-length : tie.Need-same-length
 same-length c = search needs
 
 returns : tie.Need-returns
-returns c = marked-plainly _ _ _ _ (c .before .before .mark-readers-for .ensures)
+returns c = marked-plainly _ _ _ _ (marked-for _ _ _ _ _ _ (c .before .before .before .before .before .before .set-marking .ensures) (c .before .before .mark-from .ensures))
 
 pub mark-readers-spec : {M : Type 1} → statement M
-mark-readers-spec = tie.close (tie.spec mark-readers-for-requires same-length returns)
+mark-readers-spec = tie.close (tie.spec set-marking-requires mark-from-requires same-length returns)

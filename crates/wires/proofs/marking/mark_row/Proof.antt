@@ -13,10 +13,10 @@ use Rattle.wires.proofs.marking.mark_row.Statement.{statement}
 use Rattle.wires.proofs.marking.mark_row.Tie as tie
 
 abbrev Inv-loop : tie.InvT-loop
-Inv-loop links values₀ n o late first count h₀ k₀ values h k = (length values ≡ length values₀) × (k ≤ count) × (to-do (marking (net links) values h late .marking) ≤ 65) × (left-of (mark-at links) (marking (net links) values h late) first count k ≡ with-marking (marking (net links) values₀ n late) (each (mark-one (net links)) (marking (net links) values₀ n late .marking) (readers-of (net links) o)))
+Inv-loop links values₀ n o first count h₀ k₀ values h k = (length values ≡ length values₀) × (k ≤ count) × (to-do (marking (net links) values h .marking) ≤ 65) × (left-of (mark-at links) (marking (net links) values h) first count k ≡ with-marking (marking (net links) values₀ n) (each (mark-one (net links)) (marking (net links) values₀ n .marking) (readers-of (net links) o)))
 
 abbrev μ-loop : tie.MeasureT-loop
-μ-loop links values₀ n o late first count h₀ k₀ values h k = count - k
+μ-loop links values₀ n o first count h₀ k₀ values h k = count - k
 
 first-reader-requires : tie.Need-first-reader-requires Inv-loop μ-loop
 first-reader-requires c κs = search needs

@@ -9,10 +9,10 @@ use Rattle.wires.proofs.start.clear.Statement.{statement}
 use Rattle.wires.proofs.start.clear.Tie as tie
 
 abbrev Inv-loop : tie.InvT-loop
-Inv-loop links values₀ k₀ values k = (length values ≡ length values₀) × (k ≤ 5461) × (words values ≡ zeros k ++ drop k (words values₀)) × (tail values ≡ tail values₀)
+Inv-loop links values₀ k₀ values k = (length values ≡ length values₀) × (k ≤ 5462) × (words values ≡ zeros k ++ drop k (words values₀)) × (tail values ≡ tail values₀)
 
 abbrev μ-loop : tie.MeasureT-loop
-μ-loop links values₀ k₀ values k = 5461 - k
+μ-loop links values₀ k₀ values k = 5462 - k
 
 loop-holds : tie.Need-loop-holds Inv-loop μ-loop
 loop-holds c = (search needs, search needs, clear-first _, refl)

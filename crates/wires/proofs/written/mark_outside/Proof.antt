@@ -9,9 +9,6 @@ returns c = mark-inside _ _ _ _ (c .if1 .taken)
 gate-at-output-requires : tie.Need-gate-at-output-requires
 gate-at-output-requires c κs = search needs
 
-gates-requires : tie.Need-gates-requires
-gates-requires c κs = search needs
-
 get-requires : tie.Need-get-requires
 get-requires c κs = search needs
 
@@ -25,10 +22,10 @@ same-length : tie.Need-same-length
 same-length c = search needs
 
 returns-2 : tie.Need-returns-2
-returns-2 c = mark-outside-in _ _ _ _ (c .before .before .before .before .before .before .before .gates .ensures) _ _ (c .before .before .before .before .before .before .before .before .before .if1 .left) (c .before .before .before .before .before .before .before .before .gate-at-output .ensures) _ _ (search needs) (c .before .before .before .before .before .before .if2 .taken) (c .before .before .before .before .get .ensures) (c .before .before .put .ensures)
+returns-2 c = mark-outside-in _ _ _ _ _ (c .before .before .before .before .before .before .before .before .if1 .left) (c .before .before .before .before .before .before .before .gate-at-output .ensures) _ _ (search needs) (c .before .before .before .before .before .before .if2 .taken) (c .before .before .before .before .get .ensures) (c .before .before .put .ensures)
 
 returns-3 : tie.Need-returns-3
-returns-3 c = mark-outside-past _ _ _ _ (c .before .gates .ensures) _ _ (c .before .before .before .if1 .left) (c .before .before .gate-at-output .ensures) (c .if2 .left)
+returns-3 c = mark-outside-past _ _ _ _ _ (c .before .before .if1 .left) (c .before .gate-at-output .ensures) (c .if2 .left)
 
 pub mark-outside-spec : {M : Type 1} → statement M
 mark-outside-spec =
@@ -36,7 +33,6 @@ mark-outside-spec =
     (tie.spec
     returns
     gate-at-output-requires
-    gates-requires
     get-requires
     shl-put
     put-requires
