@@ -324,8 +324,8 @@ loop-ran c n g left a b d e counts l r s p z =
 module _ (c : Circuit) (n g first step count left : ℕ) (vs₀ us₀ ds₀ vs us ds : List ℕ) (rest done : ℕ)
     (sl : areas c vs us ds .lists ≡ areas c vs₀ us₀ ds₀ .lists) (sk : areas c vs us ds .kept ≡ areas c vs₀ us₀ ds₀ .kept)
     (inv :
-        looping c n g first step (count - done) done (started (areas c vs us ds) rest)
-        ≡ looping c n g first step count 0 (started (areas c vs₀ us₀ ds₀) left)) where
+    looping c n g first step (count - done) done (started (areas c vs us ds) rest)
+    ≡ looping c n g first step count 0 (started (areas c vs₀ us₀ ds₀) left)) where
   abbrev start : Contents
   start = areas c vs₀ us₀ ds₀
 

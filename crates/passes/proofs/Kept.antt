@@ -10,7 +10,8 @@ use Rattle.lists.specs.declared.Filed.the-variants.{Full}
 use Rattle.model.specs.Base.{if_then_else_}
 use Rattle.model.specs.Circuit.{Circuit}
 use Rattle.model.specs.State.{Act, State}
-use Rattle.model.specs.Chain.{Chained, run-chain}
+use Rattle.model.specs.Chain.{Chained}
+use Rattle.model.specs.Loops.{run-chain}
 use Rattle.model.specs.Unit.{begin, enter}
 use Rattle.units.specs.declared.Place.the-variants.{Late}
 use Rattle.units.specs.View.{Lists}

@@ -12,11 +12,12 @@ use Rattle.schedule.proofs.Members.{all-append}
 use Rattle.model.specs.declared.Value.{Value}
 use Rattle.model.specs.Circuit.{Circuit, gate-at-input}
 use Rattle.model.specs.Script.{Given}
-use Rattle.model.specs.State.{Wires, State, Delay, Act, Send, outs≔, dirty≔, to-check≔, late-checks≔, times≔, last≔, pulses≔, written≔, written-outside≔, unions-passed≔, runs-left≔, wires≔, delays≔, outbox≔, changed≔}
+use Rattle.model.specs.State.{Wires, State, Delay, Act, Send, outs≔, dirty≔, to-check≔, late-checks≔, times≔, last≔, pulses≔, written≔, written-outside≔, unions-passed≔, breaking≔, runs-left≔, wires≔, delays≔, outbox≔, changed≔}
 use Rattle.model.specs.Wires.{show, soil, clean, watch, recompute, refresh-all, ready, mark-readers-for, mark-readers, invalidate, set-out, set-outs}
 use Rattle.model.specs.Delays.{Started}
-use Rattle.model.specs.Exec.{count-changed, Stepped, fires-next, ends, delay≔, set-output, readied, write-once, record-write, exec-Buffer, exec-Stopwatch, exec-Queue, exec-VarGet, exec-VarSet, exec-Branch, exec-Union, exec-Toggle, exec-Cycle, exec-SendEvent, exec-kind, exec-gate}
-use Rattle.model.specs.Chain.{Calls, Chained, run-chain}
+use Rattle.model.specs.Exec.{count-changed, Stepped, fires-next, ends, delay≔, set-output, readied, write-once, record-write, exec-Buffer, exec-Stopwatch, exec-Queue, exec-VarGet, exec-VarSet, exec-Branch, exec-Union, exec-Toggle, exec-Cycle, exec-SendEvent, exec-Break, exec-kind, exec-gate}
+use Rattle.model.specs.Chain.{Calls, Chained}
+use Rattle.model.specs.Loops.{no-unions, unions-of, runs-left-to, break-set, show-loop, run-chain}
 use Rattle.model.specs.Settle.{Settled, calm, raise, taken, none-written, publish-write, publish-writes, pulse, compared, check, check-on, settle}
 use Rattle.model.specs.Opening.{wires-fresh, wires-at-start, start, next-tick, begin-tick, lower, open-tick}
 use Rattle.model.specs.Unit.{World, state≔, raises-in, enter, run-unit, finish-chain}
@@ -24,7 +25,8 @@ use Rattle.model.specs.Closing.{read-outputs, write, close}
 use Rattle.model.specs.Run.{Allowed, opening, body, closing, machine}
 use Rattle.model.proofs.Lists.{all-pass, if-both, each-keeps, map-all}
 use Rattle.model.proofs.Checks.{detect-keeps}
-use Rattle.model.proofs.Walks.{run-chain-keeps, check-on-keeps, Opened-keeps, open-tick-keeps}
+use Rattle.model.proofs.Running.{Steps-keep, run-chain-keeps}
+use Rattle.model.proofs.Walks.{check-on-keeps, Opened-keeps, open-tick-keeps}
 use Rattle.model.proofs.Sized.{refresh-all-keeps, ready-keeps, mark-readers-for-keeps, mark-readers-keeps, set-out-keeps, set-outs-keeps}
 
 -- ---- the number of the tick
@@ -79,6 +81,14 @@ module _ (c : Circuit) (n : ℕ) where
   passed-at : {w : Wires} (x : List Bool) → Wires-at n w → Wires-at n (unions-passed≔ w x)
   unfolding unions-passed≔
   passed-at x z = record { number = z .number }
+
+  runs-at : {w : Wires} (m : ℕ) → Wires-at n w → Wires-at n (runs-left≔ w m)
+  unfolding runs-left≔
+  runs-at m z = record { number = z .number }
+
+  break-at : {w : Wires} (b : Bool) → Wires-at n w → Wires-at n (breaking≔ w b)
+  unfolding breaking≔
+  break-at b z = record { number = z .number }
 
   watch-at : (w : Wires) (i : ℕ) → Wires-at n w → Wires-at n (watch w i)
   unfolding watch
@@ -175,7 +185,7 @@ module _ (c : Circuit) (n : ℕ) where
   SendEvent-at s g z = if-both (State-at n) _ (readied-at g 2 8 z) (outbox-at _ (readied-at g 2 8 z))
 
   exec-kind-at : (inside : Bool) (k : ℕ) (s : State) (g p : ℕ) → State-at n s → Stepped-at (exec-kind c inside k s g p)
-  unfolding exec-kind fires-next ends exec-VarGet exec-Branch exec-Toggle exec-Cycle
+  unfolding exec-kind fires-next ends exec-VarGet exec-Branch exec-Toggle exec-Cycle exec-Break
   exec-kind-at inside k s g p z =
       if-both Stepped-at _ z
       (if-both Stepped-at _ (Buffer-at s g z)
@@ -188,16 +198,31 @@ module _ (c : Circuit) (n : ℕ) where
       (if-both Stepped-at _ (Union-at s g z)
       (if-both Stepped-at _ (set-output-at _ _ z)
       (if-both Stepped-at _ (set-output-at _ _ (readied-at _ _ _ z))
-      (if-both Stepped-at _ (SendEvent-at s g z) z)))))))))))
+      (if-both Stepped-at _ (SendEvent-at s g z) (if-both Stepped-at _ (wires-at z (break-at true (z .wires))) z))))))))))))
 
   exec-gate-at : (inside : Bool) (s : State) (i : ℕ) → State-at n s → Stepped-at (exec-gate c inside s i)
   unfolding exec-gate
   exec-gate-at inside s i z = exec-kind-at inside _ s _ _ z
 
-  -- ---- a chain
+  -- ---- a chain, and the Loops that it runs
+
+  steps-at : Steps-keep c (State-at n)
+  unfolding no-unions unions-of runs-left-to break-set show-loop
+  steps-at =
+      record {
+        step = λ inside m s i z. exec-gate-at inside s i z;
+        loop-step = λ m s z. z;
+        inputs-read = λ m s g z. readied-at g 1 3 z;
+        broken = λ m s b z. wires-at z (break-at b (z .wires));
+        counted = λ m s k z. wires-at z (runs-at k (z .wires));
+        index-shown = λ m s g i k z. set-output-at _ _ z;
+        body-entered = λ m s z. wires-at z (passed-at _ (z .wires));
+        body-left = λ m k s t z y. wires-at y (passed-at _ (y .wires));
+        loop-shown = λ m s g done aborted k z. set-output-at _ _ (set-output-at _ _ (set-output-at _ _ z));
+      }
 
   run-chain-at : (left : ℕ) (q : Calls) (s : State) → State-at n s → State-at n (run-chain c left q s .state)
-  run-chain-at = run-chain-keeps c (State-at n) exec-gate-at
+  run-chain-at = run-chain-keeps c (State-at n) steps-at
 
   -- ---- settling
 
@@ -226,19 +251,19 @@ module _ (c : Circuit) (n : ℕ) where
   unfolding pulse
   pulse-at {w} o z = pulses-at _ (set-out-at w o _ z)
 
-  check-at : (s : State) (i : ℕ) → State-at n s → Settled-at (check c s i)
+  check-at : (when : When) (s : State) (i : ℕ) → State-at n s → Settled-at (check c when s i)
   unfolding check compared wires≔
-  check-at s i z =
+  check-at when s i z =
       let y = wires-at (wires-at z (ready-at (s .wires) i (z .wires))) (last-at _ (ready-at (s .wires) i (z .wires))) in
       if-both Settled-at _ (calm-at y)
       (detect-keeps c Settled-at _ (gate-at-input c i) (calm-at y) (λ when form. raise-at when _ form y)
-      (λ o k e u l. calm-at (wires-at y (pulse-at _ (y .wires)))) (λ d b. calm-at (count-at b (delay-at _ d y))) _ _ _)
+      (λ o k e u l. calm-at (wires-at y (pulse-at _ (y .wires)))) (λ d b. calm-at (count-at b (delay-at _ d y))) when _ _ _)
 
   check-on-at : (m : ℕ) (z : Settled) → Settled-at z → Settled-at (check-on c m z)
   unfolding taken
   check-on-at =
       check-on-keeps c Settled-at λ z i is e y.
-      let x = check-at _ i (wires-at (y .state) (late-at _ _ (to-check-at _ _ (y .state .wires)))) in
+      let x = check-at _ _ i (wires-at (y .state) (late-at _ _ (to-check-at _ _ (y .state .wires)))) in
       record { state = x .state; raises = all-append (y .raises) (x .raises) }
 
   settle-at : (s : State) → State-at n s → Settled-at (settle c s)

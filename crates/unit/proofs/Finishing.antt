@@ -11,7 +11,8 @@ use Rattle.model.specs.Base.{if_then_else_}
 use Rattle.model.specs.Circuit.{Circuit, output}
 use Rattle.model.specs.State.{Act, State, wires≔}
 use Rattle.model.specs.Wires.{set-outs}
-use Rattle.model.specs.Chain.{no-calls, Chained, run-chain}
+use Rattle.model.specs.Chain.{no-calls, Chained}
+use Rattle.model.specs.Loops.{run-chain}
 use Rattle.model.specs.Settle.{publish-writes, settle}
 use Rattle.model.specs.Unit.{begin, enter}
 use Rattle.wires.specs.View.{Values, with-wires, values}

@@ -10,7 +10,8 @@ use Rattle.schedule.specs.Schedule.{list-full}
 use Rattle.model.specs.Base.{if_then_else_}
 use Rattle.model.specs.Circuit.{Circuit, calls-of}
 use Rattle.model.specs.State.{Act, Send, State, wires≔}
-use Rattle.model.specs.Chain.{no-calls, Chained, run-chain}
+use Rattle.model.specs.Chain.{no-calls, Chained}
+use Rattle.model.specs.Loops.{run-chain}
 use Rattle.model.specs.Settle.{publish-writes, settle}
 use Rattle.model.specs.Unit.{begin, enter}
 use Rattle.units.specs.declared.Place.{Place}
