@@ -89,12 +89,9 @@ fn write_gates(
         let kind = word(circuit, kinds + g);
         let place = word(circuit, kinds + n + g);
         let entry = at(entries, g);
-        let gate = pack(
-            kind + BODY * (place / RANKS),
-            place % RANKS,
-            inputs + ENTRY * entry,
-            outputs,
-        );
+        let kind_and_body = kind + BODY * (place / RANKS);
+        let input_and_entry = inputs + ENTRY * entry;
+        let gate = pack(kind_and_body, place % RANKS, input_and_entry, outputs);
         put(cells, base + g, gate);
         inputs += inputs_of(circuit, kinds, g);
         outputs += outputs_of(circuit, kinds, g);

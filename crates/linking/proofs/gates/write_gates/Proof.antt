@@ -43,17 +43,17 @@ word-requires-2 c κs = search needs
 at-requires : tie.Need-at-requires Inv-loop μ-loop
 at-requires c κs = search needs
 
-mul-pack : tie.Need-mul-pack Inv-loop μ-loop
-mul-pack c = let p = word-small (words (c .before .before .before .before .before .before .before .before .args .circuit .now)) (c .before .before .before .before .before .before .before .before .args .kinds + c .before .before .before .before .before .before .before .before .args .n) _ _ _ _ (c .before .before .before .before .before .before .before .before .pre .1 .1 .1 .1 .1) (c .before .before .before .loop-test .taken) (c .before .word2 .ensures) in omega arith
+mul-kind-and-body : tie.Need-mul-kind-and-body Inv-loop μ-loop
+mul-kind-and-body c = let p = word-small (words (c .before .before .before .before .before .before .before .before .args .circuit .now)) (c .before .before .before .before .before .before .before .before .args .kinds + c .before .before .before .before .before .before .before .before .args .n) _ _ _ _ (c .before .before .before .before .before .before .before .before .pre .1 .1 .1 .1 .1) (c .before .before .before .loop-test .taken) (c .before .word2 .ensures) in omega arith
 
-add-pack : tie.Need-add-pack Inv-loop μ-loop
-add-pack c = let p = word-small (words (c .before .before .before .before .before .before .before .before .args .circuit .now)) (c .before .before .before .before .before .before .before .before .args .kinds + c .before .before .before .before .before .before .before .before .args .n) _ _ _ _ (c .before .before .before .before .before .before .before .before .pre .1 .1 .1 .1 .1) (c .before .before .before .loop-test .taken) (c .before .word2 .ensures) in let k = word-small (words (c .before .before .before .before .before .before .before .before .args .circuit .now)) (c .before .before .before .before .before .before .before .before .args .kinds) _ _ _ _ (c .before .before .before .before .before .before .before .before .pre .1 .1 .1 .1 .0) (c .before .before .before .loop-test .taken) (c .before .before .word .ensures) in omega arith
+add-kind-and-body : tie.Need-add-kind-and-body Inv-loop μ-loop
+add-kind-and-body c = let p = word-small (words (c .before .before .before .before .before .before .before .before .args .circuit .now)) (c .before .before .before .before .before .before .before .before .args .kinds + c .before .before .before .before .before .before .before .before .args .n) _ _ _ _ (c .before .before .before .before .before .before .before .before .pre .1 .1 .1 .1 .1) (c .before .before .before .loop-test .taken) (c .before .word2 .ensures) in let k = word-small (words (c .before .before .before .before .before .before .before .before .args .circuit .now)) (c .before .before .before .before .before .before .before .before .args .kinds) _ _ _ _ (c .before .before .before .before .before .before .before .before .pre .1 .1 .1 .1 .0) (c .before .before .before .loop-test .taken) (c .before .before .word .ensures) in omega arith
 
-mul-pack-2 : tie.Need-mul-pack-2 Inv-loop μ-loop
-mul-pack-2 c = let e = entry-small (c .before .before .before .before .before .before .before .before .args .entries .now) _ _ _ (c .before .before .before .before .before .before .before .before .pre .1 .1 .0) (c .before .before .before .loop-test .taken) (c .at .ensures) in omega arith
+mul-input-and-entry : tie.Need-mul-input-and-entry Inv-loop μ-loop
+mul-input-and-entry c = let e = entry-small (c .before .before .before .before .before .before .before .before .args .entries .now) _ _ _ (c .before .before .before .before .before .before .before .before .pre .1 .1 .0) (c .before .before .before .loop-test .taken) (c .at .ensures) in omega arith
 
-add-pack-2 : tie.Need-add-pack-2 Inv-loop μ-loop
-add-pack-2 c = let e = entry-small (c .before .before .before .before .before .before .before .before .args .entries .now) _ _ _ (c .before .before .before .before .before .before .before .before .pre .1 .1 .0) (c .before .before .before .loop-test .taken) (c .at .ensures) in let a = ins-below _ _ _ _ (c .before .before .before .before .loop .inv .2) in omega arith
+add-input-and-entry : tie.Need-add-input-and-entry Inv-loop μ-loop
+add-input-and-entry c = let e = entry-small (c .before .before .before .before .before .before .before .before .args .entries .now) _ _ _ (c .before .before .before .before .before .before .before .before .pre .1 .1 .0) (c .before .before .before .loop-test .taken) (c .at .ensures) in let a = ins-below _ _ _ _ (c .before .before .before .before .loop .inv .2) in omega arith
 
 pack-requires : tie.Need-pack-requires Inv-loop μ-loop
 pack-requires c κs =
@@ -123,10 +123,10 @@ write-gates-spec =
     add-word-3
     word-requires-2
     at-requires
-    mul-pack
-    add-pack
-    mul-pack-2
-    add-pack-2
+    mul-kind-and-body
+    add-kind-and-body
+    mul-input-and-entry
+    add-input-and-entry
     pack-requires
     add-put
     put-requires
