@@ -7,7 +7,7 @@ use lib.Dec.{eqb}
 use lib.ListN.{length}
 use Rattle.model.specs.Base.{all, among}
 use Rattle.model.specs.Kinds.{pure, time-source, receiving}
-use Rattle.model.specs.Circuit.{Circuit, kind-of-gate, output, inputs-of, gate-at-input, source, stored-in, gate-at-output, readers-of}
+use Rattle.model.specs.Circuit.{Circuit, kind-of-gate, entry-of-loop, output, inputs-of, gate-at-input, source, stored-in, gate-at-output, readers-of}
 use Rattle.model.specs.Exec.{var}
 use Rattle.model.proofs.Laid.{Laid}
 use Rattle.model.proofs.Placing.{Heights}
@@ -35,5 +35,7 @@ pub record Wired (c : Circuit) : Type 0 where
   pub receivers : all (λ g. receiving (kind-of-gate c g)) (c .receivers) ≡ true
   -- what a VarSet writes is no output of a pure gate
   pub var-other : (g : ℕ) → eqb (kind-of-gate c g) 19 ≡ true → pure (kind-of-gate c (gate-at-output c (var c g))) ≡ false
+  -- nor is the Index of a Loop's entry
+  pub entry-other : (g : ℕ) → eqb (kind-of-gate c g) 29 ≡ true → pure (kind-of-gate c (gate-at-output c (output c (entry-of-loop c g) 1))) ≡ false
   -- no stored value is a NaN
   pub stored : (i : ℕ) → Real (stored-in c i)
