@@ -3,7 +3,7 @@
 use std::path::Path;
 
 use oracle::circuits::{Case, all};
-use oracle::generate::{FAMILIES, damaged, valid};
+use oracle::generate::{damaged, damaged_loops, families, valid};
 
 /// The stated circuit of this name.
 pub fn stated(name: &str) -> Option<Case> {
@@ -13,10 +13,12 @@ pub fn stated(name: &str) -> Option<Case> {
 /// The case of a family, or a damaged one, and a seed.
 pub fn generated(family: &str, seed: &str) -> Option<Case> {
     let seed = seed.parse().ok()?;
-    if family == "damaged" {
-        return Some(damaged(seed).case);
+    match family {
+        "damaged" => return Some(damaged(seed).case),
+        "damaged-loops" => return Some(damaged_loops(seed).case),
+        _ => {}
     }
-    let family = FAMILIES.into_iter().find(|f| f.name() == family)?;
+    let family = families(true).find(|f| f.name() == family)?;
     Some(valid(seed, family))
 }
 

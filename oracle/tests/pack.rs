@@ -2,6 +2,8 @@
 //! `oracle pack` writes and prints now, and what is packed can be read back.
 
 use oracle::circuits::{self, Case};
+use oracle::generate::ASKED;
+use oracle::kinds::LOOPS_OPEN;
 use oracle::pack::{cases, pack, printed};
 use oracle::questions::ask;
 use oracle::runs;
@@ -49,7 +51,7 @@ fn every_case_can_be_read_back() {
     let mut rest = &packed[..];
     let cases = cases();
     assert_eq!(number(&mut rest), cases.len());
-    let (mut checked, mut refused) = ([0; 11], [0; 11]);
+    let (mut checked, mut refused) = ([0; 20], [0; 20]);
     for case in &cases {
         checked[number(&mut rest)] += 1;
         refused[number(&mut rest)] += 1;
@@ -60,7 +62,8 @@ fn every_case_can_be_read_back() {
         assert!(circuit.len() <= ROOM && script.len() <= ROOM, "{}", case.name);
     }
     assert!(rest.is_empty());
-    assert!(refused.iter().all(|&n| n > 20), "{refused:?}");
+    let mut numbers = ASKED.iter().filter(|&&question| LOOPS_OPEN || question != 19);
+    assert!(numbers.all(|&n| refused[n as usize] > 20), "{refused:?}");
     assert!(refused[0] > cases.len() / 2, "more that are not refused");
     assert!(checked[0] > refused[0], "some are refused by their areas alone");
 }
