@@ -6,6 +6,7 @@ mod reading;
 use oracle::generate::{
     ASKED, Damaged, FAMILIES, Family, Random, WITH_LOOPS, damaged_loops, damaged_with, valid,
 };
+use oracle::kinds::LOOPS_OPEN;
 use oracle::{Answer, check, check_with, run_with};
 
 #[test]
@@ -102,8 +103,9 @@ fn the_families_reach_what_they_are_about() {
         carried > 1000 && stopped > 50 && late > 10_000 && main > 5_000,
         "{carried} {stopped} {late} {main}"
     );
-    // Every form of a unit that document 01 has: kinds 6, 9, 11, 13 to 28.
-    assert_eq!(begun.len(), 1 + 2 + 2 + 1 + (1 + 3) + 2 * 2 + 5 + 2 + 2 + 2 + 1, "{begun:?}");
+    // Every form of a unit that document 01 has: kinds 6, 9, 11, 13 to 28; and of document 02 kinds 29 and 31.
+    let of_loops = if LOOPS_OPEN { 2 } else { 0 };
+    assert_eq!(begun.len(), 1 + 2 + 2 + 1 + (1 + 3) + 2 * 2 + 5 + 2 + 2 + 2 + 1 + of_loops, "{begun:?}");
 }
 
 #[test]

@@ -30,6 +30,11 @@ pub(super) fn draft(seed: u64, family: Family) -> (Circuit, Script) {
         }
     }
     calls(&mut r, &p, &mut c, &gates);
+    if family == Family::PutOff {
+        for _ in 0..r.between((1, 2)) {
+            watch_a_body(&mut r, &p, &mut c, &gates);
+        }
+    }
     let s = script(&mut r, &p, &mut c, &gates);
     (c, s)
 }
@@ -176,6 +181,38 @@ fn calls(r: &mut Random, p: &Profile, c: &mut Circuit, gates: &[Gate]) {
     for (from, to) in made.into_iter().take(200) {
         if r.chance(p.remote) { c.remote(from, to) } else { c.call(from, to) }
     }
+}
+
+/// A Clock that enters a Loop, whose body writes a Var, and what watches that,
+/// directly and behind a Select over another Var; before or after the Loop the
+/// Clock may write one of them too.
+fn watch_a_body(r: &mut Random, p: &Profile, c: &mut Circuit, gates: &[Gate]) {
+    let loops: Vec<Gate> = of_kind(gates, LOOP).into_iter().filter(|&g| body(c, g) == 0).collect();
+    let of = r.pick(&loops);
+    let entries = of_kind(gates, ENTRY);
+    let entry = entries.into_iter().find(|&g| body(c, g) == 1 + of.number).expect("an entry for each Loop");
+    let clock = c.clock(r.pick(&p.ranks), r.pick(&[0.25, 0.25, 0.5]));
+    let vars = [c.var(0), c.var(1)];
+    let count = c.cycle(0, 5);
+    let inside = c.var_set(0, vars[0], if r.chance(50) { count } else { entry });
+    c.put_inside(of, &[count, inside]);
+    c.call_all(entry, &[count, inside]);
+    let outside = c.var_set(0, vars[usize::from(r.chance(70))], count);
+    let either = c.select(vars[1], vars[0], vars[usize::from(r.chance(50))]);
+    for _ in 0..r.between((2, 4)) {
+        let seen = r.pick(&[vars[0], vars[0], either]);
+        let rank = r.pick(&p.ranks);
+        match r.below(5) {
+            0 | 1 => c.change_detector(rank, seen),
+            2 => c.edge_exec(rank, seen),
+            _ => {
+                let pin = c.toggle(rank);
+                c.feed(pin.entry(), seen);
+                pin
+            }
+        };
+    }
+    c.call_all(clock, r.pick(&[&[of][..], &[of, outside], &[outside, of], &[of]]));
 }
 
 /// Gates that a body is rather made of.

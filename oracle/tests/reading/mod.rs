@@ -73,6 +73,19 @@ pub fn of_log(case: &Case, log: Vec<i64>, stop: u8, done: u64) -> Played {
     Played { kinds, ranks, ticks, words: log, stop, done }
 }
 
+/// A case's circuit, as it can be built on, and its gates.
+pub fn circuit_of(case: &Case) -> (build::Circuit, Vec<build::Gate>) {
+    let words = words_of(&case.circuit);
+    let &[gates, constants, inputs, calls, ref rest @ ..] = &words[..] else { panic!("four sizes") };
+    let mut rest = rest;
+    let mut c = build::Circuit::new();
+    c.constants = pairs(&mut rest, constants as usize);
+    let gates = pairs(&mut rest, gates as usize).into_iter().map(|(kind, rank)| c.gate(kind, rank)).collect();
+    c.inputs = pairs(&mut rest, inputs as usize);
+    c.calls = pairs(&mut rest, calls as usize);
+    (c, gates)
+}
+
 /// The distances in ticks between one stimulus of a gate and the next, among
 /// those that give a constant as wanted.
 pub fn gaps(case: &Case, wanted: impl Fn(i64, i64) -> bool) -> BTreeSet<usize> {
