@@ -347,9 +347,10 @@ fn what_is_put_off() {
     assert_eq!([5, 6].map(|var| p.shown(2, var, 0)), [int(1), int(1)]);
     let p = played("put-off-twice");
     assert_eq!((p.main(2), p.carried(2), p.late(3)), (vec![0, 1], vec![7, 7], vec![7, 7]));
-    // Edge 5, Change 6, buffer 7, EdgeExec 8. The Change and the buffer had a first reading of 0.
+    // Edge 5, Change 6, buffer 7, EdgeExec 8, and 9 watches the Edge's pulse, which goes up before the EdgeExec is
+    // checked. The Change and the buffer had a first reading of 0.
     let p = played("put-off-not-others");
-    assert_eq!((&p.ticks[1].main[..], p.carried(2)), (&[(0, 0), (8, 32)][..], vec![]));
+    assert_eq!((&p.ticks[1].main[..], p.carried(2)), (&[(0, 0), (8, 32), (9, 0)][..], vec![]));
     assert_eq!([1, 2, 3].map(|t| p.shown(t, 5, 0)), [NOTHING, yes(), yes()]);
     assert_eq!([1, 2, 3].map(|t| p.shown(t, 6, 0)), [yes(); 3]);
     assert_eq!([1, 2, 3].map(|t| p.shown(t, 7, 0)), [NOTHING, int(0), int(7)]);
@@ -396,10 +397,10 @@ fn a_mark_is_taken_by_a_check() {
 
 #[test]
 fn marking_behind_pure_gates() {
-    // The watcher is gate 8, or 7 under a Toggle's output.
+    // The watcher is gate 8, and 9 watches the Var written outside; or it is 7 under a Toggle's output.
     let rows = [
-        ("put-off-inside-first", vec![0], vec![8]),
-        ("put-off-outside-first", vec![0, 8], vec![]),
+        ("put-off-inside-first", vec![0, 9], vec![8]),
+        ("put-off-outside-first", vec![0, 9, 8], vec![]),
         ("put-off-hidden", vec![0, 7], vec![]),
         ("put-off-where-it-waits", vec![0], vec![7]),
         ("put-off-read-before", vec![0], vec![7]),
@@ -472,7 +473,7 @@ fn questions() {
         }
         asked[question as usize][usize::from(yes)] += 1;
     }
-    assert_eq!([3, 4, 5, 19].map(|n| asked[n]), [[11, 3], [16, 1], [9, 2], [36, 7]]);
+    assert_eq!([3, 4, 5, 19].map(|n| asked[n]), [[11, 3], [16, 1], [10, 2], [36, 7]]);
 }
 
 /// 31 Loops in one another, each with one run: the steps are as many.

@@ -115,12 +115,13 @@ fn others() -> Case {
     let mut c = Circuit::new();
     let clock = c.clock(5, 0.25);
     let Inside { var, repeat, .. } = inside(&mut c);
-    c.edge(var);
+    let pulse = c.edge(var);
     c.change(var);
     c.buffer_ticks(var, 1, NOTHING);
     c.edge_exec(9, var);
+    c.change_detector(9, pulse);
     c.call(clock, repeat);
-    let shows = "Not put off: the pulses of Edge and Change, what a buffer launches, an EdgeExec.";
+    let shows = "Not put off: the pulses of Edge and Change and who watches them, what a buffer launches, an EdgeExec.";
     played("put-off-not-others", shows, &c).tells(&[70])
 }
 
@@ -228,7 +229,8 @@ fn mark_is_taken() -> Case {
     Case::new("put-off-mark-taken", shows, &c, &s).tells(&[71])
 }
 
-/// A Select over `a`, written inside, and `b`, written outside, and its watcher.
+/// A Select over `a`, written inside, and `b`, written outside, and its watcher;
+/// then a watcher of `b` itself.
 fn behind_a_select(c: &mut Circuit) -> [Gate; 3] {
     let clock = c.clock(5, 0.25);
     let Inside { var: a, repeat, .. } = inside(c);
@@ -236,6 +238,7 @@ fn behind_a_select(c: &mut Circuit) -> [Gate; 3] {
     let set_b = c.var_set(0, b, 8);
     let both = c.select(a, 1, b);
     c.change_detector(9, both);
+    c.change_detector(9, b);
     [clock, repeat, set_b]
 }
 

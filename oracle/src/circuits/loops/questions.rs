@@ -338,6 +338,10 @@ fn pairs() -> Vec<Case> {
             astray(d);
             d.c.calls.push((-1, 0));
         }),
+        no(5, "and a Loop without an entry", |d| {
+            d.c.repeat(0, 1, 0, 1);
+            d.c.calls.push((-1, 0));
+        }),
         no(19, "and 6", move |d| {
             astray(d);
             d.c.feed(d.reroute.pin("RER_Input"), d.reroute);
