@@ -205,10 +205,10 @@ fn ranks_do_not_have_their_bodies() {
 
 #[test]
 fn a_break_ends_its_loop_after_the_run() {
-    // The Loop; the Break, x, y, the Break, x.
+    // The Loop; the Break, x, y, the Break, x; and behind Completed the last Toggle.
     let p = played("break-goes-on");
-    assert_eq!((loop_shows(&p, 1, 1), p.shown(1, 2, 1), p.ticks[0].steps), (ran(1), int(0), 6));
-    assert_eq!((p.shown(1, 4, 1), p.shown(1, 5, 1)), (no(), yes()));
+    assert_eq!((loop_shows(&p, 1, 1), p.shown(1, 2, 1), p.ticks[0].steps), (ran(1), int(0), 1 + 5 + 1));
+    assert_eq!([4, 5, 6].map(|toggle| p.shown(1, toggle, 1)), [no(), yes(), yes()]);
     // Runs of the outer Loop and of the inner one, what was counted, and steps.
     let rows = [
         ("break-inner", 2, 1, int(2), 1 + 2 * 3),
@@ -257,6 +257,10 @@ fn unions_in_bodies() {
     let p = played("union-as-a-unit");
     assert_eq!(p.ticks[0].late, [(0, 2), (1, 2), (1, 2), (4, 16), (4, 16)]);
     assert_eq!((p.shown(1, 5, 2), p.ticks[0].steps), (int(4), 7 + 2 + 1));
+    // The Union with its Cycle, the Loop, three times both, three forks that the Union blocks.
+    let p = played("union-after-a-unit");
+    assert_eq!(p.ticks[0].late, [(1, 2), (4, 16), (0, 2)]);
+    assert_eq!((p.shown(1, 5, 2), p.ticks[0].steps), (int(4), 2 + 1 + 6 + 3));
 }
 
 #[test]
@@ -283,8 +287,8 @@ fn one_chain_stack() {
     assert_eq!((p.stop, p.ticks[0].steps), (0, 40 + 40 + 1 + 1 + 6 + 50 + 200));
     assert_eq!(played("loop-stack-nested-257").words, [1, 40 + 40 + 1 + 1, 1, 0, 0, 12, 0, 0, 2]);
     let p = played("loop-forks-256");
-    assert_eq!((p.stop, p.ticks[0].steps, loop_shows(&p, 1, 1)), (0, 1 + 256, ran(256)));
-    assert_eq!(played("loop-forks-257").words, [1, 1, 1, 0, 0, 12, 0, 0, 2]);
+    assert_eq!((p.stop, p.ticks[0].steps, loop_shows(&p, 1, 1)), (0, 1 + 256 + 256, ran(256)));
+    assert_eq!(played("loop-forks-257").words, [1, 1 + 256, 1, 0, 0, 12, 0, 0, 2]);
     let p = played("loop-fires-32");
     assert_eq!((p.stop, p.ticks[0].steps), (0, 1 + 32));
     assert_eq!(played("loop-fires-33").words, [1, 1 + 33, 1, 0, 0, 12, 0, 0, 2]);
@@ -393,6 +397,9 @@ fn a_mark_is_taken_by_a_check() {
     assert_eq!((p.main(2), &p.ticks[1].carried[..]), (vec![0], &[(7, 0)][..]));
     assert_eq!((p.late(3), &p.ticks[2].main[..]), (vec![7], &[(0, 0), (1, 0), (7, 0), (8, 16)][..]));
     assert_eq!(p.carried(3), []);
+    // The same gates: 4 becomes 0, which puts off 7 alone, then 5.
+    let p = played("put-off-false-pin");
+    assert_eq!((&p.ticks[1].main[..], p.carried(2)), (&[(0, 0), (1, 0), (7, 0), (8, 16)][..], vec![7]));
 }
 
 #[test]

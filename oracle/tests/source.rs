@@ -96,8 +96,8 @@ const STAND_INS: [(&str, &str, &str); 10] = [
     ("truthy", "v => semantics::truthy(v),", "v => semantics::truthy(v.to_semantic().as_ref()),"),
 ];
 
-/// What the other added lines do: record, test a limit of document 01, or look
-/// without a trace.
+/// What the other added lines do: record, test a limit of document 01, say that
+/// no way leads there, or look without a trace.
 const RECORDS: [&str; 4] = ["self.tally.", "self.begin(", "self.within_limits()", "self.look_on()"];
 
 const MARK: &str = "// oracle:";

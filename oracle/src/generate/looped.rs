@@ -30,11 +30,19 @@ pub(super) fn draft(seed: u64, family: Family) -> (Circuit, Script) {
         }
     }
     calls(&mut r, &p, &mut c, &gates);
-    if family == Family::PutOff {
-        for _ in 0..r.between((1, 2)) {
-            watch_a_body(&mut r, &p, &mut c, &gates);
+    match family {
+        Family::PutOff => {
+            for _ in 0..r.between((1, 2)) {
+                watch_a_body(&mut r, &p, &mut c, &gates);
+            }
+        }
+        _ => {
+            for of in of_kind(&gates, LOOP) {
+                break_and_unite(&mut r, &p, &mut c, &gates, of);
+            }
         }
     }
+    r.shuffle(&mut c.calls);
     let s = script(&mut r, &p, &mut c, &gates);
     (c, s)
 }
@@ -183,14 +191,49 @@ fn calls(r: &mut Random, p: &Profile, c: &mut Circuit, gates: &[Gate]) {
     }
 }
 
+fn entry_of(c: &Circuit, gates: &[Gate], of: Gate) -> Gate {
+    let entries = of_kind(gates, ENTRY);
+    entries.into_iter().find(|&g| body(c, g) == 1 + of.number).expect("an entry for each Loop")
+}
+
+/// In the body of a Loop, perhaps a Break in its second, third or fourth run, and
+/// perhaps a Union that is called twice, remotely or not, and may be a unit.
+fn break_and_unite(r: &mut Random, p: &Profile, c: &mut Circuit, gates: &[Gate], of: Gate) {
+    let entry = entry_of(c, gates, of);
+    let near: Vec<Gate> = gates.iter().copied().filter(|&g| body(c, g) == 1 + of.number).collect();
+    if r.chance(60) {
+        let count = c.cycle(0, r.between((2, 4)) as i64);
+        let more = c.branch(0, count);
+        let enough = c.break_out(r.pick(&p.ranks));
+        c.put_inside(of, &[count, more, enough]);
+        c.chain(&[entry, count, more]);
+        c.call(more.out("ExecOutB"), enough);
+        let next = r.pick(&near);
+        if !begins(next) && next.kind != LOOP {
+            c.call(enough, next);
+        }
+    }
+    if r.chance(60) {
+        let once = c.union(r.pick(&p.ranks));
+        let count = c.cycle(0, 1_000);
+        c.put_inside(of, &[once, count]);
+        for _ in 0..2 {
+            if r.chance(30) { c.remote(entry, once) } else { c.call(entry, once) }
+        }
+        c.call(once, count);
+        if r.chance(40) {
+            c.feed(once.entry(), of_kind(gates, WORLD_EVENT)[0]);
+        }
+    }
+}
+
 /// A Clock that enters a Loop, whose body writes a Var, and what watches that,
 /// directly and behind a Select over another Var; before or after the Loop the
 /// Clock may write one of them too.
 fn watch_a_body(r: &mut Random, p: &Profile, c: &mut Circuit, gates: &[Gate]) {
     let loops: Vec<Gate> = of_kind(gates, LOOP).into_iter().filter(|&g| body(c, g) == 0).collect();
     let of = r.pick(&loops);
-    let entries = of_kind(gates, ENTRY);
-    let entry = entries.into_iter().find(|&g| body(c, g) == 1 + of.number).expect("an entry for each Loop");
+    let entry = entry_of(c, gates, of);
     let clock = c.clock(r.pick(&p.ranks), r.pick(&[0.25, 0.25, 0.5]));
     let vars = [c.var(0), c.var(1)];
     let count = c.cycle(0, 5);

@@ -32,11 +32,12 @@ fn goes_on() -> Case {
     let (repeat, body) = repeat(&mut c, 5);
     let enough = c.break_out(0);
     let (x, y) = (c.toggle(0), c.toggle(0));
+    let after = c.toggle(0);
     c.put_inside(repeat, &[enough, x, y]);
-    c.call(world, repeat);
+    c.chain(&[world, repeat, after]);
     c.call_all(body, &[enough, y, enough]);
     c.call(enough, x);
-    let shows = "After a Break the run goes on, first with the Break's ExecOut; it counts, and is the last.";
+    let shows = "After a Break the run goes on, first with the Break's ExecOut; it counts, and is the last; Completed is fired.";
     fired("break-goes-on", shows, &c, world)
 }
 

@@ -5,7 +5,8 @@ use super::{place, repeat};
 use crate::build::{Circuit, Gate, NOTHING, Script};
 
 pub fn cases() -> Vec<Case> {
-    let mut cases = vec![union_in_a_body(), union_around(), union_in_forks(), union_as_a_unit()];
+    let mut cases = vec![union_in_a_body(), union_around(), union_in_forks()];
+    cases.extend([union_as_a_unit(), union_after_a_unit()]);
     cases.extend([fork_order(), forks_see_the_last_index(), forks_of_nested_bodies()]);
     cases.extend([0, 1].map(stack));
     cases.extend([0, 1].map(stack_of_nested_bodies));
@@ -97,6 +98,26 @@ fn union_as_a_unit() -> Case {
     s.tick(0.25).fire(world).give(other, one).give(other, two);
     let shows = "A Union of a body that begins as a unit, twice, passes once a tick, beside the runs: 3 + 1.";
     Case::new("union-as-a-unit", shows, &c, &s).tells(&[65])
+}
+
+fn union_after_a_unit() -> Case {
+    let mut c = Circuit::new();
+    let world = c.world_event(2);
+    let other = c.world_event(0);
+    let (repeat, body) = repeat(&mut c, 3);
+    let once = c.union(1);
+    let count = c.cycle(0, 100);
+    c.put_inside(repeat, &[once, count]);
+    c.feed(once.pin("Exec"), other);
+    c.call(world, repeat);
+    c.call(body, once);
+    c.remote(body, once);
+    c.call(once, count);
+    let one = c.constant(1);
+    let mut s = Script::new();
+    s.tick(0.25).fire(world).give(other, one);
+    let shows = "A Union that passed as a unit passes in each run afterwards, but not where forks reach it: 1 + 3.";
+    Case::new("union-after-a-unit", shows, &c, &s).tells(&[65])
 }
 
 /// Places: 1 by a fork of the World event, 2 in the body, 3 after the Loop, 4
@@ -208,10 +229,11 @@ fn forks(past: usize) -> Case {
     let mut c = Circuit::new();
     let world = c.world_event(0);
     let (repeat, body) = repeat(&mut c, 256 + past as i64);
-    let inside = c.toggle(0);
-    c.put_inside(repeat, &[inside]);
+    let (forked, inside) = (c.toggle(0), c.toggle(0));
+    c.put_inside(repeat, &[forked, inside]);
     c.call(world, repeat);
-    c.remote(body, inside);
+    c.remote(body, forked);
+    c.call(body, inside);
     edge("loop-forks", 256, past, "forks, one of each run", &c, world)
 }
 

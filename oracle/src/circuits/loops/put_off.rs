@@ -7,7 +7,7 @@ use crate::build::{Circuit, Gate, NOTHING, Script};
 pub fn cases() -> Vec<Case> {
     let mut cases = vec![main_pass(), late_pass(), by_an_inner_body(), twice(), others()];
     cases.extend([outside_before(), outside_after(), outside_by_a_fork(), outside_by_a_unit()]);
-    cases.extend([inside_then_outside(), outside_then_inside(), mark_is_taken()]);
+    cases.extend([inside_then_outside(), outside_then_inside(), mark_is_taken(), taken_by_a_false_pin()]);
     cases.extend([behind_a_select_inside_first(), behind_a_select_outside_first()]);
     cases.extend([two_selects(), hidden_by_an_output(), waits_already(), read_before_publishing()]);
     cases.extend([outputs_are_not(), a_loop()]);
@@ -227,6 +227,24 @@ fn mark_is_taken() -> Case {
     s.first_checks(1, 0.0).ticks(2, 0.25);
     let shows = "A pin that reads false and an input that has not changed lose their marks: what is written outside later in the tick is not put off.";
     Case::new("put-off-mark-taken", shows, &c, &s).tells(&[71])
+}
+
+/// A body writes 0 over 4; then another unit of the tick writes 5 outside.
+fn taken_by_a_false_pin() -> Case {
+    let mut c = Circuit::new();
+    let clocks = [5, 6].map(|rank| c.clock(rank, 0.25));
+    let var = c.var(4);
+    let (repeat, body) = repeat(&mut c, 1);
+    let clear = c.var_set(0, var, 0);
+    let set = c.var_set(0, var, 5);
+    c.put_inside(repeat, &[clear]);
+    c.change_detector(9, var);
+    pin(&mut c, 9, var);
+    c.call(clocks[0], repeat);
+    c.call(body, clear);
+    c.call(clocks[1], set);
+    let shows = "A pin that reads false loses its mark: written outside in the same tick it is not put off.";
+    played("put-off-false-pin", shows, &c).tells(&[71])
 }
 
 /// A Select over `a`, written inside, and `b`, written outside, and its watcher;
