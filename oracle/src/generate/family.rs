@@ -100,7 +100,9 @@ impl Family {
             Family::Stale => "Pulses through Selects that nothing watches, and chains that read them",
             Family::Narrowed => "Waits and tick lengths that are f32s, and as many that are none",
             Family::Loops => "Loops in one another, with Breaks, Unions and forks in their bodies",
-            Family::PutOff => "Variables written in bodies, and what watches them, directly and behind Selects",
+            Family::PutOff => {
+                "Variables written in bodies, and what watches them, directly and behind Selects"
+            }
         }
     }
 }
@@ -292,7 +294,9 @@ impl Family {
                 calling: 80,
                 remote: 15,
                 lengths: &[0.25, 0.25, 0.5, 0.1],
-                ..of(&[31, 31, 31, 20, 20, 20, 21, 21, 19, 19, 22, 23, 23, 1, 5, 6, 18, 24, 26, 16, 11, 14, 9, 2])
+                ..of(&[
+                    31, 31, 31, 20, 20, 20, 21, 21, 19, 19, 22, 23, 23, 1, 5, 6, 18, 24, 26, 16, 11, 14, 9, 2,
+                ])
             },
             Family::PutOff => Profile {
                 gates: (8, 18),
@@ -302,7 +306,9 @@ impl Family {
                 calling: 60,
                 remote: 10,
                 lengths: &[0.25, 0.25, 0.5],
-                ..of(&[19, 19, 19, 19, 5, 5, 6, 6, 6, 9, 22, 22, 1, 1, 1, 2, 7, 8, 10, 14, 14, 14, 23, 20, 31])
+                ..of(&[
+                    19, 19, 19, 19, 5, 5, 6, 6, 6, 9, 22, 22, 1, 1, 1, 2, 7, 8, 10, 14, 14, 14, 23, 20, 31,
+                ])
             },
         }
     }

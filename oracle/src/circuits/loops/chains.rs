@@ -116,7 +116,8 @@ fn union_after_a_unit() -> Case {
     let one = c.constant(1);
     let mut s = Script::new();
     s.tick(0.25).fire(world).give(other, one);
-    let shows = "A Union that passed as a unit passes in each run afterwards, but not where forks reach it: 1 + 3.";
+    let shows =
+        "A Union that passed as a unit passes in each run afterwards, but not where forks reach it: 1 + 3.";
     Case::new("union-after-a-unit", shows, &c, &s).tells(&[65])
 }
 
