@@ -349,6 +349,9 @@ fn what_is_put_off() {
     assert_eq!((p.main(1), p.main(2)), (vec![9, 10], vec![0]));
     assert_eq!((p.carried(2), p.late(3)), (vec![10, 9], vec![10, 9]));
     assert_eq!([5, 6].map(|var| p.shown(2, var, 0)), [int(1), int(1)]);
+    // Watcher 5 and pin 6; the fork is the Loop, then the VarSet.
+    let p = played("put-off-by-a-forked-loop");
+    assert_eq!((p.main(2), &p.ticks[1].carried[..], p.ticks[1].steps), (vec![0], &[(5, 0), (6, 16)][..], 2));
     let p = played("put-off-twice");
     assert_eq!((p.main(2), p.carried(2), p.late(3)), (vec![0, 1], vec![7, 7], vec![7, 7]));
     // Edge 5, Change 6, buffer 7, EdgeExec 8, and 9 watches the Edge's pulse, which goes up before the EdgeExec is
@@ -456,6 +459,8 @@ fn the_carried_list_is_one() {
         assert_eq!((p.stop, p.done), (stop, if stop == 0 { 2 } else { 1 }), "{name}");
         assert_eq!(p.ticks[1].carried, [&by_rank[..], last].concat(), "{name}");
         assert_eq!((p.main(2), p.ticks[1].steps), (vec![0, 1, 2, 3, 4], 5 + 2), "{name}");
+        // The buffer's first reading; then its last change, unless a full list ends the checks before it.
+        assert_eq!([0, 1].map(|t| p.ticks[t].changed), [1, i64::from(stop == 0)], "{name}");
     }
 }
 

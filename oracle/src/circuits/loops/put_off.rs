@@ -5,7 +5,7 @@ use super::repeat;
 use crate::build::{Circuit, Gate, NOTHING, Script};
 
 pub fn cases() -> Vec<Case> {
-    let mut cases = vec![main_pass(), late_pass(), by_an_inner_body(), twice(), others()];
+    let mut cases = vec![main_pass(), late_pass(), by_an_inner_body(), by_a_fork(), twice(), others()];
     cases.extend([outside_before(), outside_after(), outside_by_a_fork(), outside_by_a_unit()]);
     cases.extend([inside_then_outside(), outside_then_inside(), mark_is_taken(), taken_by_a_false_pin()]);
     cases.extend([behind_a_select_inside_first(), behind_a_select_outside_first()]);
@@ -83,15 +83,26 @@ fn by_an_inner_body() -> Case {
     let (a, b) = (c.var(0), c.var(0));
     let set_a = c.var_set(0, a, in_inner);
     let set_b = c.var_set(0, b, in_outer);
-    c.put_inside(outer, &[inner, set_b]);
-    c.put_inside(inner, &[set_a]);
-    c.change_detector(9, b);
+    let inside = c.change_detector(9, b);
     c.change_detector(9, a);
+    c.put_inside(outer, &[inner, set_b, inside]);
+    c.put_inside(inner, &[a, set_a]);
     c.call(clock, outer);
     c.call_all(in_outer, &[inner, set_b]);
     c.call(in_inner, set_a);
-    let shows = "Written in an inner body and in the outer one: both are put off, by first writes, 10 and 9.";
+    let shows = "Written in an inner body and in the outer one: both are put off, by first writes, 10 and 9, wherever the watchers lie.";
     played("put-off-by-an-inner-body", shows, &c).tells(&[70])
+}
+
+fn by_a_fork() -> Case {
+    let mut c = Circuit::new();
+    let clock = c.clock(5, 0.25);
+    let Inside { var, repeat, .. } = inside(&mut c);
+    c.change_detector(9, var);
+    pin(&mut c, 2, var);
+    c.remote(clock, repeat);
+    let shows = "Written by a Loop that a fork entered, so inside: put off.";
+    played("put-off-by-a-forked-loop", shows, &c).tells(&[69])
 }
 
 fn twice() -> Case {
@@ -362,7 +373,8 @@ fn a_loop() -> Case {
 }
 
 /// Five Clocks flip a Toggle with 51 watchers of ranks 1 to 5: 255 are carried.
-/// The last one also enters a Loop, which puts off as many more as watch.
+/// The last one also enters a Loop, which puts off as many more as watch, and at
+/// last a buffer of 0.1 seconds reads the Var.
 fn full() -> Vec<Case> {
     type Watch = fn(&mut Circuit, Gate) -> Gate;
     let by_change: Watch = |c, var| c.change_detector(9, var);
@@ -399,6 +411,7 @@ fn full() -> Vec<Case> {
         for watch in watch {
             watch(&mut c, var);
         }
+        c.buffer_seconds(var, 0.1, NOTHING);
         for clock in clocks {
             c.call(clock, flipped);
         }
