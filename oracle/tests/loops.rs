@@ -507,6 +507,16 @@ fn every_log_is_made_of_whole_records() {
     }
 }
 
+/// Every circuit that is not about a question stands in this file by name.
+#[test]
+fn every_circuit_is_worked_out() {
+    let text = include_str!("loops.rs");
+    let by_name = |case: &&Case| !case.name.starts_with('q') && !case.name.starts_with("reads-loop-");
+    for case in LOOPS.iter().filter(by_name) {
+        assert!(text.contains(&format!("\"{}\"", case.name)), "{}", case.name);
+    }
+}
+
 #[test]
 fn every_place_of_loops_is_told() {
     for place in circuits::places(false).len() + 1..=circuits::places(true).len() {

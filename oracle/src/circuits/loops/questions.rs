@@ -51,7 +51,7 @@ fn asked(question: u8, answer: &str, what: &str, edit: impl FnOnce(&mut Draft)) 
     edit(&mut d);
     let mut s = Script::new();
     s.tick(0.25).fire(d.world);
-    let dashed = what.to_lowercase().replace(' ', "-");
+    let dashed = what.to_lowercase().replace(' ', "-").replace('\'', "");
     let name = format!("q{question}-{answer}-loops-{dashed}");
     let shows = format!("Question {question}, {answer}: {what}.");
     Case::new(name, shows, &d.c, &s).tells(if question == 19 { &[74] } else { &[] })
@@ -321,52 +321,58 @@ fn nested_loops(d: &mut Draft, n: usize) {
     }
 }
 
-/// A fault of question 19 with one of another question: the one that is asked
-/// first gives the number.
+/// Two faults: `first` is asked before `second` and gives the number.
+fn both(first: u8, second: u8, edit: impl FnOnce(&mut Draft)) -> Case {
+    let mut case = no(first, &format!("and {second}"), edit);
+    case.shows = format!("Questions {first} and {second}, both no.");
+    case
+}
+
+/// A fault of question 19 with one of another question.
 fn pairs() -> Vec<Case> {
     let astray = |d: &mut Draft| d.c.call(d.world, d.toggles[1]);
     let mut cases = vec![
-        no(3, "and 19", move |d| {
+        both(3, 19, move |d| {
             astray(d);
             d.c.gates[d.reroute.number as usize].0 = 32;
         }),
-        no(4, "and 19", move |d| {
+        both(4, 19, move |d| {
             astray(d);
             set(&mut d.c, d.in_inner, NOTHING);
         }),
-        no(5, "and 19", move |d| {
+        both(5, 19, move |d| {
             astray(d);
             d.c.calls.push((-1, 0));
         }),
-        no(5, "and a Loop without an entry", |d| {
+        no(5, "a call from -1 and a Loop without an entry", |d| {
             d.c.repeat(0, 1, 0, 1);
             d.c.calls.push((-1, 0));
         }),
-        no(19, "and 6", move |d| {
+        both(19, 6, move |d| {
             astray(d);
             d.c.feed(d.reroute.pin("RER_Input"), d.reroute);
         }),
-        no(19, "and 7", move |d| {
+        both(19, 7, move |d| {
             astray(d);
             for _ in 0..9 {
                 d.c.queue_ticks(0, NOTHING, NOTHING);
             }
         }),
-        no(19, "a ring of bodies and of pure gates", |d| {
+        no(19, "a ring of bodies and one of pure gates", |d| {
             d.c.feed(d.reroute.pin("RER_Input"), d.reroute);
             let (own, _) = repeat(&mut d.c, 1);
             d.c.put_inside(own, &[own]);
         }),
-        no(6, "in a body", |d| {
+        no(6, "a ring of pure gates in a body", |d| {
             d.c.put_inside(d.outer, &[d.reroute]);
             d.c.feed(d.reroute.pin("RER_Input"), d.reroute);
         }),
     ];
-    let mut spoilt = no(19, "and 8", astray);
+    let mut spoilt = both(19, 8, astray);
     spoilt.script.push(0);
-    let mut longer = no(1, "and 19", astray);
+    let mut longer = both(1, 19, astray);
     longer.circuit.push(0);
-    let mut untimely = no(19, "and 9", astray);
+    let mut untimely = both(19, 9, astray);
     untimely.script = bytes_of(&[1, 0, bits(-1.0), 0]);
     cases.extend([spoilt, longer, untimely]);
     cases
