@@ -53,14 +53,20 @@ pub const SEND_EVENT_GLOBAL: i64 = 25;
 pub const EVENT_CUSTOM: i64 = 26;
 pub const EVENT_CUSTOM_GLOBAL: i64 = 27;
 pub const WORLD_EVENT: i64 = 28;
+pub const LOOP: i64 = 29;
+pub const ENTRY: i64 = 30;
+pub const BREAK: i64 = 31;
+
+/// How much a rank's word grows from one body to the next.
+pub const RANKS: i64 = 65_536;
 
 const QUEUE_IN: &str = "E:Exec DataIn1 DataIn2 DataIn3 DataIn4 DataIn5 DataIn6 DataIn7 DataIn8 wait";
 const SEND_IN: &str = "E:Exec S:channel DataIn1 DataIn2 DataIn3 DataIn4 DataIn5 DataIn6 DataIn7 DataIn8";
 const DATA_OUT: &str = "ExecOut! DataOut1 DataOut2 DataOut3 DataOut4 DataOut5 DataOut6 DataOut7 DataOut8";
 
-/// Name, inputs and outputs of kinds 1 to 28. `E:` is an exec pin, `S:` a
+/// Name, inputs and outputs of kinds 1 to 31. `E:` is an exec pin, `S:` a
 /// setting; an output marked `!` is exec.
-pub const KINDS: [(&str, &str, &str); 28] = [
+pub const KINDS: [(&str, &str, &str); 31] = [
     ("Select", "bSelectB InputA InputB", "Output"),
     ("Reroute", "RER_Input", "RER_Output"),
     ("DeltaTime", "", "Output"),
@@ -89,6 +95,9 @@ pub const KINDS: [(&str, &str, &str); 28] = [
     ("EventCustom", "S:channel", DATA_OUT),
     ("EventCustomGlobal", "S:channel", DATA_OUT),
     ("WorldEvent", "", "ExecOut! Value"),
+    ("Loop", "E:Exec Count FirstIndex Step", "Completed! IterationsExecuted bAborted bRunning"),
+    ("Entry", "S:loop", "Body! Index"),
+    ("Break", "E:Exec", "ExecOut!"),
 ];
 
 pub fn kind_name(kind: i64) -> &'static str {
@@ -257,7 +266,7 @@ impl From<Gate> for Output {
 pub struct Circuit {
     /// Kinds and contents.
     pub constants: Vec<(i64, i64)>,
-    /// Kinds and ranks.
+    /// Kinds and ranks, the latter with their bodies.
     pub gates: Vec<(i64, i64)>,
     /// Sources and stored constants.
     pub inputs: Vec<(i64, i64)>,
@@ -538,6 +547,41 @@ impl Circuit {
 
     pub fn world_event(&mut self, rank: i64) -> Gate {
         self.gate(WORLD_EVENT, rank)
+    }
+
+    /// A Loop; its entry is still to come.
+    pub fn repeat(
+        &mut self,
+        rank: i64,
+        count: impl Into<Feed>,
+        first: impl Into<Feed>,
+        step: impl Into<Feed>,
+    ) -> Gate {
+        let g = self.gate(LOOP, rank);
+        self.feed(g.pin("Count"), count);
+        self.feed(g.pin("FirstIndex"), first);
+        self.feed(g.pin("Step"), step);
+        g
+    }
+
+    /// The entry of a Loop, in its body.
+    pub fn body(&mut self, of: Gate) -> Gate {
+        let g = self.gate(ENTRY, 0);
+        self.feed(g.pin("loop"), of.number);
+        self.put_inside(of, &[g]);
+        g
+    }
+
+    pub fn break_out(&mut self, rank: i64) -> Gate {
+        self.gate(BREAK, rank)
+    }
+
+    /// These gates lie in the body of a Loop, whatever their ranks.
+    pub fn put_inside(&mut self, of: Gate, gates: &[Gate]) {
+        for g in gates {
+            let word = &mut self.gates[g.number as usize].1;
+            *word = word.rem_euclid(RANKS) + RANKS * (1 + of.number);
+        }
     }
 }
 

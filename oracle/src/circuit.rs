@@ -1,16 +1,22 @@
-//! A circuit of document 01, and questions 1 to 6 about its bytes.
+//! A circuit of document 01, and questions 1 to 6 about its bytes, with question
+//! 19 of document 02 (K5).
 
 use crate::graph::Op;
-use crate::kinds::{Kind, Port, Setting, kind};
+use crate::kinds::{Kind, Port, Setting, bodies_taken, kind, kinds_taken};
 use crate::value::Value;
 use crate::words::{Parts, words};
 
-/// A circuit of which questions 1 to 6 are answered yes.
+/// The ranks, and how much a rank's word grows from one body to the next.
+const RANKS: i64 = 65_536;
+
+/// A circuit of which questions 1 to 6 and 19 are answered yes.
 #[derive(Debug)]
 pub struct Circuit {
     pub constants: Vec<Value>,
     pub kinds: Vec<&'static Kind>,
     pub ranks: Vec<u32>,
+    /// The body that each gate lies in: 0 is outside, else 1 + the Loop's gate.
+    pub bodies: Vec<u32>,
     pub inputs: Vec<Input>,
     pub outputs: Vec<Output>,
     pub calls: Vec<Call>,
@@ -44,16 +50,20 @@ pub struct Call {
 }
 
 impl Circuit {
-    /// The circuit, or the number of the first question answered no.
-    pub fn decode(bytes: &[u8]) -> Result<Self, u8> {
+    /// The circuit, or the number of the first question answered no. Whether
+    /// `loops` are taken is for question 3.
+    pub fn decode(loops: bool, bytes: &[u8]) -> Result<Self, u8> {
         let raw = Raw::read(bytes).ok_or(1)?;
         let constants = raw.constants().ok_or(2)?;
-        let kinds = raw.kinds().ok_or(3)?;
-        let ranks = raw.ranks().ok_or(3)?;
+        let kinds = raw.kinds(loops).ok_or(3)?;
+        let (ranks, bodies) = raw.ranks(loops).ok_or(3)?;
         let outputs = outputs(&kinds);
-        let mut circuit = Circuit { constants, kinds, ranks, outputs, inputs: vec![], calls: vec![] };
+        let mut circuit = Circuit { constants, kinds, ranks, bodies, outputs, inputs: vec![], calls: vec![] };
         circuit.inputs = raw.inputs(&circuit).ok_or(4)?;
         circuit.calls = raw.calls(&circuit).ok_or(5)?;
+        if !circuit.bodies_match() {
+            return Err(19);
+        }
         if circuit.pure_in_order() { Ok(circuit) } else { Err(6) }
     }
 
@@ -100,6 +110,7 @@ impl Circuit {
             (Setting::Ticks, v) => matches!(v, None | Some(Value::Int(_))),
             (Setting::Seconds, v) => matches!(v, None | Some(Value::Float(_))),
             (Setting::Variable, Some(Value::Int(n))) => self.is_var(n),
+            (Setting::Loop, Some(Value::Int(n))) => usize::try_from(n).is_ok_and(|n| self.is_loop(n)),
             (Setting::Channel, Some(Value::Int(n))) => (0..=255).contains(&n),
             _ => false,
         }
@@ -109,12 +120,46 @@ impl Circuit {
         usize::try_from(n).is_ok_and(|n| self.kinds.get(n).is_some_and(|k| k.op == Op::Var))
     }
 
+    fn is_loop(&self, n: usize) -> bool {
+        self.kinds.get(n).is_some_and(|k| matches!(k.op, Op::Loop(_)))
+    }
+
     /// Question 5, one call.
     fn calls_well(&self, call: &Call) -> bool {
         let from = self.outputs.get(call.from);
         let to = self.inputs.get(call.to);
         from.is_some_and(|o| o.port.is_exec() || o.port.name() == "RER_Output")
             && to.is_some_and(|i| i.port.is_exec() || i.port.name() == "RER_Input")
+    }
+
+    /// Question 19.
+    fn bodies_match(&self) -> bool {
+        let gates = 0..self.kinds.len();
+        self.calls.iter().all(|call| self.stays_inside(call))
+            && self.bodies.iter().all(|&body| body == 0 || self.is_loop(body as usize - 1))
+            && gates.clone().filter(|&g| self.is_loop(g)).all(|g| self.has_its_entry(g))
+            && gates.clone().all(|g| self.outwards(g).take(gates.len() + 1).last() == Some(0))
+    }
+
+    /// Whether both ends of a call lie in one body.
+    fn stays_inside(&self, call: &Call) -> bool {
+        self.bodies[self.outputs[call.from].gate] == self.bodies[self.inputs[call.to].gate]
+    }
+
+    /// Whether just one entry names this Loop, and lies in its body.
+    fn has_its_entry(&self, of: usize) -> bool {
+        let names = |input: &&Input| {
+            let set = matches!(input.port, Port::Set(Setting::Loop, _));
+            set && self.constant(input.stored) == Some(Value::Int(of as i64))
+        };
+        let entries: Vec<usize> = self.inputs.iter().filter(names).map(|input| input.gate).collect();
+        entries.len() == 1 && self.bodies[entries[0]] as usize == 1 + of
+    }
+
+    /// The body of a gate, the body that its Loop lies in, and so on.
+    fn outwards(&self, gate: usize) -> impl Iterator<Item = u32> {
+        let around = |&body: &u32| body.checked_sub(1).map(|of| self.bodies[of as usize]);
+        std::iter::successors(Some(self.bodies[gate]), around)
     }
 
     /// Question 6: whether taking away, again and again, the pure gates whose
@@ -188,15 +233,20 @@ impl Raw {
     }
 
     /// Question 3: the kinds, with as many inputs as there are.
-    fn kinds(&self) -> Option<Vec<&'static Kind>> {
-        let kinds: Vec<_> = self.kinds.iter().map(|&n| kind(n)).collect::<Option<_>>()?;
+    fn kinds(&self, loops: bool) -> Option<Vec<&'static Kind>> {
+        let taken = |&n: &i64| if n <= kinds_taken(loops) { kind(n) } else { None };
+        let kinds: Vec<_> = self.kinds.iter().map(taken).collect::<Option<_>>()?;
         let inputs: usize = kinds.iter().map(|k| k.inputs.len()).sum();
         (inputs == self.sources.len()).then_some(kinds)
     }
 
-    /// Question 3: the ranks.
-    fn ranks(&self) -> Option<Vec<u32>> {
-        self.ranks.iter().map(|&r| u16::try_from(r).ok().map(u32::from)).collect()
+    /// Question 3: the ranks and the bodies, which stand in one word.
+    fn ranks(&self, loops: bool) -> Option<(Vec<u32>, Vec<u32>)> {
+        let split = |&word: &i64| {
+            let (rank, body) = (word.rem_euclid(RANKS), word.div_euclid(RANKS));
+            (0..=bodies_taken(loops)).contains(&body).then_some((rank as u32, body as u32))
+        };
+        self.ranks.iter().map(split).collect()
     }
 
     /// Question 4.

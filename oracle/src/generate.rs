@@ -3,10 +3,11 @@
 
 mod damaged;
 mod family;
+mod looped;
 mod random;
 mod valid;
 
-pub use damaged::{Damaged, damaged};
-pub use family::{FAMILIES, Family, stated_families};
+pub use damaged::{ASKED, Damaged, damaged, damaged_loops, damaged_with};
+pub use family::{FAMILIES, Family, WITH_LOOPS, families, stated_families};
 pub use random::Random;
 pub use valid::valid;

@@ -4,11 +4,13 @@ use crate::circuit::{Circuit, Input};
 use crate::fields::{BrdbStruct, BrdbValue};
 use crate::graph::{self, Call, Gate, GateId, Graph, Op, Output, Src};
 use crate::kinds::{Kind, Port, Setting};
+use crate::load::BrickAddr;
 use crate::value::Value;
 
 /// Readers go in ascending gate, then input; calls as listed.
 pub fn graph_of(circuit: &Circuit) -> Graph {
-    let mut gates: Vec<Gate> = circuit.kinds.iter().map(|kind| bare(kind)).collect();
+    let places = circuit.bodies.iter().zip(0..).map(|(&grid, brick)| BrickAddr { grid, brick });
+    let mut gates: Vec<Gate> = circuit.kinds.iter().zip(places).map(|(kind, at)| bare(kind, at)).collect();
     for input in &circuit.inputs {
         gates[input.gate].inputs.push(port(circuit, input));
         if let (Port::Set(setting, name), Some(v)) = (input.port, circuit.constant(input.stored)) {
@@ -29,11 +31,18 @@ pub fn graph_of(circuit: &Circuit) -> Graph {
             remote: call.remote,
         });
     }
-    Graph { gates }
+    let loops = gates.iter().filter(|gate| matches!(gate.op, Op::Loop(_)));
+    let chip_grids = loops.map(|gate| (gate.addr, body_of(gate.addr.brick))).collect();
+    Graph { gates, chip_grids }
 }
 
-/// A gate with its outputs, nothing wired.
-fn bare(kind: &Kind) -> Gate {
+/// The number of the body of a Loop.
+fn body_of(gate: GateId) -> u32 {
+    1 + gate
+}
+
+/// A gate with its outputs in its place, nothing wired.
+fn bare(kind: &Kind, addr: BrickAddr) -> Gate {
     let output = |port: &Port| Output {
         name: port.name().to_string(),
         exec: port.is_exec(),
@@ -43,6 +52,7 @@ fn bare(kind: &Kind) -> Gate {
     let changes_type = BrdbStruct(vec![("bChangeType", BrdbValue::Bool(true))]);
     Gate {
         op: kind.op,
+        addr,
         inputs: Vec::new(),
         outputs: kind.outputs.iter().map(output).collect(),
         data: (kind.op == Op::VarSet).then_some(changes_type),

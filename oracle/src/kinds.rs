@@ -1,8 +1,25 @@
-//! The 28 kinds of gate of document 01: what each does in the source, its
-//! inputs and its outputs, in document 01's order and under the source's
-//! names.
+//! The kinds of gate, 28 of document 01 and three of document 02 (K5): what each
+//! does in the source, its inputs and its outputs, in the documents' order and
+//! under the source's names.
 
-use crate::graph::{Detector, Op};
+use crate::graph::{Detector, LoopKind, Op};
+
+/// Whether Loops, their entries and Breaks (document 02, K5) are taken. From this
+/// follow the kinds and bodies that question 3 takes, and whether the stated
+/// circuits, the vectors, what is packed and the generator's families have
+/// Loops. What is open can be asked for all the same (`run_with`,
+/// `circuits::groups_with`), so that the tests play Loops in any case.
+pub const LOOPS_OPEN: bool = true;
+
+/// How many kinds question 3 takes.
+pub const fn kinds_taken(loops: bool) -> i64 {
+    if loops { 31 } else { 28 }
+}
+
+/// How many bodies question 3 takes beside the outside.
+pub const fn bodies_taken(loops: bool) -> i64 {
+    if loops { 64 } else { 0 }
+}
 
 #[derive(Clone, Copy, Debug, PartialEq, Eq)]
 pub enum Port {
@@ -22,6 +39,8 @@ pub enum Setting {
     Seconds,
     /// The Int number of a Var.
     Variable,
+    /// The Int number of a Loop.
+    Loop,
     /// An Int from 0 to 255.
     Channel,
 }
@@ -52,13 +71,13 @@ pub fn kind(number: i64) -> Option<&'static Kind> {
 }
 
 use Port::{Exec, Set, Value};
-use Setting::{Channel, Initial, Seconds, Ticks, Variable};
+use Setting::{Channel, Initial, Loop, Seconds, Ticks, Variable};
 
 const fn gate(op: Op, inputs: &'static [Port], outputs: &'static [Port]) -> Kind {
     Kind { op, inputs, outputs }
 }
 
-static KINDS: [Kind; 28] = [
+static KINDS: [Kind; 31] = [
     gate(Op::Select, &[Value("bSelectB"), Value("InputA"), Value("InputB")], &[Value("Output")]),
     gate(Op::Reroute, &[Value("RER_Input")], &[Value("RER_Output")]),
     gate(Op::DeltaTime, &[], &[Value("Output")]),
@@ -135,6 +154,13 @@ static KINDS: [Kind; 28] = [
     gate(Op::EventCustom { global: false }, &[Set(Channel, "EventName")], &DATA_OUT),
     gate(Op::EventCustom { global: true }, &[Set(Channel, "EventName")], &DATA_OUT),
     gate(Op::WorldEvent, &[], &[Exec("ExecOut"), Value("Value")]),
+    gate(
+        Op::Loop(LoopKind::CountFor),
+        &[Exec("Exec"), Value("Count"), Value("FirstIndex"), Value("Step")],
+        &[Exec("Completed"), Value("IterationsExecuted"), Value("bAborted"), Value("bRunning")],
+    ),
+    gate(Op::CallableEntry, &[Set(Loop, "Loop")], &[Exec("Body"), Value("Index")]),
+    gate(Op::CallableBreak, &[Exec("Exec")], &[Exec("ExecOut")]),
 ];
 
 static QUEUE_TICKS: [Port; 10] = [

@@ -5,6 +5,7 @@
 pub mod source;
 mod collections;
 mod fields;
+mod load;
 mod semantics;
 pub use source::{Dt, SimError, SimOptions, graph, machine, value, world};
 
@@ -51,9 +52,14 @@ pub enum Answer {
     Played { log: Vec<i64>, stop: u8, ticks: u64 },
 }
 
-/// Ask the ten questions, then play.
+/// Ask the questions, then play.
 pub fn run(circuit: &[u8], script: &[u8], lent: &Lent) -> Answer {
-    match questions::ask(circuit, script, Some(lent)) {
+    run_with(kinds::LOOPS_OPEN, circuit, script, lent)
+}
+
+/// [`run`], whether or not Loops are taken.
+pub fn run_with(loops: bool, circuit: &[u8], script: &[u8], lent: &Lent) -> Answer {
+    match questions::ask_with(loops, circuit, script, Some(lent)) {
         Err(number) => Answer::Refused(number),
         Ok((circuit, script)) => play::play(&circuit, &script, lent.log),
     }
@@ -62,7 +68,12 @@ pub fn run(circuit: &[u8], script: &[u8], lent: &Lent) -> Answer {
 /// The questions of a call that is lent no areas: the number of the first
 /// answered no, or 0.
 pub fn check(circuit: &[u8], script: &[u8]) -> u8 {
-    questions::ask(circuit, script, None).err().unwrap_or(0)
+    check_with(kinds::LOOPS_OPEN, circuit, script)
+}
+
+/// [`check`], whether or not Loops are taken.
+pub fn check_with(loops: bool, circuit: &[u8], script: &[u8]) -> u8 {
+    questions::ask_with(loops, circuit, script, None).err().unwrap_or(0)
 }
 
 /// What document 01's program prints for `answer`.

@@ -24,6 +24,9 @@ pub(super) struct Tally {
     pub(super) pending: usize,
     /// Entries of `late` over all ranks.
     pub(super) late: usize,
+    /// Calls found and not yet made, of the chain and of every body that runs
+    /// inside it: document 02's one chain stack (K5).
+    pub(super) stack: usize,
     /// Gate and form of each unit begun, in the order begun.
     pub(super) begun: Vec<(GateId, u16)>,
     /// How many of them the late pass began.
@@ -39,6 +42,7 @@ pub(super) struct Tally {
 
 impl Tally {
     pub(super) fn next_tick(&mut self) {
+        self.stack = 0;
         self.begun.clear();
         self.late_units = 0;
         self.changed.set(0);
@@ -70,9 +74,16 @@ impl Tally {
         room
     }
 
-    /// The forks and the chain stack after an output's calls are on them.
-    pub(super) fn hold(&mut self, forks: usize, stack: usize) {
-        self.passed |= forks > LIST || stack > LIST;
+    /// An output's calls are on the forks, which are so many now, and on the
+    /// chain stack, so many of them.
+    pub(super) fn hold(&mut self, forks: usize, found: usize) {
+        self.stack += found;
+        self.passed |= forks > LIST || self.stack > LIST;
+    }
+
+    /// The source has come to a place that the questions leave no way to.
+    pub(super) fn never(&self, why: &str) {
+        unreachable!("{why}");
     }
 }
 

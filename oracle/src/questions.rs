@@ -1,7 +1,8 @@
-//! The ten questions, in order.
+//! The questions, in order: 1 to 5, 19 of document 02 (K5), 6 to 10.
 
 use crate::Lent;
 use crate::circuit::Circuit;
+use crate::kinds::LOOPS_OPEN;
 use crate::script::Script;
 
 /// The least bytes of an area.
@@ -12,7 +13,17 @@ const QUEUES: usize = 8;
 /// The circuit and the script, or the number of the first question answered
 /// no. A call that is lent no areas asks only the first half of question 7.
 pub fn ask(circuit: &[u8], script: &[u8], lent: Option<&Lent>) -> Result<(Circuit, Script), u8> {
-    let circuit = Circuit::decode(circuit)?;
+    ask_with(LOOPS_OPEN, circuit, script, lent)
+}
+
+/// [`ask`], whether or not Loops are taken.
+pub fn ask_with(
+    loops: bool,
+    circuit: &[u8],
+    script: &[u8],
+    lent: Option<&Lent>,
+) -> Result<(Circuit, Script), u8> {
+    let circuit = Circuit::decode(loops, circuit)?;
     let queues = circuit.queues();
     if queues > QUEUES || lent.is_some_and(|lent| !areas_suffice(lent, queues)) {
         return Err(7);

@@ -61,6 +61,12 @@ impl Machine {
         self.carried.iter().map(|(gate, act)| (*gate, format!("{act:?}"))).collect()
     }
 
+    /// How many runs of bodies the tick began or would have begun, had the limit
+    /// not been passed.
+    pub fn runs_of_bodies(&self) -> u64 {
+        self.invocations
+    }
+
     /// Kind and content of every output, as reading it gives them; 0 0 for
     /// an exec output.
     fn write_outputs(&mut self, log: &mut Vec<i64>) {

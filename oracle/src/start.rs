@@ -3,6 +3,7 @@
 
 use std::collections::{BTreeMap, VecDeque};
 
+use super::callable::callables;
 use super::limits::Tally;
 use super::{Buffer, Machine, State};
 use crate::collections::{HashMap, HashSet};
@@ -21,6 +22,8 @@ impl Machine {
             receivers: receivers(&graph),
             timed: gates_where(&graph, is_timed),
             time_sources: gates_where(&graph, is_time_source),
+            callables: callables(&graph),
+            grid_parent: graph.chip_grids.iter().map(|(addr, &grid)| (grid, addr.grid)).collect(),
             graph,
             world,
             opts: SimOptions { dt: Dt::Schedule([&[0.0], lengths].concat()) },
@@ -41,10 +44,18 @@ impl Machine {
             forks: VecDeque::new(),
             written: Vec::new(),
             written_set: HashSet::default(),
+            written_in_plane: HashSet::default(),
+            written_outside: HashSet::default(),
+            late_checks: HashSet::default(),
+            marking_late: false,
             outbox: Vec::new(),
             steps: 0,
             total_steps: 0,
             total_evals: 0,
+            invocations: 0,
+            depth: 0,
+            break_requested: false,
+            planes: Vec::new(),
             unions_passed: vec![HashSet::default()],
             pulses: HashMap::default(),
             tally: Tally::default(),

@@ -2,21 +2,23 @@
 
 use std::path::Path;
 
-use oracle::circuits::{Case, all};
-use oracle::generate::{FAMILIES, damaged, valid};
+use oracle::circuits::{Case, all_with};
+use oracle::generate::{damaged, damaged_loops, families, valid};
 
-/// The stated circuit of this name.
+/// The stated circuit of this name, with Loops or without.
 pub fn stated(name: &str) -> Option<Case> {
-    all().into_iter().find(|case| case.name == name)
+    all_with(true).into_iter().find(|case| case.name == name)
 }
 
-/// The case of a family, or a damaged one, and a seed.
+/// The case of a family, or a damaged one, and a seed, with Loops or without.
 pub fn generated(family: &str, seed: &str) -> Option<Case> {
     let seed = seed.parse().ok()?;
-    if family == "damaged" {
-        return Some(damaged(seed).case);
+    match family {
+        "damaged" => return Some(damaged(seed).case),
+        "damaged-loops" => return Some(damaged_loops(seed).case),
+        _ => {}
     }
-    let family = FAMILIES.into_iter().find(|f| f.name() == family)?;
+    let family = families(true).find(|f| f.name() == family)?;
     Some(valid(seed, family))
 }
 

@@ -3,8 +3,11 @@
 
 mod reading;
 
-use oracle::generate::{FAMILIES, Family, Random, damaged, valid};
-use oracle::{Answer, check, run};
+use oracle::generate::{
+    ASKED, Damaged, FAMILIES, Family, Random, WITH_LOOPS, damaged_loops, damaged_with, valid,
+};
+use oracle::kinds::LOOPS_OPEN;
+use oracle::{Answer, check, check_with, run_with};
 
 #[test]
 fn valid_ones_are_played() {
@@ -18,18 +21,56 @@ fn valid_ones_are_played() {
     }
 }
 
+/// How often each question was the first of these that is answered no.
+fn refused(loops: bool, damaged: impl Iterator<Item = Damaged>) -> [usize; 20] {
+    let mut refused = [0; 20];
+    for Damaged { case, questions } in damaged {
+        let answer = run_with(loops, &case.circuit, &case.script, &case.lent);
+        assert_eq!(answer, Answer::Refused(questions[0]), "{}: {}", case.name, case.shows);
+        refused[questions[0] as usize] += 1;
+    }
+    refused
+}
+
 #[test]
 fn damaged_ones_are_refused_by_their_first_question() {
-    let mut refused = [0; 11];
-    for seed in 0..2000 {
-        let damaged = damaged(seed);
-        let first = damaged.questions[0];
-        let case = damaged.case;
-        let answer = run(&case.circuit, &case.script, &case.lent);
-        assert_eq!(answer, Answer::Refused(first), "{}: {}", case.name, case.shows);
-        refused[first as usize] += 1;
+    for loops in [false, true] {
+        let refused = refused(loops, (0..2000).map(|seed| damaged_with(seed, loops)));
+        let asked = ASKED.iter().filter(|&&question| question != 19);
+        assert!(asked.into_iter().all(|&n| refused[n as usize] > 50), "{refused:?}");
+        assert!((refused[19] > 10) == loops, "{refused:?}");
     }
-    assert!(refused[1..].iter().all(|&n| n > 50), "{refused:?}");
+}
+
+/// Whether Loops are taken or not, a damaged one without them is the same, but
+/// for a Stopwatch that a kind of 29 would make a Loop.
+#[test]
+fn damaged_ones_stay() {
+    let same = |seed: &u64| {
+        let [a, b] = [false, true].map(|loops| damaged_with(*seed, loops).case);
+        a.circuit == b.circuit && a.script == b.script && a.lent == b.lent
+    };
+    assert!((0..2000).filter(same).count() > 1990);
+    assert!((0..150).all(|seed| same(&seed)), "the stated ones");
+}
+
+#[test]
+fn those_with_loops_are_played() {
+    for family in WITH_LOOPS {
+        for seed in 0..600 {
+            let case = valid(seed, family);
+            assert_eq!(check_with(true, &case.circuit, &case.script), 0, "{}", case.name);
+            let played = reading::read_with(true, &case).unwrap();
+            played.assert_whole(&case);
+        }
+    }
+}
+
+#[test]
+fn damaged_ones_with_loops_are_refused_by_their_first_question() {
+    let refused = refused(true, (0..2000).map(damaged_loops));
+    assert!([3, 4, 5, 19].iter().all(|&n| refused[n] > 200), "{refused:?}");
+    assert_eq!(refused.iter().sum::<usize>(), 2000);
 }
 
 #[test]
@@ -62,8 +103,9 @@ fn the_families_reach_what_they_are_about() {
         carried > 1000 && stopped > 50 && late > 10_000 && main > 5_000,
         "{carried} {stopped} {late} {main}"
     );
-    // Every form of a unit that document 01 has: kinds 6, 9, 11, 13 to 28.
-    assert_eq!(begun.len(), 1 + 2 + 2 + 1 + (1 + 3) + 2 * 2 + 5 + 2 + 2 + 2 + 1, "{begun:?}");
+    // Every form of a unit that document 01 has: kinds 6, 9, 11, 13 to 28; and of document 02 kinds 29 and 31.
+    let of_loops = if LOOPS_OPEN { 2 } else { 0 };
+    assert_eq!(begun.len(), 1 + 2 + 2 + 1 + (1 + 3) + 2 * 2 + 5 + 2 + 2 + 2 + 1 + of_loops, "{begun:?}");
 }
 
 #[test]

@@ -11,8 +11,8 @@ mod reading;
 use oracle::build::*;
 use oracle::circuits::{self, Case};
 use oracle::generate::{FAMILIES, Family, valid};
-use oracle::words::{Parts, words};
-use reading::{Played, STATED, read};
+use oracle::words::words;
+use reading::{Played, STATED, circuit_of, read};
 
 /// Each circuit of the group with its stop and the counts of its records.
 const BY_HAND: [(&str, u8, &[i64]); 44] = [
@@ -141,17 +141,8 @@ struct Parted {
 }
 
 fn parted(case: &Case) -> Parted {
-    let (circuit, script) = (words(&case.circuit).unwrap(), words(&case.script).unwrap());
-    let &[gates, constants, inputs, calls, ref rest @ ..] = &circuit[..] else { panic!("four sizes") };
-    let mut rest = Parts(rest);
-    let mut pairs = |n: i64| -> Vec<(i64, i64)> {
-        let (first, second) = (rest.next(n as usize), rest.next(n as usize));
-        first.into_iter().zip(second).collect()
-    };
-    let mut c = Circuit::new();
-    c.constants = pairs(constants);
-    let gates = pairs(gates).into_iter().map(|(kind, rank)| c.gate(kind, rank)).collect();
-    (c.inputs, c.calls) = (pairs(inputs), pairs(calls));
+    let (c, gates) = circuit_of(case);
+    let script = words(&case.script).unwrap();
     let lengths = script[2..][..script[0] as usize].to_vec();
     Parted { c, gates, lengths }
 }
@@ -235,6 +226,13 @@ struct Counted {
     flying: Vec<(Gate, Gate)>,
 }
 
+/// A Cycle that counts up to the last number, in the body of a gate.
+fn counter(c: &mut Circuit, of: Gate) -> Gate {
+    let counter = c.cycle(0, i64::MAX);
+    c.gates[counter.number as usize].1 = c.gates[of.number as usize].1 / RANKS * RANKS;
+    counter
+}
+
 /// The case with a Cycle called before each call of a 13 or a 17 and a
 /// ChangeDetector of the highest rank beside each 12; without zero waits, and
 /// with a constant for the wait of a Queue that reads one. None where that is
@@ -252,12 +250,12 @@ fn counted(case: &Case) -> Option<Counted> {
                 c.inputs[beside.pin("Input").0 as usize] = c.inputs[gate.pin("Input").0 as usize];
                 flying.push((gate, beside));
             }
-            BUFFER_SECONDS_EXEC => called.push((gate, c.cycle(0, i64::MAX))),
+            BUFFER_SECONDS_EXEC => called.push((gate, counter(c, gate))),
             QUEUE_SECONDS => {
                 if c.inputs[gate.pin("wait").0 as usize].0 >= 0 {
                     c.feed(gate.pin("wait"), if gate.number % 2 == 0 { 0.1 } else { 0.25 });
                 }
-                called.push((gate, c.cycle(0, i64::MAX)));
+                called.push((gate, counter(c, gate)));
             }
             EDGE | CHANGE => return None,
             _ => {}

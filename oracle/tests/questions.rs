@@ -1,10 +1,11 @@
-//! The ten questions: each bound accepted at its edge and refused past it,
-//! and the order they are asked in.
+//! The questions: each bound accepted at its edge and refused past it, and the
+//! order they are asked in. Those about Loops (document 02, K5) are asked with
+//! Loops taken, whether or not `LOOPS_OPEN` is set.
 
 mod common;
 
 use common::{Pin, Plan, bytes};
-use oracle::{Answer, Lent, check, run};
+use oracle::{Answer, Lent, check, check_with, run};
 
 /// Words changed by hand: place and new word.
 type Changes<'a> = &'a [(usize, i64)];
@@ -117,10 +118,77 @@ fn question_2_constants() {
 
 #[test]
 fn question_3_gates() {
-    assert_eq!([circuit(&[(10, 0)]), circuit(&[(10, 29)]), circuit(&[(10, -1)])], [3; 3]);
-    assert_eq!([circuit(&[(14, 65_535)]), circuit(&[(14, 65_536)]), circuit(&[(14, -1)])], [0, 3, 3]);
+    assert_eq!([circuit(&[(10, 0)]), circuit(&[(10, 32)]), circuit(&[(10, -1)])], [3; 3]);
+    assert_eq!([circuit(&[(14, 65_535)]), circuit(&[(14, 65 * 65_536)]), circuit(&[(14, -1)])], [0, 3, 3]);
     assert_eq!(circuit(&[(13, 3)]), 3, "an input too many");
     assert_eq!(circuit(&[(13, 18)]), 3, "an input too few");
+}
+
+/// What is taken with Loops and what without: of the base a word of 65,536 is a
+/// body without a Loop.
+#[test]
+fn question_3_with_loops() {
+    let asked = |loops, changes: Changes| {
+        let (circuit, script) = base();
+        check_with(loops, &bytes(&changed(&circuit, changes)), &bytes(&script))
+    };
+    let words = [65_535, 65_536, 64 * 65_536 + 65_535, 65 * 65_536, -1, -65_536, i64::MIN, i64::MAX];
+    assert_eq!(words.map(|word| asked(true, &[(14, word)])), [0, 19, 19, 3, 3, 3, 3, 3]);
+    assert_eq!(words.map(|word| asked(false, &[(14, word)])), [0, 3, 3, 3, 3, 3, 3, 3]);
+    // A gate without inputs and one output, in place of the World event, is none of these.
+    let kinds = [28, 29, 30, 31, 32];
+    assert_eq!(kinds.map(|kind| asked(true, &[(10, kind)])), [0, 3, 3, 3, 3]);
+    let alone = |loops, kind: i64, inputs: usize| {
+        let sizes = [1, 0, inputs as i64, 0, kind, 0];
+        let words = [&sizes[..], &vec![-1; inputs], &vec![0; inputs]].concat();
+        check_with(loops, &bytes(&words), &bytes(&[0, 0]))
+    };
+    // A Loop alone has no entry, an entry alone no Loop.
+    assert_eq!([alone(true, 29, 4), alone(true, 30, 1), alone(true, 31, 1), alone(true, 32, 1)], [19, 4, 0, 3]);
+    assert_eq!([alone(true, 29, 3), alone(true, 29, 5), alone(true, 30, 0), alone(true, 31, 2)], [3; 4]);
+    assert_eq!([alone(false, 29, 4), alone(false, 30, 1), alone(false, 31, 1)], [3; 3]);
+}
+
+/// A World event 0, a Loop 1 with its entry 2 and a Toggle 3 in its body, and a
+/// Loop 4 in that body with its entry 5; the words of their ranks.
+fn looped(words: [i64; 6], settings: [Pin; 2], calls: &[(usize, usize, usize)]) -> u8 {
+    let mut plan = Plan::default();
+    plan.gate(28, words[0], &[]);
+    plan.gate(29, words[1], &[]);
+    plan.gate(30, words[2], &[settings[0]]);
+    plan.gate(22, words[3], &[]);
+    plan.gate(29, words[4], &[]);
+    plan.gate(30, words[5], &[settings[1]]);
+    for &(from, output, to) in calls {
+        plan.call(from, output, to, 0);
+    }
+    let (circuit, script) = plan.words(&[(0.25, &[(0, Pin::Nothing)])]);
+    check_with(true, &bytes(&circuit), &bytes(&script))
+}
+
+#[test]
+fn question_19_bodies() {
+    use Pin::Int;
+    const B: i64 = 65_536;
+    let names = [Int(1), Int(4)];
+    let words = [0, 0, 2 * B, 2 * B, 2 * B, 5 * B];
+    let with = |at: usize, word: i64| {
+        let mut words = words;
+        words[at] = word;
+        looped(words, names, &[])
+    };
+    assert_eq!(looped(words, names, &[(0, 0, 1), (2, 0, 3), (2, 0, 4), (3, 0, 4), (4, 0, 3)]), 0);
+    for call in [(0, 0, 3), (0, 0, 4), (2, 0, 1), (3, 0, 1), (1, 0, 3), (5, 0, 3), (5, 0, 4), (5, 0, 1)] {
+        assert_eq!(looped(words, names, &[call]), 19, "{call:?}");
+    }
+    assert_eq!([with(3, 0), with(3, 5 * B), with(4, 0), with(3, 2 * B + 7)], [0; 4], "elsewhere");
+    assert_eq!([with(3, B), with(3, 3 * B), with(3, 4 * B), with(3, 6 * B), with(3, 64 * B)], [19; 5], "no Loop's");
+    assert_eq!([with(2, 0), with(2, 5 * B), with(5, 0), with(5, 2 * B)], [19; 4], "entries elsewhere");
+    assert_eq!([with(1, 2 * B), with(4, 5 * B), with(1, 5 * B)], [19; 3], "rings");
+    let named = |a, b| looped(words, [a, b], &[]);
+    assert_eq!([named(Int(1), Int(1)), named(Int(4), Int(4)), named(Int(4), Int(1))], [19; 3]);
+    let others = [Int(0), Int(2), Int(6), Int(-1), Pin::Nothing, Pin::Float(4.0), Pin::Bool(true)];
+    assert_eq!(others.map(|with| named(Int(1), with)), [4; 7]);
 }
 
 #[test]
@@ -292,7 +360,7 @@ fn the_first_no_is_the_answer() {
         let words = changed(&base().0, a);
         assert_eq!(check(&bytes(&words), &[]), *first, "before question 8");
     }
-    assert_eq!([circuit(&[(5, 4), (10, 29)]), circuit(&[(5, 4), (13, 3)])], [2; 2]);
+    assert_eq!([circuit(&[(5, 4), (10, 32)]), circuit(&[(5, 4), (13, 3)])], [2; 2]);
     assert_eq!(script(&[(0, 3), (2, -1), (6, 1)]), 8);
     assert_eq!(script(&[(2, -1), (6, 1)]), 9);
     let two_queues = [vec![2, 0, 20, 0, 16, 17, 0, 0], vec![-1; 20], vec![0; 20]].concat();

@@ -9,7 +9,7 @@ use std::io::Write;
 use std::path::{Path, PathBuf};
 
 /// Our file, the source's file, and the bodies kept from it.
-const KEPT: [(&str, &str, &[&str]); 5] = [
+const KEPT: [(&str, &str, &[&str]); 6] = [
     (
         "machine.rs",
         "machine.rs",
@@ -28,6 +28,9 @@ const KEPT: [(&str, &str, &[&str]); 5] = [
             "run_chain",
             "fire_chain",
             "push_calls",
+            "push_calls_in_plane",
+            "frame_of",
+            "lose",
             "publish_writes",
             "settle",
             "is_watched",
@@ -60,6 +63,11 @@ const KEPT: [(&str, &str, &[&str]); 5] = [
         ],
     ),
     (
+        "machine/callable.rs",
+        "machine/callable.rs",
+        &["callables", "callable", "begin_invocation", "run_body", "run_loop"],
+    ),
+    (
         "graph.rs",
         "graph.rs",
         &["is_pure", "input", "output", "field", "field_str", "field_f64", "field_i64", "field_bool", "gate"],
@@ -71,9 +79,14 @@ const KEPT: [(&str, &str, &[&str]); 5] = [
 
 /// Lines that stand in for a line that cannot stand once others are cut off:
 /// body, our line, the source's line.
-const STAND_INS: [(&str, &str, &str); 9] = [
+const STAND_INS: [(&str, &str, &str); 10] = [
     ("step", "Ok(())", "self.record_displays()"),
     ("exec_gate", "_ => return Err(self.error(g, \"not an exec gate\")),", "_ => return self.world_gate(g),"),
+    (
+        "callables",
+        "if !matches!(shell.op, Op::Loop(_)) {",
+        "if !matches!(shell.op, Op::FunctionDefinition | Op::Loop(_)) {",
+    ),
     ("is_pure", "Self::Select", "| Self::Select"),
     ("field_str", "_ => None,", "v => match WireValue::try_from(v).ok()? {"),
     ("field_f64", "_ => None,", "v => Value::from_wire(&WireValue::try_from(v).ok()?)?.as_float(),"),
@@ -83,8 +96,8 @@ const STAND_INS: [(&str, &str, &str); 9] = [
     ("truthy", "v => semantics::truthy(v),", "v => semantics::truthy(v.to_semantic().as_ref()),"),
 ];
 
-/// What the other added lines do: record, test a limit of document 01, or look
-/// without a trace.
+/// What the other added lines do: record, test a limit of document 01, say that
+/// no way leads there, or look without a trace.
 const RECORDS: [&str; 4] = ["self.tally.", "self.begin(", "self.within_limits()", "self.look_on()"];
 
 const MARK: &str = "// oracle:";
@@ -185,7 +198,7 @@ fn bodies(text: &str) -> Vec<Body> {
 
 fn function_name(line: &str) -> Option<String> {
     let line = line.trim_start();
-    let rest = ["fn ", "pub fn ", "pub(crate) fn "].iter().find_map(|p| line.strip_prefix(p))?;
+    let rest = ["fn ", "pub fn ", "pub(crate) fn ", "pub(super) fn "].iter().find_map(|p| line.strip_prefix(p))?;
     rest.split(['(', '<']).next().map(str::to_string)
 }
 

@@ -8,11 +8,13 @@ use std::fmt::Write as _;
 use std::path::Path;
 use std::process::ExitCode;
 
-use oracle::{Answer, Lent};
+use oracle::Lent;
+use oracle::play::start;
+use oracle::questions::ask;
 
 /// What the prover computes within its limits: words of a log that takes the
-/// whole run, and its steps and units times its gates. A run above either is
-/// left out, and counted.
+/// whole run, and its steps, units and runs of bodies times its gates. A run
+/// above either is left out, and counted.
 const MOST_WORDS: usize = 3_000;
 const MOST_WORK: usize = 40_000;
 
@@ -97,11 +99,20 @@ impl Case<'_> {
 
     /// Played with a log that takes all: a stop by 13 hides its tick's steps.
     fn is_short(&self) -> bool {
-        let whole = Lent { log: usize::MAX, delays: 8 * 65_536, ..Lent::default() };
-        match oracle::run(&self.words("circuit"), &self.words("script"), &whole) {
-            Answer::Refused(_) => false,
-            Answer::Played { log, .. } => log.len() <= MOST_WORDS && self.work(&log) <= MOST_WORK,
+        let areas = Lent { delays: 8 * 65_536, ..Lent::default() };
+        let Ok((circuit, script)) = ask(&self.words("circuit"), &self.words("script"), Some(&areas)) else {
+            return false;
+        };
+        let mut machine = start(&circuit, &script);
+        let (mut log, mut runs) = (Vec::new(), 0);
+        for _ in 0..script.lengths.len() {
+            let stop = machine.play_tick(&mut log);
+            runs += machine.runs_of_bodies() as usize;
+            if stop != 0 {
+                break;
+            }
         }
+        log.len() <= MOST_WORDS && self.work(&log) + runs * circuit.kinds.len() <= MOST_WORK
     }
 
     fn words(&self, name: &str) -> Vec<u8> {

@@ -4,8 +4,11 @@
 use super::Case;
 use crate::build::*;
 
-pub fn cases() -> Vec<Case> {
+pub fn cases(loops: bool) -> Vec<Case> {
     let mut cases: Vec<Case> = (1..=28).map(every_pin).collect();
+    if loops {
+        cases.extend((LOOP..=BREAK).map(every_pin_of_loops));
+    }
     cases.extend((SEND_EVENT..=SEND_EVENT_GLOBAL).map(eight_values));
     cases.push(queue_values());
     cases
@@ -31,6 +34,35 @@ fn every_pin(kind: i64) -> Case {
         c.call(world, gate);
         worlds.push(world);
     }
+    let s = script(&mut c, &worlds);
+    let name = format!("kind-{kind:02}-{}", kind_name(kind).to_lowercase());
+    Case::new(name, format!("Kind {kind}, {}: every pin.", kind_name(kind)), &c, &s)
+}
+
+/// A Loop with its entry and a Break in its body, and followed the one of them
+/// that is of this kind.
+fn every_pin_of_loops(kind: i64) -> Case {
+    let mut c = Circuit::new();
+    let repeat = c.repeat(5, NOTHING, NOTHING, NOTHING);
+    let body = c.body(repeat);
+    let inside = c.cycle(0, 3);
+    let enough = c.break_out(5);
+    let more = c.branch(0, inside);
+    let mut worlds = enter(&mut c, LOOP, repeat.entry());
+    worlds.extend(["Count", "FirstIndex", "Step"].map(|pin| feed(&mut c, repeat.pin(pin))));
+    c.chain(&[body, inside, more]);
+    if kind == BREAK {
+        c.call(more.out("ExecOutB"), enough);
+        worlds.push(feed(&mut c, enough.entry()));
+    }
+    let first = c.gates.len();
+    let followed = [repeat, body, enough][(kind - LOOP) as usize];
+    follow(&mut c, followed);
+    let mut gates = vec![inside, more, enough];
+    if kind != LOOP {
+        gates.extend((first..c.gates.len()).map(|n| Gate { number: n as i64, ..inside }));
+    }
+    c.put_inside(repeat, &gates);
     let s = script(&mut c, &worlds);
     let name = format!("kind-{kind:02}-{}", kind_name(kind).to_lowercase());
     Case::new(name, format!("Kind {kind}, {}: every pin.", kind_name(kind)), &c, &s)

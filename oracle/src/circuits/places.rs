@@ -1,8 +1,13 @@
 //! Places where a port goes wrong.
 
 /// Each in short; a case names the places that it tells by their numbers,
-/// from 1.
-pub const PLACES: [&str; 58] = [
+/// from 1. Those of Loops come last.
+pub fn places(loops: bool) -> Vec<&'static str> {
+    let of_loops = if loops { &OF_LOOPS[..] } else { &[] };
+    [&PLACES, of_loops].concat()
+}
+
+const PLACES: [&str; 58] = [
     "Settling refreshes stale gates once, before its checks. A pulse raised by a check leaves gates \
      stale, and a later VarSet is seen through them at once.",
     "Refreshing a gate refreshes all its stale pure sources, the unchosen side of a Select too.",
@@ -91,6 +96,37 @@ pub const PLACES: [&str; 58] = [
      become f64s narrow nothing.",
     "The count begins anew in every tick. A stopped record has what was counted up to the stop: what is \
      not done after a full list does not count.",
+];
+
+/// Those of document 02's K5, from 59.
+const OF_LOOPS: [&str; 16] = [
+    "A gate's rank is its word without the body. Units go by rank, whatever their bodies, and are carried by \
+     rank alone.",
+    "Count, FirstIndex and Step are read once, before the first run, all three also where none is made: \
+     nothing is 0, 0 and 1, a Float loses its fraction. Count may be 2^63 - 1.",
+    "Index is the first plus done times step, wrapping at 64 bits.",
+    "Index and what a Loop shows are marked only where they change.",
+    "A Loop's runs stand in the chain that called it, which waits. Firing Body is no step. After the last run \
+     IterationsExecuted, bAborted and bRunning are shown, in this order, then Completed is fired.",
+    "A Break ends the innermost Loop that runs, after its run, which counts and goes on to its end. One asked \
+     for around an inner Loop survives it; outside any Loop it ends nothing.",
+    "A Union passes once in each run of the body that runs, and the runs around keep theirs; where a fork or a \
+     unit reaches it, once a tick.",
+    "Remote calls that a body finds join the unit's forks, and run outside bodies when its whole chain has \
+     ended.",
+    "One chain stack of 256 calls for the chain and all bodies that run in it, tested at the calls of Body too; \
+     one list of 256 forks.",
+    "100,000 runs of bodies in a tick, over all Loops: the next aborts its Loop, before Index is set, and \
+     Completed is fired. A Loop that makes no run is not aborted.",
+    "Inside is where the chain is, not where the gate lies: a fork of a body, and a gate of a body that begins \
+     as a unit, write outside. One write outside by the unit is enough.",
+    "What reads a Var that a unit of the main pass wrote only inside is put off, whatever its rank, in the order \
+     raised: ChangeDetectors and true pins, nothing else, and nothing in the late pass.",
+    "An input loses its mark when it is checked, whatever comes of it.",
+    "Marking for what is put off stops at a gate that is stale already, and reaches an input that waits already.",
+    "Carried by rank or put off, the list is one, of 256.",
+    "Question 19: both ends of a call in one body, every body a Loop's, one entry for each Loop, in its body, \
+     and no ring of bodies.",
 ];
 
 /// Places that no circuit can tell, and how they are held.

@@ -4,21 +4,23 @@
 use super::Case;
 use crate::Lent;
 use crate::build::*;
+use crate::generate::ASKED;
+use crate::kinds::kinds_taken;
 
-pub fn cases() -> Vec<Case> {
+pub fn cases(loops: bool) -> Vec<Case> {
     let mut cases = Vec::new();
     cases.extend(question_1());
     cases.extend(question_2());
-    cases.extend(question_3());
-    cases.extend(question_4_wires());
+    cases.extend(question_3(loops));
+    cases.extend(question_4_wires(loops));
     cases.extend(question_4_settings());
-    cases.extend(question_5());
+    cases.extend(question_5(loops));
     cases.extend(question_6());
     cases.extend(question_7());
     cases.extend(question_8());
     cases.extend(question_9());
     cases.extend(question_10());
-    cases.extend(pairs());
+    cases.extend(pairs(loops));
     cases
 }
 
@@ -166,17 +168,19 @@ fn question_2() -> Vec<Case> {
     ]
 }
 
-fn question_3() -> Vec<Case> {
+/// Where Loops are taken, words of 65,536 and more are asked about in the group
+/// of Loops.
+fn question_3(loops: bool) -> Vec<Case> {
+    let past = kinds_taken(loops) + 1;
     let kind = |kind: i64| move |d: &mut Draft| d.c.gates[0].0 = kind;
     let rank = |rank: i64| move |d: &mut Draft| d.c.gates[4].1 = rank;
-    vec![
+    let mut cases = vec![
         no(3, "kind 0", kind(0)),
-        no(3, "kind 29", kind(29)),
+        no(3, &format!("kind {past}"), kind(past)),
         no(3, "kind -1", kind(-1)),
         no(3, "kind 28 + 2^32", kind(28 + (1 << 32))),
-        no(3, "the last kind", |d| d.c.gates[4].0 = 29),
+        no(3, "the last kind", |d| d.c.gates[4].0 = past),
         no(3, "rank -1", rank(-1)),
-        no(3, "rank 65536", rank(65_536)),
         no(3, "rank 2^32", rank(1 << 32)),
         no(3, "an input more", |d| d.c.inputs.push((-1, 0))),
         no(3, "an input less", |d| {
@@ -189,10 +193,14 @@ fn question_3() -> Vec<Case> {
         yes(3, "a gate without inputs at the end", |d| {
             d.c.delta_time();
         }),
-    ]
+    ];
+    if !loops {
+        cases.insert(6, no(3, "rank 65536", rank(65_536)));
+    }
+    cases
 }
 
-fn question_4_wires() -> Vec<Case> {
+fn question_4_wires(loops: bool) -> Vec<Case> {
     let source = |to: i64| move |d: &mut Draft| d.c.inputs[d.reroute.pin("RER_Input").0 as usize].0 = to;
     let stored =
         |name: i64| move |d: &mut Draft| d.c.inputs[d.reroute.pin("RER_Input").0 as usize] = (-1, name);
@@ -220,7 +228,7 @@ fn question_4_wires() -> Vec<Case> {
             d.c.inputs[d.toggle.pin("Exec").0 as usize] = (1, 1)
         }),
     ];
-    for kind in 1..=28 {
+    for kind in 1..=kinds_taken(loops) {
         for (k, pin) in inputs_of(kind).into_iter().enumerate() {
             let what =
                 format!("on {} {}", kind_name(kind), pin.trim_start_matches("E:").trim_start_matches("S:"));
@@ -253,8 +261,16 @@ fn with_settings(d: &mut Draft, kind: i64) -> Gate {
         match pin {
             "S:variable" => d.c.feed(gate.pin("variable"), d.var.number),
             "S:channel" => d.c.feed(gate.pin("channel"), 0),
+            "S:loop" => {
+                let repeat = d.c.repeat(0, NOTHING, NOTHING, NOTHING);
+                d.c.feed(gate.pin("loop"), repeat.number);
+                d.c.put_inside(repeat, &[gate]);
+            }
             _ => (),
         }
+    }
+    if kind == LOOP {
+        d.c.body(gate);
     }
     gate
 }
@@ -342,7 +358,7 @@ fn shown(with: Feed) -> String {
     }
 }
 
-fn question_5() -> Vec<Case> {
+fn question_5(loops: bool) -> Vec<Case> {
     let from = |from: i64| move |d: &mut Draft| d.c.calls[0].0 = from;
     let to = |to: i64| move |d: &mut Draft| d.c.calls[0].1 = to;
     let mut cases = vec![
@@ -361,12 +377,14 @@ fn question_5() -> Vec<Case> {
         yes(5, "remote", |d| d.c.calls[0].1 += 1),
         yes(5, "a pin with a source", |d| d.c.feed(d.toggle.pin("Exec"), d.world)).tells(&[8]),
     ];
-    for kind in 1..=28 {
+    for kind in 1..=kinds_taken(loops) {
         for (k, out) in outputs_of(kind).into_iter().enumerate() {
             let what = format!("from {} {}", kind_name(kind), out.trim_end_matches('!'));
             let edit = move |d: &mut Draft| {
-                let at = with_settings(d, kind).first_output + k as i64;
-                d.c.calls[0].0 = at;
+                let gate = with_settings(d, kind);
+                let body = d.c.gates[gate.number as usize].1 / RANKS;
+                d.c.gates[d.toggle.number as usize].1 += RANKS * body;
+                d.c.calls[0].0 = gate.first_output + k as i64;
             };
             cases.push(if may_call(out) { yes(5, &what, edit) } else { no(5, &what, edit) });
         }
@@ -565,7 +583,8 @@ fn question_10() -> Vec<Case> {
     ]
 }
 
-/// One fault of each question, none of which touches another's.
+/// One fault of each question, none of which touches another's; that of 19 is a
+/// call out of the body of a Loop that is there for it.
 fn fault(question: u8, d: &mut Draft) {
     match question {
         2 => d.c.constants.push((4, 0)),
@@ -576,15 +595,20 @@ fn fault(question: u8, d: &mut Draft) {
         7 => d.lent.units = 0,
         9 => d.s.ticks[1].0 = bits(-1.0),
         10 => d.s.stimuli[0].0 = d.var.number,
+        19 => {
+            let entry = with_settings(d, ENTRY);
+            d.c.call(entry, d.toggle);
+        }
         _ => (),
     }
 }
 
-/// Two faults: the lower question's number is the answer.
-fn pairs() -> Vec<Case> {
+/// Two faults: the number of the question asked first is the answer.
+fn pairs(loops: bool) -> Vec<Case> {
     let mut cases = Vec::new();
-    for low in 1..=10 {
-        for high in low + 1..=10 {
+    let asked: Vec<u8> = ASKED.into_iter().filter(|&question| loops || question != 19).collect();
+    for (k, &low) in asked.iter().enumerate() {
+        for &high in &asked[k + 1..] {
             let mut case = edited(format!("q{low}-no-and-{high}"), |d| {
                 fault(low, d);
                 fault(high, d);
@@ -599,16 +623,16 @@ fn pairs() -> Vec<Case> {
             cases.push(case);
         }
     }
-    cases.push(bad_constant_and_kind());
+    cases.push(bad_constant_and_kind(kinds_taken(loops) + 1));
     cases
 }
 
 /// As the pair of questions 2 and 3, by a kind in place of a rank.
-fn bad_constant_and_kind() -> Case {
+fn bad_constant_and_kind(kind: i64) -> Case {
     let mut case = edited("q2-no-and-3-by-a-kind".into(), |d| {
         fault(2, d);
-        d.c.gates[2].0 = 29;
+        d.c.gates[2].0 = kind;
     });
-    case.shows = "Questions 2 and 3, both no, the latter by a gate of kind 29.".into();
+    case.shows = format!("Questions 2 and 3, both no, the latter by a gate of kind {kind}.");
     case
 }

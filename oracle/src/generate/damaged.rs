@@ -1,15 +1,24 @@
 //! Damaged circuits and scripts: one fault or two of known questions.
 
 use super::valid::draft;
-use super::{Family, Random};
+use super::{Family, Random, looped};
 use crate::Lent;
 use crate::build::*;
 use crate::case::Case;
+use crate::kinds::LOOPS_OPEN;
 
-/// A damaged case and the questions whose answer is no in it.
+/// The questions in the order in which they are asked.
+pub const ASKED: [u8; 11] = [1, 2, 3, 4, 5, 19, 6, 7, 8, 9, 10];
+
+/// A damaged case and the questions whose answer is no in it, as they are asked.
 pub struct Damaged {
     pub case: Case,
     pub questions: Vec<u8>,
+}
+
+fn in_order(questions: &mut Vec<u8>) {
+    questions.sort_by_key(|q| ASKED.iter().position(|asked| asked == q));
+    questions.dedup();
 }
 
 /// A small circuit of the family, with gates of its own for the faults to
@@ -24,8 +33,13 @@ struct Draft {
     reroute: Gate,
 }
 
-/// The damaged case of a seed.
+/// The damaged case of a seed, without a Loop.
 pub fn damaged(seed: u64) -> Damaged {
+    damaged_with(seed, LOOPS_OPEN)
+}
+
+/// [`damaged`], whether or not Loops are taken.
+pub fn damaged_with(seed: u64, loops: bool) -> Damaged {
     let mut r = Random::new(seed ^ 0xDA3A_6ED0_0000_0000);
     let mut d = whole(seed);
     let mut questions = vec![1 + r.below(10) as u8];
@@ -34,9 +48,11 @@ pub fn damaged(seed: u64) -> Damaged {
         questions.sort_unstable();
         questions.dedup();
     }
-    for &question in &questions {
-        fault(question, &mut r, &mut d);
+    let drawn = questions.clone();
+    for (question, drawn) in questions.iter_mut().zip(&drawn) {
+        *question = fault(*drawn, &mut r, &mut d, loops);
     }
+    in_order(&mut questions);
     let (mut circuit, mut script) = (d.c.bytes(), d.s.bytes());
     if questions.contains(&1) {
         spoil(&mut r, &mut circuit, &[65, 65, 641, 257]);
@@ -62,11 +78,12 @@ fn whole(seed: u64) -> Draft {
     Draft { c, s, lent: Lent::default(), world, toggle, var, reroute }
 }
 
-/// One of the faults of a question; those of 1 and 8 are made on the bytes.
-fn fault(question: u8, r: &mut Random, d: &mut Draft) {
+/// One of the faults of a question; those of 1 and 8 are made on the bytes. The
+/// answer is the question that it is a fault of where `loops` are taken or not.
+fn fault(question: u8, r: &mut Random, d: &mut Draft, loops: bool) -> u8 {
     match question {
         2 => constant(r, d),
-        3 => kind_or_rank(r, d),
+        3 => return kind_or_rank(r, d, loops),
         4 => input(r, d),
         5 => call(r, d),
         6 => ring(r, d),
@@ -75,6 +92,7 @@ fn fault(question: u8, r: &mut Random, d: &mut Draft) {
         10 => stimulus(r, d),
         _ => (),
     }
+    question
 }
 
 /// Bytes that are not whole words, not of the length they say, or whose
@@ -118,17 +136,30 @@ fn constant(r: &mut Random, d: &mut Draft) {
     }
 }
 
-fn kind_or_rank(r: &mut Random, d: &mut Draft) {
+/// A kind of 29 is wrong by its inputs where Loops are taken, but for a gate of
+/// four inputs, which is given a kind of 32; a word of 65,536 is then a body
+/// without a Loop, and asked for by question 19.
+fn kind_or_rank(r: &mut Random, d: &mut Draft, loops: bool) -> u8 {
     let at = r.below(d.c.gates.len());
     match r.below(4) {
-        0 => d.c.gates[at].0 = r.pick(&[0, 29, -1, 28 + (1 << 32), i64::MIN]),
-        1 => d.c.gates[at].1 = r.pick(&[-1, 65_536, 1 << 32, i64::MIN]),
+        0 => {
+            let four = d.c.gates[at].0 == STOPWATCH;
+            let kind = r.pick(&[0, LOOP, -1, 28 + (1 << 32), i64::MIN]);
+            d.c.gates[at].0 = if loops && four && kind == LOOP { 32 } else { kind };
+        }
+        1 => {
+            d.c.gates[at].1 = r.pick(&[-1, RANKS, 1 << 32, i64::MIN]);
+            if loops && d.c.gates[at].1 == RANKS {
+                return 19;
+            }
+        }
         2 => d.c.inputs.push((-1, 0)),
         _ => {
             d.c.gates.push((DELTA_TIME, 0));
             d.c.inputs.push((-1, 0));
         }
     }
+    3
 }
 
 /// A fault on the input of a gate that is there for it.
@@ -265,5 +296,123 @@ fn stimulus(r: &mut Random, d: &mut Draft) {
         d.s.stimuli[at].0 = r.pick(&[-1, 64, 1 << 32, d.toggle.number, d.var.number]);
     } else {
         d.s.stimuli[at].1 = r.pick(&[-1, constants + 1, 1 << 32]);
+    }
+}
+
+/// A circuit with Loops, and gates of its own for the faults to fall on: a World
+/// event and a Toggle outside, a Loop with its entry, and a Toggle in its body.
+struct Looped {
+    c: Circuit,
+    world: Gate,
+    outside: Gate,
+    repeat: Gate,
+    entry: Gate,
+    inside: Gate,
+    reroute: Gate,
+}
+
+/// The damaged case of a seed with Loops, for one or two of questions 3, 4, 5, 19
+/// and 6.
+pub fn damaged_loops(seed: u64) -> Damaged {
+    let mut r = Random::new(seed ^ 0x1003_6ED0_0000_0000);
+    let (c, mut s) = looped::draft(seed, Family::Loops);
+    let mut d = with_own_gates(c);
+    s.tick(0.25).fire(d.world);
+    let mut questions = vec![r.pick(&[3, 4, 5, 19, 19, 19])];
+    if r.chance(40) {
+        questions.push(r.pick(&[4, 5, 19, 6]));
+    }
+    in_order(&mut questions);
+    for &question in &questions {
+        match question {
+            3 => kind_or_body(&mut r, &mut d),
+            4 => setting_of_entry(&mut r, &mut d),
+            5 => call_of_loop(&mut r, &mut d),
+            19 => body(&mut r, &mut d),
+            _ => d.c.feed(d.reroute.pin("RER_Input"), d.reroute),
+        }
+    }
+    let list: Vec<String> = questions.iter().map(u8::to_string).collect();
+    let shows = format!("With Loops, damaged for question {}.", list.join(" and "));
+    let case = Case::new(format!("damaged-loops-{seed}"), shows, &d.c, &s);
+    Damaged { case, questions }
+}
+
+fn with_own_gates(mut c: Circuit) -> Looped {
+    let world = c.world_event(0);
+    let outside = c.toggle(0);
+    let repeat = c.repeat(0, 2, 0, 1);
+    let entry = c.body(repeat);
+    let inside = c.toggle(0);
+    let reroute = c.reroute(NOTHING);
+    c.put_inside(repeat, &[inside]);
+    c.call_all(world, &[outside, repeat]);
+    c.call(entry, inside);
+    Looped { c, world, outside, repeat, entry, inside, reroute }
+}
+
+fn kind_or_body(r: &mut Random, d: &mut Looped) {
+    let at = r.below(d.c.gates.len());
+    match r.below(3) {
+        0 => d.c.gates[at].0 = r.pick(&[0, 32, -1, LOOP + (1 << 32)]),
+        1 => d.c.gates[at].1 = r.pick(&[-1, -RANKS, 65 * RANKS, RANKS + (1 << 32), i64::MIN]),
+        _ => d.c.inputs.push((-1, 0)),
+    }
+}
+
+fn setting_of_entry(r: &mut Random, d: &mut Looped) {
+    let number = d.repeat.number;
+    let past = d.c.gates.len() as i64 + 64;
+    let with: [Feed; 7] = [
+        NOTHING,
+        (number as f64).into(),
+        true.into(),
+        (-1).into(),
+        d.outside.number.into(),
+        past.into(),
+        (number + (1 << 32)).into(),
+    ];
+    d.c.feed(d.entry.pin("loop"), r.pick(&with));
+}
+
+fn call_of_loop(r: &mut Random, d: &mut Looped) {
+    let (from, to) = (d.world.exit().0, 2 * d.repeat.entry().0);
+    let bad = [
+        (d.repeat.value().0, to),
+        (d.entry.value().0, to),
+        (from, 2 * d.repeat.pin("Count").0),
+        (from, 2 * d.repeat.pin("Step").0 + 1),
+        (from, 2 * d.entry.pin("loop").0),
+        (from, -2),
+    ];
+    let at = r.below(d.c.calls.len() + 1);
+    d.c.calls.insert(at, r.pick(&bad));
+}
+
+fn body(r: &mut Random, d: &mut Looped) {
+    match r.below(9) {
+        0 => d.c.call(d.world, d.inside),
+        1 => d.c.remote(d.inside, d.outside),
+        2 => {
+            d.c.repeat(0, 1, 0, 1);
+        }
+        3 => {
+            d.c.body(d.repeat);
+        }
+        4 => d.c.gates[d.entry.number as usize].1 = 0,
+        5 => d.c.gates[d.reroute.number as usize].1 = RANKS * (1 + d.outside.number),
+        6 => d.c.gates[d.reroute.number as usize].1 = RANKS * (1 + d.c.gates.len() as i64).min(64),
+        7 => {
+            let own = d.c.repeat(0, 1, 0, 1);
+            d.c.body(own);
+            d.c.put_inside(own, &[own]);
+        }
+        _ => {
+            let pair = [0; 2].map(|_| d.c.repeat(0, 1, 0, 1));
+            for (k, own) in pair.into_iter().enumerate() {
+                d.c.body(own);
+                d.c.put_inside(own, &[pair[1 - k]]);
+            }
+        }
     }
 }

@@ -1,5 +1,7 @@
 //! What a family of random circuits is about, and what it draws from.
 
+use crate::kinds::LOOPS_OPEN;
+
 #[derive(Clone, Copy, Debug, PartialEq, Eq)]
 pub enum Family {
     Small,
@@ -18,9 +20,15 @@ pub enum Family {
     Stops,
     Stale,
     Narrowed,
+    Loops,
+    PutOff,
 }
 
-pub const FAMILIES: [Family; 16] = [
+/// The families, those with Loops only where these are taken.
+pub const FAMILIES: [Family; if LOOPS_OPEN { 18 } else { 16 }] = first();
+
+/// All families, those with Loops last.
+const EVERY: [Family; 18] = [
     Family::Small,
     Family::Pure,
     Family::Ranks,
@@ -37,17 +45,40 @@ pub const FAMILIES: [Family; 16] = [
     Family::Stops,
     Family::Stale,
     Family::Narrowed,
+    Family::Loops,
+    Family::PutOff,
 ];
+
+/// The families with Loops.
+pub const WITH_LOOPS: [Family; 2] = [Family::Loops, Family::PutOff];
+
+const fn first<const N: usize>() -> [Family; N] {
+    let mut families = [EVERY[0]; N];
+    let mut k = 1;
+    while k < N {
+        families[k] = EVERY[k];
+        k += 1;
+    }
+    families
+}
+
+/// The families, whether or not those with Loops are among them.
+pub fn families(loops: bool) -> impl Iterator<Item = Family> {
+    EVERY.into_iter().filter(move |family| loops || !WITH_LOOPS.contains(family))
+}
 
 /// The families of the stated circuits: all but the one that was made for what
 /// units see when they begin.
-pub fn stated_families() -> impl Iterator<Item = Family> {
-    FAMILIES.into_iter().filter(|&family| family != Family::Stale)
+pub fn stated_families(loops: bool) -> impl Iterator<Item = Family> {
+    families(loops).filter(|&family| family != Family::Stale)
 }
 
 impl Family {
     pub fn name(self) -> String {
-        format!("{self:?}").to_lowercase()
+        match self {
+            Family::PutOff => "put-off".into(),
+            _ => format!("{self:?}").to_lowercase(),
+        }
     }
 
     pub fn about(self) -> &'static str {
@@ -68,6 +99,10 @@ impl Family {
             Family::Stops => "Circuits that end with 12 or 13",
             Family::Stale => "Pulses through Selects that nothing watches, and chains that read them",
             Family::Narrowed => "Waits and tick lengths that are f32s, and as many that are none",
+            Family::Loops => "Loops in one another, with Breaks, Unions and forks in their bodies",
+            Family::PutOff => {
+                "Variables written in bodies, and what watches them, directly and behind Selects"
+            }
         }
     }
 }
@@ -251,6 +286,29 @@ impl Family {
                 lengths: LENGTHS_OF_BOTH,
                 seconds: SECONDS_OF_BOTH,
                 ..of(&[12, 12, 12, 13, 13, 17, 14, 22, 23, 6, 28])
+            },
+            Family::Loops => Profile {
+                gates: (5, 16),
+                ticks: (3, 6),
+                driven: 10,
+                calling: 80,
+                remote: 15,
+                lengths: &[0.25, 0.25, 0.5, 0.1],
+                ..of(&[
+                    31, 31, 31, 20, 20, 20, 21, 21, 19, 19, 22, 23, 23, 1, 5, 6, 18, 24, 26, 16, 11, 14, 9, 2,
+                ])
+            },
+            Family::PutOff => Profile {
+                gates: (8, 18),
+                ticks: (3, 6),
+                ranks: vec![2, 4, 5, 5, 6, 9],
+                driven: 35,
+                calling: 60,
+                remote: 10,
+                lengths: &[0.25, 0.25, 0.5],
+                ..of(&[
+                    19, 19, 19, 19, 5, 5, 6, 6, 6, 9, 22, 22, 1, 1, 1, 2, 7, 8, 10, 14, 14, 14, 23, 20, 31,
+                ])
             },
         }
     }

@@ -1,7 +1,7 @@
 //! Valid circuits and scripts of a family.
 
 use super::family::Profile;
-use super::{Family, Random};
+use super::{Family, Random, looped};
 use crate::build::*;
 use crate::case::Case;
 
@@ -36,7 +36,10 @@ const TICKS: &[i64] = &[0, 1, 2, 3, 4, 7, -1, i64::MIN, i64::MAX];
 
 /// The valid case of a family and a seed.
 pub fn valid(seed: u64, family: Family) -> Case {
-    let (c, s) = draft(seed, family);
+    let (c, s) = match family {
+        Family::Loops | Family::PutOff => looped::draft(seed, family),
+        _ => draft(seed, family),
+    };
     let name = format!("random-{}-{seed}", family.name());
     let mut case = Case::new(name, format!("{}.", family.about()), &c, &s);
     let queues = c.gates.iter().filter(|g| matches!(g.0, QUEUE_TICKS | QUEUE_SECONDS)).count();
@@ -98,13 +101,13 @@ fn gates(r: &mut Random, p: &Profile, c: &mut Circuit) -> Vec<Gate> {
 }
 
 /// A place for each gate: a pure gate reads pure gates of lower places.
-fn order(r: &mut Random, n: usize) -> Vec<usize> {
+pub(super) fn order(r: &mut Random, n: usize) -> Vec<usize> {
     let mut places: Vec<usize> = (0..n).collect();
     r.shuffle(&mut places);
     places
 }
 
-fn is_pure(g: Gate) -> bool {
+pub(super) fn is_pure(g: Gate) -> bool {
     (SELECT..=SERVER_UPTIME).contains(&g.kind)
 }
 
@@ -124,7 +127,13 @@ fn feed(r: &mut Random, p: &Profile, gates: &[Gate], order: &[usize], g: Gate, p
     if r.chance(20) { Some(value(r).into()) } else { source(r, gates, order, g) }
 }
 
-fn setting_of(r: &mut Random, p: &Profile, gates: &[Gate], g: Gate, setting: &str) -> Option<Feed> {
+pub(super) fn setting_of(
+    r: &mut Random,
+    p: &Profile,
+    gates: &[Gate],
+    g: Gate,
+    setting: &str,
+) -> Option<Feed> {
     let optional = r.chance(75);
     match (setting, g.kind) {
         ("variable", _) => {

@@ -7,7 +7,9 @@
 //! source fires. Any other wire carries a value. A value wired into an Exec
 //! pin is a trigger: the gate runs when that value changes to truthy.
 
+use crate::collections::HashMap;
 use crate::fields::{BrdbStruct, BrdbValue};
+use crate::load::BrickAddr;
 use crate::value::Value;
 
 pub type GateId = u32;
@@ -33,6 +35,11 @@ pub enum Op {
     Branch,
     Union,
     SendEvent { global: bool },
+    /// A loop plane's shell, run by its `Exec` pin.
+    Loop(LoopKind),
+    /// The gate inside a callable plane whose `Body` starts each run.
+    CallableEntry,
+    CallableBreak,
     /// A gate that pulses when its input changes.
     Detector(Detector),
     /// Each `ExecIn` records the data inputs, released in order after a
@@ -52,6 +59,11 @@ pub enum Detector {
     Change,
     /// Fires `OnRisingEdge` / `OnFallingEdge` as a number rises or falls.
     EdgeExec,
+}
+
+#[derive(Clone, Copy, Debug, PartialEq, Eq)]
+pub enum LoopKind {
+    CountFor,
 }
 
 impl Op {
@@ -107,6 +119,7 @@ pub struct Output {
 #[derive(Clone)]
 pub struct Gate {
     pub op: Op,
+    pub addr: BrickAddr,
     pub inputs: Vec<Input>,
     pub outputs: Vec<Output>,
     pub data: Option<BrdbStruct>,
@@ -159,6 +172,8 @@ impl Gate {
 #[derive(Clone)]
 pub struct Graph {
     pub gates: Vec<Gate>,
+    /// Microchip brick -> its inner grid.
+    pub chip_grids: HashMap<BrickAddr, u32>,
 }
 
 impl Graph {

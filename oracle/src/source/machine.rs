@@ -24,6 +24,10 @@ use crate::value::Value;
 use crate::world::World;
 use crate::{SimError, SimOptions};
 
+mod callable;
+
+use callable::Callable;
+
 #[path = "../limits.rs"] // oracle:
 mod limits; // oracle:
 #[path = "../record.rs"] // oracle:
@@ -132,6 +136,15 @@ pub struct Machine {
     forks: VecDeque<(GateId, u16)>,
     written: Vec<GateId>,
     written_set: HashSet<GateId>,
+    /// Vars this chain wrote inside a callable, and the watched inputs their
+    /// change reaches: those act a tick late whatever their rank (P27 to
+    /// P29), where a plain chain's write follows rank (P04 `C1@5`). A plain
+    /// write to the same var in the chain, before or after, makes it act on
+    /// time (P30 `b2@4 b3@6`).
+    written_in_plane: HashSet<GateId>,
+    written_outside: HashSet<GateId>,
+    late_checks: HashSet<(GateId, u16)>,
+    marking_late: bool,
     outbox: Vec<(GateId, Send)>,
     receivers: HashMap<String, Vec<GateId>>,
     timed: Vec<GateId>,
@@ -141,6 +154,17 @@ pub struct Machine {
     /// Totals over the whole run, for `stats`.
     total_steps: u64,
     total_evals: u64,
+    callables: HashMap<GateId, Callable>,
+    /// Callable invocations run this tick.
+    invocations: u64,
+    /// Callables running inside one another.
+    depth: u32,
+    /// A Break ran inside the innermost running loop.
+    break_requested: bool,
+    /// The grid of each running callable's plane, innermost last.
+    planes: Vec<u32>,
+    /// The grid each chip grid sits in.
+    grid_parent: HashMap<u32, u32>,
     /// The Exec Unions that have passed an activation, for the tick and then
     /// for each running invocation (P25, P26: a Union passes once per tick).
     unions_passed: Vec<HashSet<GateId>>,
@@ -173,6 +197,7 @@ impl Machine {
         self.tally.narrow(self.dt); // oracle: for advance_buffers, in every tick
         self.uptime += self.dt;
         self.steps = 0;
+        self.invocations = 0;
         self.unions_passed[0].clear();
 
         for (g, act) in std::mem::take(&mut self.carried) {
@@ -337,7 +362,9 @@ impl Machine {
     /// depth-first.
     fn run_chain(&mut self, g: GateId, i: u16) -> Result<(), SimError> {
         let mut stack: Vec<(GateId, u16)> = vec![(g, i)];
+        self.tally.stack += 1; // oracle:
         while let Some((g, i)) = stack.pop() {
+            self.tally.stack -= 1; // oracle:
             self.steps += 1;
             self.total_steps += 1;
             if self.steps > MAX_STEPS_PER_TICK {
@@ -357,6 +384,7 @@ impl Machine {
         self.push_calls(g, o, &mut stack);
         self.within_limits()?; // oracle:
         while let Some((g, i)) = stack.pop() {
+            self.tally.stack -= 1; // oracle:
             self.steps += 1;
             self.total_steps += 1;
             if self.steps > MAX_STEPS_PER_TICK {
@@ -374,6 +402,14 @@ impl Machine {
     /// first-stored runs first, each to completion; remote ones to run when
     /// the chain is done.
     fn push_calls(&mut self, g: GateId, o: u16, stack: &mut Vec<(GateId, u16)>) {
+        if !self.planes.is_empty()
+            && self.graph.gates[g as usize].outputs[o as usize]
+                .calls
+                .iter()
+                .any(|c| self.frame_of(self.graph.gate(c.gate).addr.grid) != self.planes.len())
+        {
+            return self.push_calls_in_plane(g, o, stack);
+        }
         let calls = &self.graph.gates[g as usize].outputs[o as usize].calls;
         for c in calls {
             if c.remote {
@@ -385,18 +421,75 @@ impl Machine {
                 stack.push((c.gate, c.input));
             }
         }
-        self.tally.hold(self.forks.len(), stack.len()); // oracle:
+        self.tally.hold(self.forks.len(), calls.iter().filter(|c| !c.remote).count()); // oracle:
         self.look_on(); // oracle:
+    }
+
+    /// [`Self::push_calls`] inside a callable when some call leaves its plane.
+    /// P24 to P26: an exec out of a loop body through a boundary pin runs
+    /// nothing outside, but every Exec Union it reaches counts as having
+    /// passed for that tick.
+    fn push_calls_in_plane(&mut self, g: GateId, o: u16, stack: &mut Vec<(GateId, u16)>) {
+        self.tally.never("question 19 keeps both ends of a call in one body"); // oracle:
+        let calls = self.graph.gates[g as usize].outputs[o as usize].calls.clone();
+        let depth = self.planes.len();
+        for c in &calls {
+            match self.frame_of(self.graph.gate(c.gate).addr.grid) {
+                f if f == depth => {
+                    if c.remote {
+                        self.forks.push_back((c.gate, c.input));
+                    }
+                }
+                f => self.lose(c.gate, f),
+            }
+        }
+        for c in calls.iter().rev() {
+            if !c.remote && self.frame_of(self.graph.gate(c.gate).addr.grid) == depth {
+                stack.push((c.gate, c.input));
+            }
+        }
+    }
+
+    /// Which running frame `grid` belongs to: the innermost running plane
+    /// that holds it (1 for the outermost), 0 for neither.
+    fn frame_of(&self, grid: u32) -> usize {
+        let mut at = grid;
+        loop {
+            if let Some(k) = self.planes.iter().rposition(|&p| p == at) {
+                return k + 1;
+            }
+            match self.grid_parent.get(&at) {
+                Some(&up) => at = up,
+                None => return 0,
+            }
+        }
+    }
+
+    /// An exec lost leaving a plane reached `g`, which belongs to frame
+    /// `frame`: mark the Unions it passes through as passed.
+    fn lose(&mut self, g: GateId, frame: usize) {
+        let mut work = vec![g];
+        while let Some(g) = work.pop() {
+            if self.graph.gate(g).op != Op::Union || !self.unions_passed[frame].insert(g) {
+                continue;
+            }
+            if let Some(o) = self.graph.gate(g).output("ExecOut") {
+                work.extend(self.graph.gate(g).outputs[o as usize].calls.iter().map(|c| c.gate));
+            }
+        }
     }
 
     /// Publish this chain's var writes to the gates off each var.
     fn publish_writes(&mut self) {
         for g in std::mem::take(&mut self.written) {
             self.written_set.remove(&g);
+            let outside = self.written_outside.remove(&g);
+            self.marking_late = self.written_in_plane.remove(&g) && !outside;
             if let Some(o) = self.graph.gate(g).output("Value") {
                 self.mark_readers(g, o);
             }
         }
+        self.marking_late = false;
     }
 
     /// Settle: re-read every watched input whose cone changed and act on it.
@@ -408,6 +501,7 @@ impl Machine {
         }
         while let Some((g, i)) = self.to_check.pop_front() {
             self.queued_check.remove(&(g, i));
+            let late = self.late_checks.remove(&(g, i)) && !self.in_late;
             let v = self.read_input(g, i)?;
             let prev = self.last.insert((g, i), v.clone());
             let changed = prev.as_ref() != Some(&v);
@@ -416,6 +510,8 @@ impl Machine {
             }
             let gate = self.graph.gate(g);
             match gate.op {
+                Op::ChangeDetector if late && !self.tally.room(self.carried.len(), limits::LIST) => {} // oracle:
+                Op::ChangeDetector if late => self.carried.push((g, Activation::Fire)),
                 Op::ChangeDetector => self.activate(g, Activation::Fire),
                 Op::Detector(d) => self.detect(g, d, prev.flatten().as_ref(), v.as_ref()),
                 Op::BufferTicks | Op::BufferSeconds if gate.inputs[i as usize].name == "Input" => {
@@ -423,7 +519,12 @@ impl Machine {
                 }
                 _ => {
                     if v.as_ref().is_some_and(Value::truthy) {
-                        self.activate(g, Activation::Pin(i));
+                        if late {
+                            if !self.tally.room(self.carried.len(), limits::LIST) { return self.within_limits(); } // oracle:
+                            self.carried.push((g, Activation::Pin(i)));
+                        } else {
+                            self.activate(g, Activation::Pin(i));
+                        }
                     }
                 }
             }
@@ -465,6 +566,9 @@ impl Machine {
                         }
                     }
                 } else if self.is_watched(r, ri) {
+                    if self.marking_late {
+                        self.late_checks.insert((r, ri));
+                    }
                     if self.queued_check.insert((r, ri)) {
                         self.to_check.push_back((r, ri));
                     }
@@ -631,6 +735,11 @@ impl Machine {
     }
 
     fn record_write(&mut self, var: GateId) {
+        if self.depth > 0 {
+            self.written_in_plane.insert(var);
+        } else {
+            self.written_outside.insert(var);
+        }
         if self.written_set.insert(var) {
             self.written.push(var);
         }
@@ -761,6 +870,8 @@ impl Machine {
                 }
                 return Ok(None);
             }
+            Op::Loop(kind) => return self.run_loop(g, kind),
+            Op::CallableBreak => self.break_requested = true,
             _ => return Err(self.error(g, "not an exec gate")), // oracle: no world to ask
         }
         let _ = i;

@@ -1,6 +1,6 @@
 //! The source (wirescript-sim) with its outside operations cut off: strings,
-//! arrays, maps, prefabs, chat, displays, functions and loops, tweens,
-//! random, spawners, dampen and worlds. What is left of a body stands as in
+//! arrays, maps, prefabs, chat, displays, functions and loops over arrays and
+//! maps, tweens, random, spawners, dampen and worlds. What is left of a body stands as in
 //! the source; every line added to it ends with an `oracle:` mark. This file
 //! is what is left of lib.rs.
 

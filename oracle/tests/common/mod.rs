@@ -4,11 +4,11 @@
 
 use oracle::{Answer, Lent, run};
 
-/// Inputs and outputs of the kinds 1 to 28, counted in document 01.
-const INPUTS: [usize; 28] =
-    [3, 1, 0, 0, 1, 1, 1, 1, 1, 3, 3, 3, 3, 3, 4, 10, 10, 2, 3, 2, 1, 1, 3, 10, 10, 1, 1, 0];
-const OUTPUTS: [usize; 28] =
-    [1, 1, 1, 1, 1, 1, 2, 1, 2, 1, 1, 1, 1, 1, 2, 9, 9, 2, 1, 2, 1, 2, 3, 1, 1, 9, 9, 2];
+/// Inputs and outputs of the kinds 1 to 31, counted in documents 01 and 02.
+const INPUTS: [usize; 31] =
+    [3, 1, 0, 0, 1, 1, 1, 1, 1, 3, 3, 3, 3, 3, 4, 10, 10, 2, 3, 2, 1, 1, 3, 10, 10, 1, 1, 0, 4, 1, 1];
+const OUTPUTS: [usize; 31] =
+    [1, 1, 1, 1, 1, 1, 2, 1, 2, 1, 1, 1, 1, 1, 2, 9, 9, 2, 1, 2, 1, 2, 3, 1, 1, 9, 9, 2, 4, 2, 1];
 
 /// What an input holds, or what a stimulus brings.
 #[derive(Clone, Copy, Debug)]
@@ -68,7 +68,7 @@ impl Plan {
         at as i64 + 1
     }
 
-    fn first(&self, counts: &[usize; 28], gate: usize) -> i64 {
+    fn first(&self, counts: &[usize; 31], gate: usize) -> i64 {
         self.gates[..gate].iter().map(|g| counts[g.0 as usize - 1] as i64).sum()
     }
 

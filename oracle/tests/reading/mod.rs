@@ -6,7 +6,8 @@ use std::collections::{BTreeMap, BTreeSet};
 use std::sync::LazyLock;
 
 use oracle::circuits::{self, Case};
-use oracle::{Answer, build, run};
+use oracle::kinds::LOOPS_OPEN;
+use oracle::{Answer, build, run_with};
 
 /// Every stated circuit.
 pub static STATED: LazyLock<Vec<Case>> = LazyLock::new(circuits::all);
@@ -46,7 +47,12 @@ pub fn played(name: &str) -> Played {
 
 /// What a case played, unless it is refused.
 pub fn read(case: &Case) -> Option<Played> {
-    match run(&case.circuit, &case.script, &case.lent) {
+    read_with(LOOPS_OPEN, case)
+}
+
+/// [`read`], whether or not Loops are taken.
+pub fn read_with(loops: bool, case: &Case) -> Option<Played> {
+    match run_with(loops, &case.circuit, &case.script, &case.lent) {
         Answer::Refused(_) => None,
         Answer::Played { log, stop, ticks } => Some(of_log(case, log, stop, ticks)),
     }
@@ -57,7 +63,7 @@ pub fn of_log(case: &Case, log: Vec<i64>, stop: u8, done: u64) -> Played {
     let circuit = words_of(&case.circuit);
     let (g, k) = (circuit[0] as usize, circuit[1] as usize);
     let kinds = circuit[4 + 2 * k..][..g].to_vec();
-    let ranks = circuit[4 + 2 * k + g..][..g].to_vec();
+    let ranks = circuit[4 + 2 * k + g..][..g].iter().map(|word| word % build::RANKS).collect();
     let outputs = kinds.iter().map(|&kind| build::outputs_of(kind).len()).sum();
     let mut ticks = Vec::new();
     let mut rest = &log[..];
@@ -65,6 +71,19 @@ pub fn of_log(case: &Case, log: Vec<i64>, stop: u8, done: u64) -> Played {
         ticks.push(record(&mut rest, outputs));
     }
     Played { kinds, ranks, ticks, words: log, stop, done }
+}
+
+/// A case's circuit, as it can be built on, and its gates.
+pub fn circuit_of(case: &Case) -> (build::Circuit, Vec<build::Gate>) {
+    let words = words_of(&case.circuit);
+    let &[gates, constants, inputs, calls, ref rest @ ..] = &words[..] else { panic!("four sizes") };
+    let mut rest = rest;
+    let mut c = build::Circuit::new();
+    c.constants = pairs(&mut rest, constants as usize);
+    let gates = pairs(&mut rest, gates as usize).into_iter().map(|(kind, rank)| c.gate(kind, rank)).collect();
+    c.inputs = pairs(&mut rest, inputs as usize);
+    c.calls = pairs(&mut rest, calls as usize);
+    (c, gates)
 }
 
 /// The distances in ticks between one stimulus of a gate and the next, among
