@@ -105,10 +105,10 @@ pub fn run(
             told.len(),
         )
     };
-    // The contract of `hazhirun_run` says which numbers there are: 1 to 10 for a
+    // The contract of `hazhirun_run` says which numbers there are: 1 to 10 and 19 for a
     // refusal, 0 and 11 to 13 for a run (`numbers`, crates/run/specs/Call.antt).
     match number {
-        1..=10 => Answer::Refused(number),
+        1..=10 | 19 => Answer::Refused(number),
         stop => Answer::Played { stop, ticks: told[0], bytes: told[1] as usize },
     }
 }
@@ -129,6 +129,7 @@ pub fn text(number: u64) -> &'static str {
         11 => "a tick makes more steps than it may",
         12 => "a list is full",
         13 => "a record does not fit the log",
+        19 => "a call leaves its body, a Loop has no entry of its own, or bodies form a ring",
         _ => "no such number",
     }
 }

@@ -8,15 +8,15 @@ use std::env;
 
 use hazhirun_host::check;
 use oracle::circuits::{self, Case};
-use oracle::generate::{FAMILIES, damaged, valid};
+use oracle::generate::{ASKED, FAMILIES, damaged, damaged_loops, valid};
 
 /// How many damaged or random ones are compared, by default so many.
 fn calls(default: u64) -> u64 {
     env::var("HAZHIRUN_RUNS").map_or(default, |n| n.parse().unwrap())
 }
 
-/// How often each number was the oracle's answer.
-type Counts = [usize; 11];
+/// How often each number was the oracle's answer: 0, 1 to 10 and 19 are.
+type Counts = [usize; 20];
 
 /// Asks both about each case, of which the bytes stay as they are.
 fn compare(cases: impl IntoIterator<Item = Case>) -> Counts {
@@ -32,13 +32,20 @@ fn compare(cases: impl IntoIterator<Item = Case>) -> Counts {
     counts
 }
 
-/// One fault or two of the ten questions. Every number is met, 7 the least
-/// often: where only the areas are too small, a call that is lent none is not
-/// refused.
+/// One fault or two of the ten questions of document 01. Every number is met, 7
+/// the least often: where only the areas are too small, a call that is lent none
+/// is not refused.
 #[test]
 fn damaged_ones() {
     let counts = compare((0..calls(20_000)).map(|seed| damaged(seed).case));
-    assert!(counts.iter().all(|&n| n as u64 > calls(20_000) / 50), "{counts:?}");
+    assert!(counts[..11].iter().all(|&n| n as u64 > calls(20_000) / 50), "{counts:?}");
+}
+
+/// One fault or two of what is asked about Loops and bodies.
+#[test]
+fn damaged_ones_with_loops() {
+    let counts = compare((0..calls(20_000)).map(|seed| damaged_loops(seed).case));
+    assert!([3, 4, 5, 19].iter().all(|&n| counts[n] as u64 > calls(20_000) / 50), "{counts:?}");
 }
 
 #[test]
@@ -54,7 +61,7 @@ fn random_ones_of_every_family() {
 #[test]
 fn stated_ones() {
     let counts = compare(circuits::all());
-    assert!(counts.iter().all(|&n| n >= 10), "{counts:?}");
+    assert!(counts[0] >= 10 && ASKED.iter().all(|&n| counts[n as usize] >= 10), "{counts:?}");
 }
 
 /// Bytes cut off at every place, and each byte changed in turn: most of these

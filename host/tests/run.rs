@@ -8,7 +8,7 @@ use std::env;
 
 use hazhirun_host::{Answer, run};
 use oracle::circuits::{self, Case};
-use oracle::generate::{FAMILIES, damaged, valid};
+use oracle::generate::{FAMILIES, damaged, damaged_loops, valid};
 
 /// How many random and how many damaged calls are compared.
 fn calls() -> u64 {
@@ -84,6 +84,7 @@ fn random_ones_of_every_family() {
 fn damaged_ones() {
     let refused = (0..calls()).filter(|&n| compare(&damaged(100_000 + n).case, n)).count() as u64;
     assert!(refused > calls() / 2, "{refused}");
+    assert!((0..calls()).all(|n| compare(&damaged_loops(100_000 + n).case, n)));
 }
 
 /// The block of docs/FORMAT.md: its log is what both write.

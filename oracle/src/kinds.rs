@@ -9,7 +9,7 @@ use crate::graph::{Detector, LoopKind, Op};
 /// circuits, the vectors, what is packed and the generator's families have
 /// Loops. What is open can be asked for all the same (`run_with`,
 /// `circuits::groups_with`), so that the tests play Loops in any case.
-pub const LOOPS_OPEN: bool = false;
+pub const LOOPS_OPEN: bool = true;
 
 /// How many kinds question 3 takes.
 pub const fn kinds_taken(loops: bool) -> i64 {

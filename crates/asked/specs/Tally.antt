@@ -11,7 +11,7 @@ one-more n = (n + 1) % 2 ^ 64
 
 -- no case
 unfoldable pub none-asked : Tally
-none-asked = record { right = replicate 11 0; asked = 0; wrong = 0; cut = false }
+none-asked = record { right = replicate 20 0; asked = 0; wrong = 0; cut = false }
 
 -- one more of a number
 unfoldable pub counted : List ℕ → ℕ → List ℕ

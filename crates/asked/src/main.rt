@@ -115,6 +115,7 @@ fn print_tally(tally: Tally) {
     for i in 0..11 {
         print_right(i as u64, tally.right[i]);
     }
+    print_right(19, tally.right[19]);
     print_all(tally);
 }
 

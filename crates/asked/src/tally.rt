@@ -3,19 +3,19 @@ ghost use mathlib.Core.Path.{_≡_};
 ghost use Rattle.asked.specs.Tally.{none-asked, counted, with-right, with-wrong, with-cut};
 use std::num::wrapping_add_u64;
 
-// The cases that were right by their number (0, and the ten questions), how many were asked, how many were wrong, and whether one could not be read whole.
+// The cases that were right by their number (0, the ten questions, and 19), how many were asked, how many were wrong, and whether one could not be read whole.
 pub struct Tally {
-    pub right: [u64; 11],
+    pub right: [u64; 20],
     pub asked: u64,
     pub wrong: u64,
     pub cut: bool,
 }
 
 // One more of this number.
-fn counted(mut right: [u64; 11], number: u64) -> [u64; 11]
+fn counted(mut right: [u64; 20], number: u64) -> [u64; 20]
     ensures { λ r. ⌜ r ≡ counted right number ⌝ }
 {
-    if 11 <= number {
+    if 20 <= number {
         return right;
     }
     let i = number as usize;
@@ -29,7 +29,7 @@ impl Tally {
         ensures { λ r. ⌜ r ≡ none-asked ⌝ }
     {
         Self {
-            right: [0; 11],
+            right: [0; 20],
             asked: 0,
             wrong: 0,
             cut: false,

@@ -14,6 +14,8 @@ pub mod Cases
 pub mod Asking
 -- questions 4 and 5: one test of each input and of each call
 pub mod Rows
+-- question 19: calls, bodies and entries
+pub mod Nested
 -- binary digits of words
 pub mod Digits
 -- a loop that makes a word of gates

@@ -9,7 +9,7 @@ use lib.Dec.{leb}
 use Rattle.words.specs.Words.{words}
 use Rattle.model.specs.Base.{if_then_else_}
 use Rattle.model.specs.Circuit.{Circuit, circuit}
-use Rattle.model.specs.Questions.{Areas, question-1, question-2, question-3, question-4, question-5, question-6, question-7, queues, circuit-refusal, script-refusal, or-else, refusal}
+use Rattle.model.specs.Questions.{Areas, question-1, question-2, question-3, question-4, question-5, question-19, question-6, question-7, queues, circuit-refusal, script-refusal, or-else, refusal}
 use Rattle.links.specs.Links.{cells, net}
 use Rattle.links.proofs.Net.{net-cells}
 use Rattle.circuit.specs.Refusals.{words-refusal, links-refusal, areas-refusal, made-by, links-after}
@@ -57,7 +57,7 @@ words-passed s h = go (question-1 s (words s)) refl (question-2 (words s)) refl 
 pub links-show : (s l : List ℕ) → words-refusal s ≡ 0 → l ≡ cells (circuit (words s)) → net l ≡ circuit (words s)
 links-show s l h e = ap net e ∙ net-cells s (words-passed s h .sizes) (words-passed s h .gates)
 
--- ---- questions 4 to 7
+-- ---- questions 4, 5, 19, 6 and 7
 
 module _ (s l : List ℕ) (p : words-refusal s ≡ 0) (z : l ≡ cells (circuit (words s))) (t : Bool) (a : t ≡ question-4 (words s) (net l)) where
   four : t ≡ question-4 (words s) (circuit (words s))
@@ -75,26 +75,34 @@ module _ (s l : List ℕ) (p : words-refusal s ≡ 0) (z : l ≡ cells (circuit 
     unfolding links-refusal if_then_else_
     no-5 k = rw (← four, h, ← five, k)
 
-    module _ (k : not u ≡ false) (v : Bool) (d : v ≡ question-6 (net l)) where
-      six : v ≡ question-6 (circuit (words s))
-      six = d ∙ ap question-6 (links-show s l p z)
+    module _ (k : not u ≡ false) (i : Bool) (f : i ≡ question-19 (net l)) where
+      nineteen : i ≡ question-19 (circuit (words s))
+      nineteen = f ∙ ap question-19 (links-show s l p z)
 
-      pub no-6 : not v ≡ true → 6 ≡ links-refusal (words s) (circuit (words s))
+      pub no-19 : not i ≡ true → 19 ≡ links-refusal (words s) (circuit (words s))
       unfolding links-refusal if_then_else_
-      no-6 m = rw (← four, h, ← five, k, ← six, m)
+      no-19 j = rw (← four, h, ← five, k, ← nineteen, j)
 
-      module _ (m : not v ≡ false) (n : ℕ) (q : n ≡ queues (circuit (words s))) (w : Bool) (e : w ≡ leb n 8) where
-        seven : w ≡ question-7 none (circuit (words s))
-        unfolding question-7
-        seven = e ∙ ap (λ (x : ℕ). leb x 8) q
+      module _ (j : not i ≡ false) (v : Bool) (d : v ≡ question-6 (net l)) where
+        six : v ≡ question-6 (circuit (words s))
+        six = d ∙ ap question-6 (links-show s l p z)
 
-        pub no-7 : not w ≡ true → 7 ≡ links-refusal (words s) (circuit (words s))
+        pub no-6 : not v ≡ true → 6 ≡ links-refusal (words s) (circuit (words s))
         unfolding links-refusal if_then_else_
-        no-7 x = rw (← four, h, ← five, k, ← six, m, ← seven, x)
+        no-6 m = rw (← four, h, ← five, k, ← nineteen, j, ← six, m)
 
-        pub yes-7 : not w ≡ false → 0 ≡ links-refusal (words s) (circuit (words s))
-        unfolding links-refusal if_then_else_
-        yes-7 x = rw (← four, h, ← five, k, ← six, m, ← seven, x)
+        module _ (m : not v ≡ false) (n : ℕ) (q : n ≡ queues (circuit (words s))) (w : Bool) (e : w ≡ leb n 8) where
+          seven : w ≡ question-7 none (circuit (words s))
+          unfolding question-7
+          seven = e ∙ ap (λ (x : ℕ). leb x 8) q
+
+          pub no-7 : not w ≡ true → 7 ≡ links-refusal (words s) (circuit (words s))
+          unfolding links-refusal if_then_else_
+          no-7 x = rw (← four, h, ← five, k, ← nineteen, j, ← six, m, ← seven, x)
+
+          pub yes-7 : not w ≡ false → 0 ≡ links-refusal (words s) (circuit (words s))
+          unfolding links-refusal if_then_else_
+          yes-7 x = rw (← four, h, ← five, k, ← nineteen, j, ← six, m, ← seven, x)
 
 -- ---- both groups, and the script
 
@@ -146,27 +154,28 @@ unfolding circuit-refusal question-7 areas-refusal or-else if_then_else_
 areas-later A s =
     let c = circuit (words s) in
     let k = leb (queues c) 8 in
-    go (question-1 s (words s)) (question-2 (words s)) (question-3 (words s) c) (question-4 (words s) c) (question-5 (words s) c) (question-6 c) k
+    go (question-1 s (words s)) (question-2 (words s)) (question-3 (words s) c) (question-4 (words s) c) (question-5 (words s) c) (question-19 c) (question-6 c) k
     (leb 65536 (A .values)) (leb 65536 (A .units)) (leb (65536 * max 1 (queues c)) (A .delays))
   where
     go :
-        (a b d e f g k x y z : Bool) →
-        (if not a then 1 else if not b then 2 else if not d then 3 else if not e then 4 else if not f then 5 else if not g then 6
+        (a b d e f i g k x y z : Bool) →
+        (if not a then 1 else if not b then 2 else if not d then 3 else if not e then 4 else if not f then 5 else if not i then 19 else if not g then 6
         else if not (k && x && y && z) then 7 else 0)
         ≡ or-else
-        (if not a then 1 else if not b then 2 else if not d then 3 else if not e then 4 else if not f then 5 else if not g then 6 else if not k then 7 else 0)
+        (if not a then 1 else if not b then 2 else if not d then 3 else if not e then 4 else if not f then 5 else if not i then 19 else if not g then 6 else if not k then 7 else 0)
         (if k && x && y && z then 0 else 7)
-    go false b d e f g k x y z = refl
-    go true false d e f g k x y z = refl
-    go true true false e f g k x y z = refl
-    go true true true false f g k x y z = refl
-    go true true true true false g k x y z = refl
-    go true true true true true false k x y z = refl
-    go true true true true true true false x y z = refl
-    go true true true true true true true false y z = refl
-    go true true true true true true true true false z = refl
-    go true true true true true true true true true false = refl
-    go true true true true true true true true true true = refl
+    go false b d e f i g k x y z = refl
+    go true false d e f i g k x y z = refl
+    go true true false e f i g k x y z = refl
+    go true true true false f i g k x y z = refl
+    go true true true true false i g k x y z = refl
+    go true true true true true false g k x y z = refl
+    go true true true true true true false k x y z = refl
+    go true true true true true true true false x y z = refl
+    go true true true true true true true true false y z = refl
+    go true true true true true true true true true false z = refl
+    go true true true true true true true true true true false = refl
+    go true true true true true true true true true true true = refl
 
 module _ (A : Areas) (c : Circuit) (n : ℕ) (q : n ≡ queues c) (t : Bool)
     (a : t ≡ (leb n 8 && leb 65536 (A .values) && leb 65536 (A .units) && leb (65536 * max 1 n) (A .delays))) where

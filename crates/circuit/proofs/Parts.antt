@@ -48,12 +48,12 @@ places-within b (w ∷ ws) = λ j. place-within b w j && places-within b ws j
 
 pub gates-are :
     (ws : List ℕ) (G K I : ℕ) (t u : Bool) → G ≡ getD ws 0 0 → K ≡ getD ws 1 0 → I ≡ getD ws 2 0 →
-    t ≡ (all (within 1 28) (part ws (4 + 2 * K) G) && eqb (sum (map (λ k. length (kind-at k .ins)) (part ws (4 + 2 * K) G))) I) →
-    u ≡ all (within 0 65535) (part ws (4 + 2 * K + G) G) → (t && u) ≡ question-3 ws (circuit ws)
+    t ≡ (all (within 1 31) (part ws (4 + 2 * K) G) && eqb (sum (map (λ k. length (kind-at k .ins)) (part ws (4 + 2 * K) G))) I) →
+    u ≡ all (within 0 4259839) (part ws (4 + 2 * K + G) G) → (t && u) ≡ question-3 ws (circuit ws)
 unfolding question-3 circuit word-at
 gates-are ws G K I t u g k i et eu =
-    rw (et, eu ∙ places-within 0 (part ws (4 + 2 * K + G) G), ← g, ← k, ← i)
-    (swapped (all (within 1 28) (part ws (4 + 2 * K) G)) (all (within 0 0) (map (λ w. w / 65536) (part ws (4 + 2 * K + G) G))) (eqb (sum (map (λ k. length (kind-at k .ins)) (part ws (4 + 2 * K) G))) I))
+    rw (et, eu ∙ places-within 64 (part ws (4 + 2 * K + G) G), ← g, ← k, ← i)
+    (swapped (all (within 1 31) (part ws (4 + 2 * K) G)) (all (within 0 64) (map (λ w. w / 65536) (part ws (4 + 2 * K + G) G))) (eqb (sum (map (λ k. length (kind-at k .ins)) (part ws (4 + 2 * K) G))) I))
 
 -- ---- question 7
 

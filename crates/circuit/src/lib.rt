@@ -13,6 +13,7 @@ use linking::link;
 use links::layout::CELLS;
 
 mod areas;
+mod bodies;
 mod calls;
 mod columns;
 mod constants;
@@ -38,7 +39,7 @@ fn words_refusal(circuit: &[u8]) -> u64
     0
 }
 
-// Questions 4 to 7, of the links of a circuit whose words passed; no areas are lent.
+// Questions 4, 5, 19, 6 and 7, of the links of a circuit whose words passed; no areas are lent.
 fn links_refusal(circuit: &[u8], links: &[usize]) -> u64
     requires { ⌜ words-refusal (now circuit) ≡ 0 ⌝ }
     requires { ⌜ Linked links ⌝ }
@@ -50,6 +51,9 @@ fn links_refusal(circuit: &[u8], links: &[usize]) -> u64
     }
     if !calls::calls_good(circuit, links) {
         return 5;
+    }
+    if !bodies::bodies_good(links) {
+        return 19;
     }
     if !rings::ordered(links) {
         return 6;

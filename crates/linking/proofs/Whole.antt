@@ -356,23 +356,23 @@ each-most n low high f xs e h i l =
     omega (arith, all-within low high xs h i, ap (λ (r : List ℕ). getD r i 0) e, listed-in n f i 0 l)
 
 module _ (bytes ws : List ℕ) (q₁ : question-1 bytes ws ≡ true) (q₃ : question-3 ws (circuit ws) ≡ true) where
-  in-range : (all (within 1 28) (circuit ws .kinds) ≡ true) × (all (within 0 0) (circuit ws .bodies) ≡ true)
+  in-range : (all (within 1 31) (circuit ws .kinds) ≡ true) × (all (within 0 64) (circuit ws .bodies) ≡ true)
   unfolding question-3
   in-range =
-      both-true (all (within 1 28) (circuit ws .kinds)) (all (within 0 0) (circuit ws .bodies))
-      (both-true (all (within 1 28) (circuit ws .kinds) && all (within 0 0) (circuit ws .bodies)) _ q₃ .0)
+      both-true (all (within 1 31) (circuit ws .kinds)) (all (within 0 64) (circuit ws .bodies))
+      (both-true (all (within 1 31) (circuit ws .kinds) && all (within 0 64) (circuit ws .bodies)) _ q₃ .0)
 
   -- a kind and a body are below 256
   pub small-kinds : (g k : ℕ) → g ≡ getD ws 0 0 → k ≡ getD ws 1 0 → Small ws (4 + 2 * k) g 256
   small-kinds g k eg ek i h =
       let z = sizes bytes ws q₁ in
-      let m = each-most (G ws z) 1 28 (λ g. getD ws (kinds ws z + g) 0) (circuit ws .kinds) (kinds-are ws z) (in-range .0) i (omega arith) in
+      let m = each-most (G ws z) 1 31 (λ g. getD ws (kinds ws z + g) 0) (circuit ws .kinds) (kinds-are ws z) (in-range .0) i (omega arith) in
       rw ek (omega arith)
 
   pub small-places : (g k : ℕ) → g ≡ getD ws 0 0 → k ≡ getD ws 1 0 → Small ws (4 + 2 * k + g) g 16777216
   small-places g k eg ek i h =
       let z = sizes bytes ws q₁ in
-      let m = each-most (G ws z) 0 0 (λ g. getD ws (kinds ws z + G ws z + g) 0 / 65536) (circuit ws .bodies) (bodies-are ws z) (in-range .1) i (omega arith) in
+      let m = each-most (G ws z) 0 64 (λ g. getD ws (kinds ws z + G ws z + g) 0 / 65536) (circuit ws .bodies) (bodies-are ws z) (in-range .1) i (omega arith) in
       rw (ek, eg) (omega arith)
 
   full : length (circuit ws .pins) ≡ getD ws 2 0

@@ -504,8 +504,8 @@ module _ (bytes ws : List ℕ) (q : question-1 bytes ws ≡ true) (r : question-
   fitting =
       let ks = circuit ws .kinds in
       let K = word-at ws 1 in
-      let small-kinds = all (within 1 28) ks in
-      let small-bodies = all (within 0 0) (circuit ws .bodies) in
+      let small-kinds = all (within 1 31) ks in
+      let small-bodies = all (within 0 64) (circuit ws .bodies) in
       let h = both-true small-kinds small-bodies (both-true (small-kinds && small-bodies) _ r .0) in
       record {
         gates = few-gates;
@@ -513,9 +513,9 @@ module _ (bytes ws : List ℕ) (q : question-1 bytes ws ≡ true) (r : question-
         names = omega (arith, both-most value-of (part ws 4 K) (part ws (4 + K) K), part-most ws 4 K, sizes bytes ws q .constants);
         inputs = few-inputs;
         outputs = few-outputs;
-        kinds = λ i. omega (arith, all-within 1 28 ks (h .0) i);
+        kinds = λ i. omega (arith, all-within 1 31 ks (h .0) i);
         ranks = under-map 65536 (λ w. w % 65536) (omega arith) (λ w. omega arith) (part ws (4 + 2 * K + word-at ws 0) (word-at ws 0));
-        bodies = λ i. omega (arith, all-within 0 0 (circuit ws .bodies) (h .1) i);
+        bodies = λ i. omega (arith, all-within 0 64 (circuit ws .bodies) (h .1) i);
         entries = small-entries;
         first-inputs = firsts-under (λ k. kind-at k .ins) 1024 ks (omega (arith, few-inputs));
         first-outputs = firsts-under (λ k. kind-at k .outs) 65536 ks (omega (arith, few-outputs));

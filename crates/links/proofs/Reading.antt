@@ -10,13 +10,13 @@ use lib.Dec.{eqb}
 use lib.ListN.{length, getD, length-map, List·getD-eq-default}
 use borrow.Author.Tests.{eq-eqb, ne-eqb}
 use Rattle.model.specs.Base.{if_then_else_, each, from}
-use Rattle.model.specs.Circuit.{minus-one, source-of, kind-of-gate, rank-of-gate, entry-of-loop, input, output, gate-at-input, source, gate-at-output, watching, stored-in, setting, readers-of, calls-of, Call}
+use Rattle.model.specs.Circuit.{minus-one, source-of, kind-of-gate, rank-of-gate, body-of-gate, entry-of-loop, input, output, gate-at-input, source, gate-at-output, watching, stored-in, setting, readers-of, calls-of, Call}
 use Rattle.model.specs.declared.Value.{Value}
 use Rattle.model.specs.declared.Value.the-variants.{Nothing}
 use Rattle.model.specs.Value.{value-of}
 use Rattle.model.specs.Kinds.{In, value, Out, fires, kind-at}
 use Rattle.model.proofs.Lists.{map-from, from-length}
-use Rattle.links.specs.Links.{gates-at, sources-at, stored-kinds-at, stored-contents-at, inputs-at, outputs-at, rows-at, readers-at, calls-at, constant-kinds-at, constant-contents-at, entries, digit, listed, cell, gate-digit, gate-kind as kind-digit, gate-first, gate-entry, input-digit, row-digit, kind-in, net, row-at, first-reader, reader-count, reader-at, first-call, call-count, target, call-of, gates-of-word, output-read}
+use Rattle.links.specs.Links.{gates-at, sources-at, stored-kinds-at, stored-contents-at, inputs-at, outputs-at, rows-at, readers-at, calls-at, constant-kinds-at, constant-contents-at, entries, digit, listed, cell, gate-digit, gate-kind as kind-digit, gate-body as body-digit, gate-first, gate-entry, input-digit, row-digit, kind-in, net, row-at, first-reader, reader-count, reader-at, first-call, call-count, target, call-of, gates-of-word, output-read}
 use Rattle.links.specs.declared.Read.{Read}
 use Rattle.links.specs.declared.Read.the-variants.{Output, Nothing as NoOutput}
 
@@ -86,6 +86,10 @@ module _ (l : List ℕ) (g x : ℕ) (e : x ≡ getD (entries l 0 64 gates-at) g 
   pub gate-kind : x % 65536 % 256 ≡ kind-of-gate (net l) g
   unfolding kind-of-gate net kind-digit gate-digit digit
   gate-kind = ap (λ d. d % 256) (first-digit x) ∙ listed-over (λ y. digit 0 y % 256) _ _ g 0 x e
+
+  pub gate-body : x % 65536 / 256 ≡ body-of-gate (net l) g
+  unfolding body-of-gate net body-digit gate-digit digit
+  gate-body = ap (λ d. d / 256) (first-digit x) ∙ listed-over (λ y. digit 0 y / 256) _ _ g 0 x e
 
   pub gate-rank : x / 65536 % 65536 ≡ rank-of-gate (net l) g
   unfolding rank-of-gate net gate-digit digit

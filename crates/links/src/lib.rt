@@ -3,7 +3,7 @@ ghost use mathlib.Core.Path.{_≡_};
 ghost use Prim.Native.Nat.{_+_, _<_, _≤_, min};
 ghost use lib.ListN.{length, getD, drop};
 ghost use Rattle.words.specs.Slices.{before};
-ghost use Rattle.model.specs.Circuit.{kind-of-gate, rank-of-gate, entry-of-loop, input, output, gate-at-input, gate-at-output, watching, source, stored-in, setting, most-gates, most-inputs};
+ghost use Rattle.model.specs.Circuit.{kind-of-gate, rank-of-gate, body-of-gate, entry-of-loop, input, output, gate-at-input, gate-at-output, watching, source, stored-in, setting, most-gates, most-inputs};
 ghost use Rattle.model.specs.declared.Value.the-variants.{Nothing};
 ghost use Rattle.model.specs.Kinds.{value, fires};
 ghost use Rattle.kinds.specs.Pins.{in-of, out-of};
@@ -144,6 +144,14 @@ pub fn rank_of_gate(links: &[usize], g: usize) -> u64
     ensures { λ r. ⌜ r ≡ rank-of-gate (net-of links) g ⌝ }
 {
     (gate_entry(links, g) / SECOND % DIGIT) as u64
+}
+
+// The body that gate g lies in: 0 outside, and where there is no gate g, else 1 + the Loop's gate.
+pub fn body_of_gate(links: &[usize], g: usize) -> usize
+    requires { ⌜ Linked links ⌝ }
+    ensures { λ r. ⌜ r ≡ body-of-gate (net-of links) g ⌝ }
+{
+    gate_entry(links, g) % DIGIT / BODY
 }
 
 // The entry of Loop g's body, and 0 where there is none.

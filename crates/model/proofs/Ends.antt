@@ -1,8 +1,9 @@
--- The number of every answer: a refusal's is 1 to 10, a run's stop is 0, 11, 12 or 13.
+-- The number of every answer: a refusal's is 1 to 10 or 19, a run's stop is 0, 11, 12 or 13.
 use mathlib.Core.Path.{_≡_, refl, sym, subst}
 use mathlib.Core.Bool.{Bool, true, false, not, _&&_, cond}
 use mathlib.Core.List.{List, [], _∷_}
 use mathlib.Core.Option.{Option, none, some}
+use mathlib.Core.Logic.{_⊎_, inl, inr}
 use Prim.Native.Nat.{ℕ, zero, suc, _≤_}
 use native.Mathlib.Omega.{arith}
 use lib.Dec.{eqb}
@@ -121,24 +122,30 @@ module _ (Q : ℕ → Type 0) (z : Q 0) (r : Q runaway) (f : Q list-full) (l : Q
 
 -- ---- a refusal
 
-circuit-number : (areas : Option Areas) (cb : List ℕ) → circuit-refusal areas cb ≤ 10
+-- 0 for none, 1 to 10, or 19
+abbrev pub Asks : ℕ → Type 0
+Asks n = (n ≤ 10) ⊎ (n ≡ 19)
+
+low : {n : ℕ} → n ≤ 10 → Asks n
+low = inl
+
+circuit-number : (areas : Option Areas) (cb : List ℕ) → Asks (circuit-refusal areas cb)
 unfolding circuit-refusal
 circuit-number areas cb =
-    let L : ℕ → Type 0 = λ n. n ≤ 10 in
-    if-both L _ (omega arith) (if-both L _ (omega arith) (if-both L _ (omega arith) (if-both L _ (omega arith) (if-both L _ (omega arith) (if-both L _ (omega arith) (if-both L _ (omega arith) (omega arith)))))))
+    if-both Asks _ (low (omega arith)) (if-both Asks _ (low (omega arith)) (if-both Asks _ (low (omega arith)) (if-both Asks _ (low (omega arith)) (if-both Asks _ (low (omega arith))
+    (if-both Asks _ (inr refl)
+    (if-both Asks _ (low (omega arith)) (if-both Asks _ (low (omega arith)) (low (omega arith)))))))))
 
-script-number : (c : Circuit) (sb : List ℕ) → script-refusal c sb ≤ 10
+script-number : (c : Circuit) (sb : List ℕ) → Asks (script-refusal c sb)
 unfolding script-refusal
-script-number c sb =
-    let L : ℕ → Type 0 = λ n. n ≤ 10 in
-    if-both L _ (omega arith) (if-both L _ (omega arith) (if-both L _ (omega arith) (omega arith)))
+script-number c sb = if-both Asks _ (low (omega arith)) (if-both Asks _ (low (omega arith)) (if-both Asks _ (low (omega arith)) (low (omega arith))))
 
-or-number : (n m : ℕ) → n ≤ 10 → m ≤ 10 → or-else n m ≤ 10
+or-number : (n m : ℕ) → Asks n → Asks m → Asks (or-else n m)
 unfolding or-else
 or-number zero m h k = k
 or-number (suc n) m h k = h
 
-pub refusal-number : (areas : Option Areas) (cb sb : List ℕ) → refusal areas cb sb ≤ 10
+pub refusal-number : (areas : Option Areas) (cb sb : List ℕ) → Asks (refusal areas cb sb)
 unfolding refusal
 refusal-number areas cb sb = or-number _ _ (circuit-number areas cb) (script-number _ sb)
 
@@ -149,6 +156,6 @@ pub numbers : (areas : Areas) (room : ℕ) (cb sb : List ℕ) → Answers (answe
 unfolding answer answer-to play among
 numbers areas room cb sb = go (refusal (some areas) cb sb) (refusal-number (some areas) cb sb)
   where
-    go : (n : ℕ) → n ≤ 10 → Answers (answer-to n room cb sb)
+    go : (n : ℕ) → Asks n → Answers (answer-to n room cb sb)
     go zero h = is-played (run-stop (λ s. among s (0 ∷ 11 ∷ 12 ∷ 13 ∷ []) ≡ true) refl refl refl refl (circuit (words cb)) room (ticks-get (circuit (words cb)) (words sb)))
     go (suc n) h = let one : 1 ≤ suc n = omega arith in is-refused one h

@@ -22,6 +22,8 @@ pub mod Running
 pub mod Walks
 -- every operation on the state keeps its sizes
 pub mod Kept
+-- Loops: each has its entry, calls stay in their body, and they nest no deeper than there are gates
+pub mod Nesting
 -- so does every world of a run: `run-sized`
 pub mod Worlds
 -- the tests of room are never met: `few-roomy`

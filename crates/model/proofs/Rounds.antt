@@ -48,7 +48,7 @@ circuit-laid = laid
 pub circuit-filled : (bytes ws : List ℕ) → question-1 bytes ws ≡ true → question-3 ws (circuit ws) ≡ true → Full (circuit ws)
 circuit-filled = filled
 
--- ---- the questions (Asked): a call that is not refused was answered yes ten times
+-- ---- the questions (Asked): a call that is not refused was answered yes each time
 
 pub call-accepted :
     (areas : Option Areas) (circuit-bytes script-bytes : List ℕ) → refusal areas circuit-bytes script-bytes ≡ 0 → Accepted areas circuit-bytes script-bytes

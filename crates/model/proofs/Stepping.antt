@@ -276,7 +276,7 @@ module _ (c : Circuit) (W : Wired c) where
           inputs-read = λ n s g z. going (readied-sound c W g 1 3 (z .sound));
           broken = λ n s b z. break-going s b z;
           counted = λ n s m z. going (wires-sound c (z .sound) (runs-fine (z .late) (s .wires) m (z .sound .wires)));
-          index-shown = λ n s g i k z. going (set-output-sound c W _ _ (W .index-other g k) (int-real i) (z .sound));
+          index-shown = λ n s g i k z. going (set-output-sound c W _ _ (W .entry-other g k) (int-real i) (z .sound));
           body-entered = λ n s z. passed-going s _ (length-map (s .wires .unions-passed) _) z;
           body-left = λ m n s u z y. passed-going u _ (passed-length z ∙ sym (passed-length y)) y;
           loop-shown = λ n s g done aborted k z.

@@ -35,7 +35,7 @@ pub record Wired (c : Circuit) : Type 0 where
   pub receivers : all (λ g. receiving (kind-of-gate c g)) (c .receivers) ≡ true
   -- what a VarSet writes is no output of a pure gate
   pub var-other : (g : ℕ) → eqb (kind-of-gate c g) 19 ≡ true → pure (kind-of-gate c (gate-at-output c (var c g))) ≡ false
-  -- so is a Loop's Index, which its entry shows
-  pub index-other : (g : ℕ) → eqb (kind-of-gate c g) 29 ≡ true → pure (kind-of-gate c (gate-at-output c (output c (entry-of-loop c g) 1))) ≡ false
+  -- nor is the Index of a Loop's entry
+  pub entry-other : (g : ℕ) → eqb (kind-of-gate c g) 29 ≡ true → pure (kind-of-gate c (gate-at-output c (output c (entry-of-loop c g) 1))) ≡ false
   -- no stored value is a NaN
   pub stored : (i : ℕ) → Real (stored-in c i)

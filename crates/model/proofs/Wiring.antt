@@ -21,19 +21,20 @@ use Rattle.model.specs.declared.Value.the-variants.{Nothing, Int, Float,
 use Rattle.model.specs.Base.{if_then_else_, keep, all, joined, among, both, from, sum, starts, owners}
 use Rattle.model.specs.Value.{as-int, le64, value-of}
 use Rattle.model.specs.Kinds.{In, value, kind-at, pure, time-source, receiving, kinds-opened}
-use Rattle.model.specs.Circuit.{Circuit, circuit, part, word-at, minus-one, source-of, reads, kind-of-gate, input, output, inputs-of, gate-at-input, source, stored-in, setting, gate-at-output, readers-of, gates-such}
+use Rattle.model.specs.Circuit.{Circuit, circuit, part, word-at, minus-one, source-of, reads, kind-of-gate, entry-of-loop, input, output, inputs-of, gate-at-input, source, stored-in, setting, gate-at-output, readers-of, gates-such}
 use Rattle.model.specs.Script.{stimulus, given, script}
 use Rattle.model.specs.Run.{allowed, ticks-get}
 use Rattle.model.specs.State.{Act}
 use Rattle.model.specs.Delays.{nat}
 use Rattle.model.specs.Exec.{var}
-use Rattle.model.specs.Questions.{Areas, within, finite, yes-all, question-1, question-3, good-constant, question-2, value-output, int-such-that, good-setting, good-input, names-constant, question-4, question-9, question-10, good-length}
+use Rattle.model.specs.Questions.{Areas, within, finite, yes-all, question-1, question-3, good-constant, question-2, value-output, int-such-that, good-setting, good-input, names-constant, question-4, question-19, question-9, question-10, good-length}
 use Rattle.model.proofs.Lists.{if-both, both-true, all-keep, all-among, among-from, map-from, from-length, not-so, clash, among-either, among-none, among-keep, map-all}
 use Rattle.model.proofs.Sizes.{sizes}
-use Rattle.model.proofs.Laid.{offset, starts-at, no-kind, Laid, laid, joined-length, part-most, part-is, inputs-found}
+use Rattle.model.proofs.Laid.{offset, starts-at, no-kind, Laid, laid, joined-length, kind-in, part-most, part-is, inputs-found}
 use Rattle.model.proofs.Asked.{Accepted}
 use Rattle.model.proofs.Placing.{heights}
 use Rattle.model.proofs.Roomy.{few}
+use Rattle.model.proofs.Nesting.{loop-entered}
 use Rattle.model.proofs.Reals.{Real, nothing-real, truth-real, int-real, finite-real}
 use Rattle.model.proofs.Wired.{Wired}
 use Rattle.model.proofs.Sound.{Brings, other-outputs}
@@ -135,22 +136,6 @@ time-inputs k e = go (eqb k 3) refl e
 -- the size of a part, by its kind
 part-size : (size : ℕ → ℕ) → size 0 ≡ 0 → (ks : List ℕ) (g : ℕ) → getD (map size ks) g 0 ≡ size (getD ks g 0)
 part-size size e ks g = ap (λ d. getD (map size ks) g d) (sym e) ∙ List·getD-map size ks g 0
-
--- each member of a list that passes a test
-all-at : (p : ℕ → Bool) (xs : List ℕ) → all p xs ≡ true → (i : ℕ) → i < length xs → p (getD xs i 0) ≡ true
-unfolding all
-all-at p [] h i l = absurd (omega (arith, l))
-all-at p (x ∷ xs) h zero l = both-true (p x) (all p xs) h .0
-all-at p (x ∷ xs) h (suc i) l = all-at p xs (both-true (p x) (all p xs) h .1) i (omega (arith, l))
-
--- a gate that has a kind is one of the circuit's
-kind-in : (c : Circuit) (g : ℕ) → 0 < kind-of-gate c g → g < length (c .kinds)
-unfolding kind-of-gate
-kind-in c g l = go (ltb g (length (c .kinds))) refl
-  where
-    go : (b : Bool) → ltb g (length (c .kinds)) ≡ b → g < length (c .kinds)
-    go true e = ltb-true g _ e
-    go false e = absurd (omega (arith, l, List·getD-eq-default (c .kinds) 0 (ltb-false g (length (c .kinds)) e)))
 
 timed-in : (c : Circuit) (g : ℕ) → time-source (kind-of-gate c g) ≡ true → g < length (c .kinds)
 unfolding time-source
@@ -373,16 +358,6 @@ module _ (ws : List ℕ) where
                 let m : 0 < length (kind-at (kind-of-gate c b) .outs) = rw k (omega arith) in
                 rw (toZ-pos w64 b a) (ap (λ x. pure (kind-of-gate c x)) (laid ws .output-of b 0 m) ∙ ap pure k)
 
-  -- no gate is a Loop
-  no-loop : question-3 ws (circuit ws) ≡ true → (g : ℕ) → eqb (kind-of-gate (circuit ws) g) 29 ≡ true → ⊥
-  unfolding question-3 kind-of-gate within
-  no-loop q g e =
-      let c = circuit ws in
-      let k = eqb-true (kind-of-gate c g) 29 e in
-      let a = both-true (all (within 1 28) (c .kinds)) _ (both-true (all (within 1 28) (c .kinds) && all (within 0 0) (c .bodies)) _ q .0) .0 in
-      let h = all-at (within 1 28) (c .kinds) a g (kind-in c g (omega (arith, k))) in
-      true≢false (sym (rw k at h))
-
   -- ---- the constants
 
   module _ (q₂ : question-2 ws ≡ true) where
@@ -394,6 +369,18 @@ module _ (ws : List ℕ) where
     stored-real : (i : ℕ) → Real (stored-in (circuit ws) i)
     unfolding circuit stored-in
     stored-real i = map-real (λ k. getD (circuit ws .constants) k Nothing) constants-real (part ws (4 + 2 * word-at ws 1 + 2 * word-at ws 0 + word-at ws 2) (word-at ws 2)) i
+
+-- ---- the entry of a Loop
+
+entry-other :
+    (bytes ws : List ℕ) → question-1 bytes ws ≡ true → question-19 (circuit ws) ≡ true →
+    let c = circuit ws in (g : ℕ) → eqb (kind-of-gate c g) 29 ≡ true → pure (kind-of-gate c (gate-at-output c (output c (entry-of-loop c g) 1))) ≡ false
+unfolding kinds-opened
+entry-other bytes ws q₁ q g h =
+    let c = circuit ws in
+    let k = loop-entered bytes ws q₁ q g h .0 in
+    let m : 1 < length (kind-at (kind-of-gate c (entry-of-loop c g)) .outs) = rw k (omega arith) in
+    ap (λ x. pure (kind-of-gate c x)) (laid ws .output-of (entry-of-loop c g) 1 m) ∙ ap pure k
 
 -- ---- all of it
 
@@ -416,8 +403,8 @@ wired areas cb sb a =
       timed = λ g e. among-keep (λ h. time-source (getD (c .kinds) h 0)) g (from 0 (length (c .kinds))) (gate-among c g (timed-in c g e)) e;
       stopwatches = all-keep (λ g. eqb (getD (c .kinds) g 0) 15) (from 0 (length (c .kinds)));
       receivers = all-keep (λ g. receiving (getD (c .kinds) g 0)) (from 0 (length (c .kinds)));
+      entry-other = entry-other cb ws (a .sizes) (a .bodies);
       var-other = var-other ws cb (a .sizes) (a .inputs) (a .gates);
-      index-other = λ g e. absurd (no-loop ws (a .gates) g e);
       stored = stored-real ws (a .constants);
     }
   where

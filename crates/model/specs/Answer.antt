@@ -4,6 +4,7 @@ use mathlib.Core.Path.{_≡_}
 use mathlib.Core.Bool.{true}
 use mathlib.Core.List.{List, [], _∷_, _++_}
 use mathlib.Core.Option.{none, some}
+use mathlib.Core.Logic.{_⊎_}
 use lib.ListN.{length, drop, replicate}
 use Rattle.words.specs.Words.{words, bytes}
 use Rattle.schedule.specs.Schedule.{schedule-opened}
@@ -53,9 +54,9 @@ unfoldable pub number : Answer → ℕ
 number (refused n) = n
 number (played p) = p .stop
 
--- What a call can answer: it is refused with 1 to 10, or played to the script's end, 0, or to a stop, 11, 12 or 13.
+-- What a call can answer: it is refused with 1 to 10 or 19, or played to the script's end, 0, or to a stop, 11, 12 or 13.
 pub data Answers : Answer → Type 0 where
-  is-refused : {n : ℕ} → 1 ≤ n → n ≤ 10 → Answers (refused n)
+  is-refused : {n : ℕ} → 1 ≤ n → (n ≤ 10) ⊎ (n ≡ 19) → Answers (refused n)
   is-played : {p : Played} → among (p .stop) (0 ∷ 11 ∷ 12 ∷ 13 ∷ []) ≡ true → Answers (played p)
 
 -- the log afterwards, where it held these bytes before: untouched by a refusal; else the records, and its rest untouched

@@ -1,5 +1,5 @@
--- The ten questions, in order. A word is held as its 64 bits: a negative one is 2^63 or more, so it lies above every bound here.
-use Prim.Native.Nat.{ℕ, zero, suc, _+_, _*_, _/_, _%_, max}
+-- The eleven questions, in the order in which they are asked: 1 to 5, 19, 6 to 10. A word is held as its 64 bits: a negative one is 2^63 or more, so it lies above every bound here.
+use Prim.Native.Nat.{ℕ, zero, suc, _+_, _-_, _*_, _/_, _%_, max}
 use mathlib.Core.Bool.{Bool, true, false, not, _&&_, _||_}
 use mathlib.Core.List.{List, map}
 use mathlib.Core.Option.{Option, none, some}
@@ -9,10 +9,10 @@ use lib.Ieee.{nan, inf, fin, binary64, ofBits}
 use Rattle.words.specs.Words.{words}
 use Rattle.model.specs.declared.Value.{Value}
 use Rattle.model.specs.declared.Value.the-variants.{Nothing, Int, Float, Bool as Truth}
-use Rattle.model.specs.Base.{if_then_else_, all, both, from, sum}
+use Rattle.model.specs.Base.{if_then_else_, keep, all, both, from, sum}
 use Rattle.model.specs.Value.{le64}
 use Rattle.model.specs.Kinds.{In, value, Setting, anything, ticks, seconds, variable, channel, loop, fires, shows, passes, kind-at, pure}
-use Rattle.model.specs.Circuit.{Circuit, circuit, part, word-at, minus-one, kind-of-gate, inputs-of, source, stored-in, gate-at-output, gates, gates-of}
+use Rattle.model.specs.Circuit.{Circuit, circuit, part, word-at, minus-one, names, kind-of-gate, body-of-gate, inputs-of, gate-at-input, source, stored-in, gate-at-output, calls-of, gates, gates-of}
 
 -- low to high
 unfoldable pub within : ℕ → ℕ → ℕ → Bool
@@ -41,10 +41,10 @@ good-constant k b = if eqb k 1 then true else if eqb k 2 then finite b else if e
 unfoldable pub question-2 : List ℕ → Bool
 question-2 ws = yes-all (both good-constant (part ws 4 (word-at ws 1)) (part ws (4 + word-at ws 1) (word-at ws 1)))
 
--- 3. Are kinds 1 to 28, the words of their ranks 0 to 65,535, so that no gate lies in a body, and is I their sum of inputs?
+-- 3. Are kinds 1 to 31, ranks 0 to 65,535, bodies 0 to 64, and is I their sum of inputs? A rank is a remainder by 65,536, so it is never more.
 unfoldable pub question-3 : List ℕ → Circuit → Bool
 question-3 ws c =
-    all (within 1 28) (c .kinds) && all (within 0 0) (c .bodies) && eqb (sum (map (λ k. length (kind-at k .ins)) (c .kinds))) (word-at ws 2)
+    all (within 1 31) (c .kinds) && all (within 0 64) (c .bodies) && eqb (sum (map (λ k. length (kind-at k .ins)) (c .kinds))) (word-at ws 2)
 
 -- 4. Is each source -1 or a value output, each stored 0 to K, at most one of the two given, no constant on an E, no source on an S or a kind 11 or 13 Input,
 -- each setting as it has to be?
@@ -114,6 +114,33 @@ question-5 ws c =
     let calls = 4 + 2 * (word-at ws 1 + word-at ws 0 + word-at ws 2) in
     all (may-call c) (part ws calls C) && all (may-be-called c) (part ws (calls + C) C)
 
+-- 19. Do both ends of each call lie in one body, do entries and bodies match, and do bodies form no ring?
+unfoldable pub calls-inside : Circuit → ℕ → Bool
+calls-inside c o = all (λ k. eqb (body-of-gate c (gate-at-output c o)) (body-of-gate c (gate-at-input c (k .to)))) (calls-of c o)
+
+-- the body that gate g lies in is 0, outside, or that of a Loop
+unfoldable pub in-a-body : Circuit → ℕ → Bool
+in-a-body c g = eqb (body-of-gate c g) 0 || eqb (kind-of-gate c (body-of-gate c g - 1)) 29
+
+-- the entries that name gate g
+unfoldable pub entries-of : Circuit → ℕ → List ℕ
+entries-of c g = keep (names (c .kinds) (c .stored) (c .first-input) g) (gates c)
+
+-- gate g, if it is a Loop, has one entry, and that lies in the Loop's own body
+unfoldable pub has-entry : Circuit → ℕ → Bool
+has-entry c g = not (eqb (kind-of-gate c g) 29) || (eqb (length (entries-of c g)) 1 && all (λ e. eqb (body-of-gate c e) (suc g)) (entries-of c g))
+
+-- going outwards from body b, from a Loop's body to the one that the Loop lies in, ends outside after n bodies at the most
+unfoldable pub comes-out : Circuit → ℕ → ℕ → Bool
+comes-out c zero b = eqb b 0
+comes-out c (suc n) b = eqb b 0 || comes-out c n (body-of-gate c (b - 1))
+
+-- of the calls of all outputs, and of all gates; a way outwards that meets more bodies than there are gates goes in a ring
+unfoldable pub question-19 : Circuit → Bool
+question-19 c =
+    all (calls-inside c) (from 0 (length (c .outputs))) && all (in-a-body c) (gates c) && all (has-entry c) (gates c)
+    && all (λ g. comes-out c (length (c .kinds)) (body-of-gate c g)) (gates c)
+
 -- 6. Is there an order in which each pure gate comes after its pure sources? In each round a gate is placed if it is not pure, or if all its sources were placed
 -- before; as many rounds as there are gates place all that an order can.
 unfoldable pub source-placed : Circuit → List Bool → ℕ → Bool
@@ -180,6 +207,7 @@ circuit-refusal areas bytes =
     else if not (question-3 ws c) then 3
     else if not (question-4 ws c) then 4
     else if not (question-5 ws c) then 5
+    else if not (question-19 c) then 19
     else if not (question-6 c) then 6
     else if not (question-7 areas c) then 7
     else 0
@@ -200,5 +228,5 @@ unfoldable pub refusal : Option Areas → List ℕ → List ℕ → ℕ
 refusal areas circuit-bytes script-bytes = or-else (circuit-refusal areas circuit-bytes) (script-refusal (circuit (words circuit-bytes)) script-bytes)
 
 unfoldable pub questions-opened : ℕ
-unfolding within finite yes-all question-1 good-constant question-2 question-3 value-output int-such-that int-or-nothing float-or-nothing good-setting names-constant good-input question-4 may-call may-be-called question-5 source-placed place place-on question-6 queues question-7 question-8 good-length question-9 question-10 circuit-refusal script-refusal or-else refusal
+unfolding within finite yes-all question-1 good-constant question-2 question-3 value-output int-such-that int-or-nothing float-or-nothing good-setting names-constant good-input question-4 may-call may-be-called question-5 calls-inside in-a-body entries-of has-entry comes-out question-19 source-placed place place-on question-6 queues question-7 question-8 good-length question-9 question-10 circuit-refusal script-refusal or-else refusal
 questions-opened = 0

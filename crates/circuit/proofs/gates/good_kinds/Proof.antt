@@ -18,7 +18,7 @@ use Rattle.circuit.proofs.gates.good_kinds.Statement.{statement}
 use Rattle.circuit.proofs.gates.good_kinds.Tie as tie
 
 abbrev Inv-loop : tie.InvT-loop
-Inv-loop circuit first count inputs total₀ i₀ total i = (i ≤ count) × (total ≤ 10 * i) × (tally (within 1 28) (λ k. length (kind-at k .ins)) inputs total (left (words circuit) first count i) ≡ (all (within 1 28) (part (words circuit) first count) && eqb (sum (map (λ k. length (kind-at k .ins)) (part (words circuit) first count))) inputs))
+Inv-loop circuit first count inputs total₀ i₀ total i = (i ≤ count) × (total ≤ 10 * i) × (tally (within 1 31) (λ k. length (kind-at k .ins)) inputs total (left (words circuit) first count i) ≡ (all (within 1 31) (part (words circuit) first count) && eqb (sum (map (λ k. length (kind-at k .ins)) (part (words circuit) first count))) inputs))
 
 abbrev μ-loop : tie.MeasureT-loop
 μ-loop circuit first count inputs total₀ i₀ total i = count - i
