@@ -87,17 +87,27 @@ fn damaged_ones() {
     assert!((0..calls()).all(|n| compare(&damaged_loops(100_000 + n).case, n)));
 }
 
-/// The block of docs/FORMAT.md: its log is what both write.
-#[test]
-fn worked_example() {
+/// A block of docs/FORMAT.md, whose lines begin so: its log is what both write.
+fn block(named: &str, ticks: u64) {
     let page = include_str!("../../docs/FORMAT.md");
-    let words = |name: &str| -> Vec<i64> {
-        let line = page.lines().find_map(|line| line.strip_prefix(name)).expect(name);
+    let words = |part: &str| -> Vec<i64> {
+        let start = format!("{named}{part}: ");
+        let line = page.lines().find_map(|line| line.strip_prefix(&start)).expect(&start);
         line.split_whitespace().map(|word| word.parse().expect(word)).collect()
     };
-    let case = Case::of_words("worked", "An example.", &words("circuit: "), &words("script: "));
-    let log = words("log: ");
+    let case = Case::of_words("worked", "An example.", &words("circuit"), &words("script"));
+    let log = words("log");
     let theirs = oracle::run(&case.circuit, &case.script, &case.lent);
-    assert_eq!(theirs, oracle::Answer::Played { log, stop: 0, ticks: 3 });
+    assert_eq!(theirs, oracle::Answer::Played { log, stop: 0, ticks });
     assert!(!compare(&case, 1));
+}
+
+#[test]
+fn worked_example() {
+    block("", 3);
+}
+
+#[test]
+fn worked_loop() {
+    block("loop ", 2);
 }

@@ -41,7 +41,15 @@ loop-less c = search needs
 loop-again : tie.Need-loop-again Inv-loop μ-loop
 loop-again c = search needs
 
+-- src/main.rt:112:22
+element-copy-out-print-right-2 : tie.Need-element-copy-out-print-right-2 Inv-loop μ-loop
+element-copy-out-print-right-2 c = search needs
+
 -- src/main.rt:112:5
+print-right-requires-2 : tie.Need-print-right-requires-2 Inv-loop μ-loop
+print-right-requires-2 c κs = search needs
+
+-- src/main.rt:113:5
 print-all-requires : tie.Need-print-all-requires Inv-loop μ-loop
 print-all-requires c κs = search needs
 
@@ -62,5 +70,7 @@ print-tally-spec =
     add-i
     loop-less
     loop-again
+    element-copy-out-print-right-2
+    print-right-requires-2
     print-all-requires
     returns)
