@@ -1,8 +1,8 @@
 //! Nanoseconds a tick of the proved `run` and of the oracle on the six
 //! vehicles, side by side, with the copy of the log's bytes, which is the
 //! limit; on the first ticks of the longest script, to see that the time is
-//! linear in them; and on one to eight equal groups of gates, to see how it
-//! grows with them: `cargo run --offline --release --example run_cost`.
+//! linear in them; on one to eight equal groups of gates, to see how it grows
+//! with them; and on Loops: `cargo run --offline --release --example run_cost`.
 
 use std::hint::black_box;
 use std::time::{Duration, Instant};
@@ -119,6 +119,27 @@ fn groups_of_eight(groups: usize) -> Case {
     Case::new(&format!("groups ({groups})"), "Equal groups of gates.", &c, &s)
 }
 
+/// A Loop that counts so far in each of 20 ticks, over a body of three gates:
+/// a Cycle, a Branch by the Index and a VarSet of it.
+fn a_loop(name: &str, count: i64) -> Case {
+    let mut c = Circuit::new();
+    let begins = c.world_event(0);
+    let repeat = c.repeat(0, count, 1, 1);
+    let index = c.body(repeat);
+    let counted = c.cycle(0, 10);
+    let asked = c.branch(0, index);
+    let stored = c.var(0);
+    let store = c.var_set(0, stored, index);
+    c.call(begins, repeat);
+    c.chain(&[index, counted, asked, store]);
+    c.put_inside(repeat, &[counted, asked, store]);
+    let mut s = Script::new();
+    for _ in 0..20 {
+        s.tick(0.25).fire(begins);
+    }
+    Case::new(name, "A Loop over three gates.", &c, &s)
+}
+
 fn main() {
     let (mut log, mut from, mut to) = (vec![1; LOG], vec![1; LOG], vec![1; LOG]);
     let mut row = |case: &Case| measure(case, &mut log, &mut from, &mut to);
@@ -134,4 +155,6 @@ fn main() {
     for groups in [1, 2, 4, 8] {
         row(&groups_of_eight(groups));
     }
+    row(&a_loop("loop of 1,000", 1_000));
+    row(&a_loop("loop aborted", i64::MAX));
 }
