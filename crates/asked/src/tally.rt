@@ -3,7 +3,7 @@ ghost use mathlib.Core.Path.{_≡_};
 ghost use Rattle.asked.specs.Tally.{none-asked, counted, with-right, with-wrong, with-cut};
 use std::num::wrapping_add_u64;
 
-// The cases that were right by their number (0, the ten questions, and 19), how many were asked, how many were wrong, and whether one could not be read whole.
+// The cases that were right by their number (0, 1 to 10, and 19), how many were asked, how many were wrong, and whether one could not be read whole.
 pub struct Tally {
     pub right: [u64; 20],
     pub asked: u64,

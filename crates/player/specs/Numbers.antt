@@ -10,7 +10,7 @@ use Rattle.run.specs.declared.Answer.the-variants.{Refused, Played}
 
 -- ---- of the code's answer
 
--- 1 to 10 for a refused call; else the stop, 11 to 13, or 0
+-- 1 to 10 or 19 for a refused call; else the stop, 11 to 13, or 0
 unfoldable pub number-of : Answer → ℕ
 number-of (Refused n) = n
 number-of (Played stop ticks bytes) = stop

@@ -56,7 +56,7 @@ fn put_at(told: &mut [u64], i: usize, v: u64)
     }
 }
 
-// Asks the ten questions, and where none of them refuses the call plays the script over the circuit. The number of the answer; the words of `told` become the ticks
+// Asks the questions, and where none of them refuses the call plays the script over the circuit. The number of the answer; the words of `told` become the ticks
 // done and the bytes of the log that hold records.
 #[no_mangle]
 pub extern "C" fn hazhirun_run(

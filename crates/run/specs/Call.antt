@@ -41,7 +41,7 @@ call-answer k = answer (lent k) (length (k .log)) (k .circuit) (k .script)
 pub record Right (k : Call) (l : Left) (Tells : Answer → Type 0) : Type 0 where
   -- demands 1 and 2: it ends, and tells of the definition's answer
   pub answer : Tells (call-answer k)
-  -- demand 1: that is a refusal, 1 to 10, a finished run, 0, or a stop, 11 to 13
+  -- demand 1: that is a refusal, 1 to 10 or 19, a finished run, 0, or a stop, 11 to 13
   pub numbers : Answers (call-answer k)
   -- demands 1 and 2: after a refusal the log is untouched, else it holds the definition's records, and its rest is untouched
   pub log : l .log ≡ log-after (call-answer k) (k .log)
