@@ -1,16 +1,15 @@
 // Question 19: do both ends of each call lie in one body, do entries and bodies match, and do bodies form no ring?
 ghost use mathlib.Core.Path.{_≡_};
-ghost use mathlib.Core.Bool.{_&&_};
 ghost use Prim.Native.Nat.{_<_};
-ghost use lib.Dec.{eqb};
 ghost use lib.ListN.{length};
 ghost use Rattle.model.specs.declared.Value.the-variants.{Int};
 ghost use Rattle.model.specs.Value.{same};
 ghost use Rattle.model.specs.Base.{all, from};
-ghost use Rattle.model.specs.Circuit.{most-gates, names, body-of-gate, gate-at-input, gate-at-output, gates};
+ghost use Rattle.model.specs.Circuit.{most-gates, names, body-of-gate, gates};
 ghost use Rattle.model.specs.Questions.{calls-inside, in-a-body, has-entry, comes-out, question-19};
 ghost use Rattle.links.specs.Links.{call-of};
 ghost use Rattle.links.specs.Lent.{Linked, net-of};
+ghost use Rattle.circuit.specs.Bodies.{stays-inside, well-placed};
 use kinds::numbers::LOOP;
 use kinds::numbers::LOOP_ENTRY;
 use links::body_of_gate;
@@ -29,7 +28,7 @@ use model::Value;
 // Whether a call with this target goes to a gate in the body of the gate that has output o.
 fn call_inside(links: &[usize], o: usize, target: usize) -> bool
     requires { ⌜ Linked links ⌝ }
-    ensures { λ r. ⌜ r ≡ eqb (body-of-gate (net-of links) (gate-at-output (net-of links) o)) (body-of-gate (net-of links) (gate-at-input (net-of links) (call-of target .to))) ⌝ }
+    ensures { λ r. ⌜ r ≡ stays-inside (net-of links) o (call-of target) ⌝ }
 {
     let from = body_of_gate(links, gate_at_output(links, o));
     let to = body_of_gate(links, gate_at_input(links, called_input(target)));
@@ -153,7 +152,7 @@ fn has_entry(links: &[usize], g: usize) -> bool
 // Whether gate g lies in a body that there is, has its entry if it is a Loop, and lies in no ring of bodies.
 fn gate_good(links: &[usize], g: usize) -> bool
     requires { ⌜ Linked links × (g < most-gates) ⌝ }
-    ensures { λ r. ⌜ r ≡ (in-a-body (net-of links) g && has-entry (net-of links) g && comes-out (net-of links) (length (net-of links .kinds)) (body-of-gate (net-of links) g)) ⌝ }
+    ensures { λ r. ⌜ r ≡ well-placed (net-of links) g ⌝ }
 {
     if !in_a_body(links, g) {
         return false;
@@ -167,7 +166,7 @@ fn gate_good(links: &[usize], g: usize) -> bool
 // Whether each gate is so.
 fn gates_good(links: &[usize]) -> bool
     requires { ⌜ Linked links ⌝ }
-    ensures { λ r. ⌜ r ≡ all (λ g. in-a-body (net-of links) g && has-entry (net-of links) g && comes-out (net-of links) (length (net-of links .kinds)) (body-of-gate (net-of links) g)) (gates (net-of links)) ⌝ }
+    ensures { λ r. ⌜ r ≡ all (well-placed (net-of links)) (gates (net-of links)) ⌝ }
 {
     let n = links::gates(links);
     let mut g = 0;
