@@ -90,7 +90,7 @@ module _ (operate : ℕ → Chained → Chained) (falls : Falls operate) (inside
   abbrev Ended : Chained → Type 0
   Ended r = r .stop ≡ 0 → next inside under r ≡ none
 
-  pub calls-ended : (n : ℕ) (r : Chained) → r .left < n → Ended (rounds n r)
+  calls-ended : (n : ℕ) (r : Chained) → r .left < n → Ended (rounds n r)
   unfolding run-calls
   calls-ended zero r l = absurd (omega (arith, l))
   calls-ended (suc n) r l =
@@ -116,6 +116,13 @@ module _ (c : Circuit) (deep : ℕ) (inside : Bool) (under : ℕ) where
   pub nested-stopped : (r : Chained) → (r .stop ≡ 0 → ⊥) → nested r ≡ r
   unfolding run-nested
   nested-stopped r h = stopped-stays entered (operate-falls c deep inside) inside under (suc (r .left)) r h
+
+  -- at its end, without a stop, none of its calls waits
+  pub nested-ended : (r : Chained) → nested r .stop ≡ 0 → pop inside under (nested r .calls .stack) (nested r .calls .forks) ≡ none
+  unfolding run-nested next
+  nested-ended r e =
+      let z = eq-eqb (nested r .stop) 0 e in
+      rw (z, next) at (calls-ended entered (operate-falls c deep inside) inside under (suc (r .left)) r (omega arith) e)
 
   module _ (s : State) (q : Calls) where
     next-is : (x : Option Popped) → pop inside under (q .stack) (q .forks) ≡ x → (left : ℕ) → next inside under (chained s left 0 q) ≡ x
@@ -152,15 +159,9 @@ pop-none q h = go (q .stack) (q .forks) refl refl h
     go [] (i ∷ fs) e f h = cc
     go (i ∷ st) fs e f h = let z : leb 0 (length st) ≡ true = le-leb 0 (length st) (omega arith) in let k = rw (z, pop) at h in cc
 
-next-none : (r : Chained) → r .stop ≡ 0 → next false 0 r ≡ none → r .calls ≡ no-calls
-unfolding next
-next-none r e h = let z = eq-eqb (r .stop) 0 e in pop-none (r .calls) (rw (z, next) at h)
-
 pub chain-ended : (c : Circuit) (left : ℕ) (q : Calls) (s : State) → run-chain c left q s .stop ≡ 0 → run-chain c left q s .calls ≡ no-calls
-unfolding run-chain run-nested chained
-chain-ended c left q s e =
-    next-none (run-chain c left q s) e
-    (calls-ended (operate c (run-body c (length (c .kinds))) false) (operate-falls c (length (c .kinds)) false) false 0 (suc left) (chained s left 0 q) (omega arith) e)
+unfolding run-chain
+chain-ended c left q s e = pop-none (run-chain c left q s .calls) (nested-ended c (length (c .kinds)) false 0 (chained s left 0 q) e)
 
 -- so of a unit
 pub unit-ended : (c : Circuit) (w : World) (a : Act) → run-unit c w a .stop ≡ 0 → run-unit c w a .calls ≡ no-calls

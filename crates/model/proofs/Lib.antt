@@ -36,6 +36,8 @@ pub mod Refreshing
 pub mod Settling
 -- a run of calls has rounds enough, and a chain without a stop has made all its calls
 pub mod Chains
+-- no body is too deep: `none-too-deep`
+pub mod Deep
 -- refreshing in any order is the same: `stale-is-dirty`
 pub mod Stale
 -- the words of a record are read back as that record: `parts-back`

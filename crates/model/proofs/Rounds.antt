@@ -1,8 +1,9 @@
 -- The bounds of the definition never show. Marking, refreshing and settling are written with a number of rounds, so that they end; here it stands that these
 -- numbers always suffice, any number more gives the same: `bounds-suffice`, for every circuit that is not refused and every state that has its sizes. So
--- has each world of a run in which a unit begins or a tick has ended: `run-has`. The proofs are in the files that the headings name.
+-- has each world of a run in which a unit begins or a tick has ended: `run-has`. Chains are written with a number of rounds too, and with how deep bodies nest:
+-- `steps-suffice`, in every state, and `nesting-suffices`, for every circuit that is not refused. The proofs are in the files that the headings name.
 use mathlib.Core.Path.{_≡_}
-use mathlib.Core.Bool.{Bool, true}
+use mathlib.Core.Bool.{Bool, true, false}
 use mathlib.Core.List.{List, [], _∷_}
 use mathlib.Core.Option.{Option}
 use Prim.Native.Nat.{ℕ, suc, _+_}
@@ -17,7 +18,7 @@ use Rattle.model.specs.Script.{Given}
 use Rattle.model.specs.State.{Wires, State, Act, wires≔}
 use Rattle.model.specs.Wires.{refresh-to, refresh, refresh-all, mark-on, mark-readers-for, set-out}
 use Rattle.model.specs.Exec.{exec-gate}
-use Rattle.model.specs.Chain.{Calls, no-calls, Chained, run-calls}
+use Rattle.model.specs.Chain.{Calls, no-calls, Chained, chained, run-calls}
 use Rattle.model.specs.Loops.{operate, run-nested, run-body, run-chain}
 use Rattle.model.specs.Settle.{calm, check-on, most-checks, publish-writes, settle}
 use Rattle.model.specs.Opening.{start, open-tick}
@@ -37,6 +38,7 @@ use Rattle.model.proofs.Refreshing.{refreshing-never-runs-out}
 use Rattle.model.proofs.Settling.{settling-never-runs-out, settled}
 use Rattle.model.proofs.Running.{operate-falls}
 use Rattle.model.proofs.Chains.{rounds-suffice, chain-ended, unit-ended, finish-stop}
+use Rattle.model.proofs.Deep.{none-too-deep}
 
 -- ---- the layout (Laid): of the circuit of any words
 
@@ -96,6 +98,14 @@ bounds-suffice areas cb sb h = circuit-suffices (circuit (words cb)) (laid (word
 pub roomy :
     (areas : Option Areas) (circuit-bytes script-bytes : List ℕ) → refusal areas circuit-bytes script-bytes ≡ 0 → Roomy (circuit (words circuit-bytes))
 roomy areas cb sb h = let a = accepted areas cb sb h in few-roomy (circuit (words cb)) (few cb (words cb) (a .sizes) (a .gates))
+
+-- ---- nesting (Nesting, Deep): bodies form no ring, so a chain that may nest them as deep as there are gates nests none too deep; deeper gives the same
+
+pub nesting-suffices :
+    (areas : Option Areas) (circuit-bytes script-bytes : List ℕ) → refusal areas circuit-bytes script-bytes ≡ 0 →
+    let c = circuit (words circuit-bytes) in
+    (left : ℕ) (q : Calls) (s : State) (more : ℕ) → run-nested c (run-body c (length (c .kinds) + more)) false 0 (chained s left 0 q) ≡ run-chain c left q s
+nesting-suffices areas cb sb h = let a = accepted areas cb sb h in none-too-deep cb (words cb) (a .sizes) (a .bodies)
 
 module _ (c : Circuit) where
   -- ---- chains (Chains): the rounds of a run, as many as steps are left and one, suffice; without a stop, all calls are made

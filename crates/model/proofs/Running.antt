@@ -18,23 +18,26 @@ use Rattle.model.specs.Loops.{index, no-unions, unions-of, runs-left-to,
 use Rattle.model.proofs.Lists.{if-by}
 
 -- where it may have stopped
-pub unless-both : (P : Chained → Type 0) (f : Chained → Chained) (r : Chained) → P (f r) → P r → P (unless-stopped f r)
+pub unless-both : (P : Chained → Type 0) (f : Chained → Chained) (r : Chained) → (r .stop ≡ 0 → P (f r)) → P r → P (unless-stopped f r)
 unfolding unless-stopped
-unless-both P f r p q = go (eqb (r .stop) 0)
+unless-both P f r p q = go (eqb (r .stop) 0) (eqb-true (r .stop) 0)
   where
-    go : (b : Bool) → P (elim b as (λ _. Chained) [ true ↦ f r | false ↦ r ])
-    go true = p
-    go false = q
+    go : (b : Bool) → (b ≡ true → r .stop ≡ 0) → P (elim b as (λ _. Chained) [ true ↦ f r | false ↦ r ])
+    go true e = p (e refl)
+    go false e = q
 
--- a call is taken only where nothing has stopped
-pub next-running : (inside : Bool) (under : ℕ) (r : Chained) (t : Popped) → next inside under r ≡ some t → r .stop ≡ 0
+-- a call is taken only where nothing has stopped, and it is the one that `pop` gives
+pub next-running :
+    (inside : Bool) (under : ℕ) (r : Chained) (t : Popped) → next inside under r ≡ some t →
+    (r .stop ≡ 0) × (pop inside under (r .calls .stack) (r .calls .forks) ≡ some t)
 unfolding next
 next-running inside under r t = go (eqb (r .stop) 0) (eqb-true (r .stop) 0)
   where
     go :
         (b : Bool) → (b ≡ true → r .stop ≡ 0) →
-        (elim b as (λ _. Option Popped) [ true ↦ pop inside under (r .calls .stack) (r .calls .forks) | false ↦ none ]) ≡ some t → r .stop ≡ 0
-    go true e h = e refl
+        (elim b as (λ _. Option Popped) [ true ↦ pop inside under (r .calls .stack) (r .calls .forks) | false ↦ none ]) ≡ some t →
+        (r .stop ≡ 0) × (pop inside under (r .calls .stack) (r .calls .forks) ≡ some t)
+    go true e h = (e refl, h)
     go false e h = let z : _≡_ {A = ℕ} 0 1 = cc in absurd (omega arith)
 
 -- A fact about runs that every change keeps. Where a Loop is at work, its gate is one.
@@ -95,14 +98,14 @@ module _ (c : Circuit) (P : Chained → Type 0) (keep : Run-keeps c P) where
     unfolding run-loop loop-over chained
     run-loop-keeps g k r p =
         let q = loop-on-keeps g _ _ _ 0 _ k (keep .broken false _ (keep .inputs-read g r p)) in
-        unless-both P _ _ (keep .loop-shown g _ _ _ k (keep .broken _ _ q)) q
+        unless-both P _ _ (λ _. keep .loop-shown g _ _ _ k (keep .broken _ _ q)) q
 
     -- a call made, with the step that it takes
     operate-keeps : (inside : Bool) (i : ℕ) (s : State) (left : ℕ) (q t : Calls) → P (chained s (suc left) 0 q) → P (operate c body inside i (chained s left 0 t))
     unfolding operate
     operate-keeps inside i s left q t p =
         if-by P (eqb (kind-of-gate c (gate-at-input c i)) 29)
-        (λ k. let z = run-loop-keeps (gate-at-input c i) k _ (keep .loop-step s left q t p) in unless-both P _ _ (keep .fired _ _ z) z)
+        (λ k. let z = run-loop-keeps (gate-at-input c i) k _ (keep .loop-step s left q t p) in unless-both P _ _ (λ _. keep .fired _ _ z) z)
         (λ _. keep .step inside i s left q t p)
 
     made-step : (inside : Bool) (t : Popped) (r : Chained) → r .stop ≡ 0 → P r → P (make-step (operate c body inside) t r)
@@ -117,7 +120,7 @@ module _ (c : Circuit) (P : Chained → Type 0) (keep : Run-keeps c P) where
     run-calls-keeps : (inside : Bool) (under n : ℕ) → Keeps (run-calls (operate c body inside) inside under n)
     unfolding run-calls
     run-calls-keeps inside under zero r p = p
-    run-calls-keeps inside under (suc n) r p = go (next inside under r) (next-running inside under r) (λ q h. run-calls-keeps inside under n q h)
+    run-calls-keeps inside under (suc n) r p = go (next inside under r) (λ t e. next-running inside under r t e .0) (λ q h. run-calls-keeps inside under n q h)
       where
         go :
             (x : Option Popped) → ((t : Popped) → x ≡ some t → r .stop ≡ 0) → Keeps (run-calls (operate c body inside) inside under n) →
@@ -166,7 +169,7 @@ operate-falls c deep inside i s left q =
     if-by P (eqb (kind-of-gate c (gate-at-input c i)) 29)
     (λ k.
     let z = run-loop-keeps c P (falling c left) (run-body c deep) (run-body-keeps c P (falling c left) deep) (gate-at-input c i) k (chained s left 0 q) (omega arith) in
-    unless-both P _ _ z z)
+    unless-both P _ _ (λ _. z) z)
     (λ _. omega arith)
 
 -- ---- facts about the state, by the steps that the tick may still make
