@@ -253,6 +253,50 @@ pub units-see-times :
 unfolding saw-opened times two-quarters
 units-see-times = refl
 
+-- ---- a Loop
+
+-- A Var (0), true, drives a Loop (2, rank 4) of three runs, whose body puts Index, output 7, through a Reroute (5), output 9, into another Var (1), at first Int 0. A
+-- Reroute (6), output 10, reads that Var, and a ChangeDetector (7, rank 6) that Reroute.
+unfoldable pub repeated : List ℕ
+repeated =
+    joined (
+    (8 ∷ 5 ∷ 13 ∷ 1 ∷ [])
+    ∷ (3 ∷ 1 ∷ 1 ∷ 1 ∷ 1 ∷ []) ∷ (1 ∷ 0 ∷ 3 ∷ 2 ∷ 1 ∷ [])
+    ∷ (5 ∷ 5 ∷ 29 ∷ 30 ∷ 19 ∷ 2 ∷ 2 ∷ 6 ∷ []) ∷ (0 ∷ 0 ∷ 4 ∷ 196608 ∷ 196608 ∷ 0 ∷ 0 ∷ 6 ∷ [])
+    ∷ (-1 ∷ -1 ∷ 0 ∷ -1 ∷ -1 ∷ -1 ∷ -1 ∷ -1 ∷ -1 ∷ 9 ∷ 7 ∷ 1 ∷ 10 ∷ []) ∷ (1 ∷ 2 ∷ 0 ∷ 3 ∷ 0 ∷ 0 ∷ 4 ∷ 0 ∷ 5 ∷ 0 ∷ 0 ∷ 0 ∷ 0 ∷ [])
+    ∷ (6 ∷ []) ∷ (14 ∷ [])
+    ∷ [])
+
+unfoldable pub two-ticks : List ℕ
+two-ticks = 2 ∷ 0 ∷ 0 ∷ 0 ∷ 0 ∷ 0 ∷ []
+
+-- The ChangeDetector's units, of tick 1's main pass for its first reading and of tick 2's late pass, to which the write in the body puts it off, see the last Index.
+pub runs-are-seen :
+    saw-in repeated two-ticks 100 none (7 ∷ 9 ∷ 1 ∷ 10 ∷ [])
+    ≡ record { stop = 0; late = []; main = fresh 2 (Nothing ∷ Nothing ∷ Int 0 ∷ Int 0 ∷ []) ∷ fresh 7 (Int 2 ∷ Int 2 ∷ Int 2 ∷ Int 2 ∷ []) ∷ [] }
+    ∷ late-only (fresh 7 (Int 2 ∷ Int 2 ∷ Int 2 ∷ Int 2 ∷ []) ∷ []) ∷ []
+unfolding saw-opened repeated two-ticks
+runs-are-seen = refl
+
+-- As the third run begins, three steps behind the unit's begin, Index reaches the Reroute that reads it at once; what the runs before wrote has not reached the other one.
+pub index-at-once :
+    saw-in repeated two-ticks 100 (some 3) (7 ∷ 9 ∷ 1 ∷ 10 ∷ [])
+    ≡ record {
+      stop = 0;
+      late = [];
+      main =
+          record {
+            gate = 2;
+            shows = Int 2 ∷ Int 1 ∷ Int 1 ∷ Int 0 ∷ [];
+            read = Int 2 ∷ Int 2 ∷ Int 1 ∷ Int 0 ∷ [];
+            afresh = Int 2 ∷ Int 2 ∷ Int 1 ∷ Int 1 ∷ [];
+          }
+          ∷ fresh 7 (Int 2 ∷ Int 2 ∷ Int 2 ∷ Int 2 ∷ []) ∷ [];
+    }
+    ∷ late-only (fresh 7 (Int 2 ∷ Int 2 ∷ Int 2 ∷ Int 2 ∷ []) ∷ []) ∷ []
+unfolding saw-opened repeated two-ticks
+index-at-once = refl
+
 -- ---- reading for the record
 
 -- The Edge (gate 1) behind a WorldEvent (0) again; a Select (2), output 4, reads its pulse and, on both sides, a Var (3), at first Int 1. A second WorldEvent (4) calls
@@ -309,5 +353,6 @@ pub none-refused :
     (checked (bytes card) (bytes card-script) ≡ 0) × (checked (bytes got) (bytes twice) ≡ 0) × (checked (bytes pulse) (bytes both-fire) ≡ 0)
     × (checked (bytes pulse) (bytes one-later) ≡ 0) × (checked (bytes chained) (bytes both-fire-again) ≡ 0) × (checked (bytes shift) (bytes shift-script) ≡ 0)
     × (checked (bytes message) (bytes message-script) ≡ 0) × (checked (bytes times) (bytes two-quarters) ≡ 0) × (checked (bytes write-behind) (bytes one-each) ≡ 0)
-unfolding saw-opened card card-script got twice pulse both-fire one-later chained both-fire-again shift shift-script message message-script times two-quarters write-behind one-each
-none-refused = (refl, refl, refl, refl, refl, refl, refl, refl, refl)
+    × (checked (bytes repeated) (bytes two-ticks) ≡ 0)
+unfolding saw-opened card card-script got twice pulse both-fire one-later chained both-fire-again shift shift-script message message-script times two-quarters write-behind one-each repeated two-ticks
+none-refused = (refl, refl, refl, refl, refl, refl, refl, refl, refl, refl)

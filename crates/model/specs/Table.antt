@@ -1,15 +1,20 @@
 -- Document 01's played examples, those marked * among them, what looks right but is wrong, and examples of document 02's requests, as one table with one theorem: the prover
--- computes each row from bytes. The answers were taken from the Rust, and read against document 01.
-use Prim.Native.Nat.{ℕ, _^_, _-_}
+-- computes each row from bytes. The answers were taken from the Rust, and read against the documents.
+use Prim.Native.Nat.{ℕ, suc, _+_, _*_, _^_, _-_}
 use mathlib.Core.Path.{_≡_, refl}
 use mathlib.Core.Bool.{Bool, true, false}
 use mathlib.Core.List.{List, [], _∷_, map}
+use lib.IntN.{ℤ, pos, negsuc}
 use lib.ListN.{replicate}
 use Rattle.words.specs.Words.{bytes}
+use Rattle.model.specs.declared.Value.the-variants.{Nothing, Int, Bool as Truth}
 use Rattle.model.specs.Base.{joined}
 use Rattle.model.specs.Value.{narrow, narrow-changes}
-use Rattle.model.specs.Circuit.{circuit}
+use Rattle.model.specs.Circuit.{rank-size, circuit}
 use Rattle.model.specs.Script.{script}
+use Rattle.model.specs.Chain.{Chained}
+use Rattle.model.specs.Loops.{index, runs-left-to, run-chain}
+use Rattle.model.specs.Opening.{start}
 use Rattle.model.specs.Run.{Played, allowed, ticks-of, seen}
 use Rattle.model.specs.Answer.{Answer, refused, played, answer, model-opened}
 
@@ -31,9 +36,16 @@ plays records stop ticks = played (record { log = joined records; stop = stop; t
 unfoldable pub answered : Row → Answer
 answered r = answer (record { values = 65536; units = 65536; delays = 65536 }) 65536 (bytes (joined (r .circuit))) (bytes (joined (r .script)))
 
--- the word -1
+-- the words -1 and -3
 abbrev -1 : ℕ
 -1 = 2 ^ 64 - 1
+
+abbrev -3 : ℕ
+-3 = 2 ^ 64 - 3
+
+-- the word of a gate of rank 0 in the body of Loop g
+abbrev body-of : ℕ → ℕ
+body-of g = rank-size * suc g
 
 -- A Clock (rank 4) calls a Toggle, whose output is read by an EdgeExec, a ChangeDetector, a Toggle's pin (ranks 4, 3, 2) and two more EdgeExecs (5, 6); the first of
 -- these calls the second Toggle.
@@ -218,6 +230,84 @@ rows =
     ((2 ∷ 1 ∷ 3 ∷ 33 ∷ []) ∷ (2 ∷ []) ∷ (4591870180066957722 ∷ []) ∷ (28 ∷ 13 ∷ []) ∷ (0 ∷ 0 ∷ []) ∷ (-1 ∷ -1 ∷ -1 ∷ []) ∷ (0 ∷ 1 ∷ 0 ∷ []) ∷ replicate 33 0 ∷ replicate 33 0 ∷ [])
     ((1 ∷ 1 ∷ []) ∷ (4598175219545276416 ∷ []) ∷ (1 ∷ []) ∷ (0 ∷ []) ∷ (0 ∷ []) ∷ [])
     (plays ((1 ∷ 33 ∷ 1 ∷ 0 ∷ 0 ∷ 12 ∷ 33 ∷ 0 ∷ 2 ∷ []) ∷ []) 12 0)
+    -- K5: a Loop (gate 2) runs its body, a VarSet (4), with 5, 2 and -1, and then calls the Toggle behind Completed: five steps. Its Count is the Var (1) that the body
+    -- writes; it is read once, before the first run.
+    ∷ row
+    ((6 ∷ 5 ∷ 10 ∷ 3 ∷ []) ∷ (1 ∷ 1 ∷ 1 ∷ 1 ∷ 1 ∷ []) ∷ (3 ∷ 5 ∷ -3 ∷ 2 ∷ 1 ∷ []) ∷ (28 ∷ 5 ∷ 29 ∷ 30 ∷ 19 ∷ 22 ∷ []) ∷ (0 ∷ 0 ∷ 0 ∷ body-of 2 ∷ body-of 2 ∷ 0 ∷ []) ∷ (-1 ∷ -1 ∷ 2 ∷ -1 ∷ -1 ∷ -1 ∷ -1 ∷ -1 ∷ 8 ∷ -1 ∷ []) ∷ (1 ∷ 0 ∷ 0 ∷ 2 ∷ 3 ∷ 4 ∷ 0 ∷ 5 ∷ 0 ∷ 0 ∷ []) ∷ (0 ∷ 7 ∷ 3 ∷ []) ∷ (2 ∷ 12 ∷ 18 ∷ []) ∷ [])
+    ((1 ∷ 1 ∷ []) ∷ (0 ∷ []) ∷ (1 ∷ []) ∷ (0 ∷ []) ∷ (0 ∷ []) ∷ [])
+    (plays
+    ((1 ∷ 5 ∷ 1 ∷ 0 ∷ 0 ∷ 0 ∷ 0 ∷ 0 ∷ 2 ∷ 0 ∷ 0 ∷ 1 ∷ 0 ∷ 1 ∷ 3 ∷ 3 ∷ 0 ∷ 1 ∷ 0 ∷ 0 ∷ 3 ∷ 0 ∷ 0 ∷ -1 ∷ 0 ∷ 3 ∷ 0 ∷ 0 ∷ 0 ∷ -1 ∷ 0 ∷ 0 ∷ 1 ∷ [])
+    ∷ []) 0 1)
+    -- A Loop (3) in a Loop's body reads its Count, the outer Index, each time that it is entered: a Cycle in the inner body counts 0 + 1 + 2 + 3 runs.
+    ∷ row
+    ((6 ∷ 4 ∷ 13 ∷ 3 ∷ []) ∷ (1 ∷ 1 ∷ 1 ∷ 1 ∷ []) ∷ (4 ∷ 1 ∷ 3 ∷ 100 ∷ []) ∷ (28 ∷ 29 ∷ 30 ∷ 29 ∷ 30 ∷ 23 ∷ []) ∷ (0 ∷ 0 ∷ body-of 1 ∷ body-of 1 ∷ body-of 3 ∷ body-of 3 ∷ []) ∷ (-1 ∷ -1 ∷ -1 ∷ -1 ∷ -1 ∷ -1 ∷ 7 ∷ -1 ∷ -1 ∷ -1 ∷ -1 ∷ -1 ∷ -1 ∷ []) ∷ (0 ∷ 1 ∷ 0 ∷ 0 ∷ 2 ∷ 0 ∷ 0 ∷ 0 ∷ 0 ∷ 3 ∷ 0 ∷ 0 ∷ 4 ∷ []) ∷ (0 ∷ 6 ∷ 12 ∷ []) ∷ (0 ∷ 10 ∷ 20 ∷ []) ∷ [])
+    ((1 ∷ 1 ∷ []) ∷ (0 ∷ []) ∷ (1 ∷ []) ∷ (0 ∷ []) ∷ (0 ∷ []) ∷ [])
+    (plays
+    ((1 ∷ 11 ∷ 1 ∷ 0 ∷ 0 ∷ 0 ∷ 0 ∷ 0 ∷ 2 ∷ 0 ∷ 0 ∷ 0 ∷ 1 ∷ 3 ∷ 3 ∷ 0 ∷ 1 ∷ 0 ∷ 1 ∷ 3 ∷ 3 ∷ 0 ∷ 1 ∷ 0 ∷ 0 ∷ 1 ∷ 0 ∷ 0 ∷ 0 ∷ 4 ∷ 0 ∷ 0 ∷ 0 ∷ 3 ∷ 0 ∷ 3 ∷ 0 ∷ 0 ∷ 0 ∷ 2 ∷ 0 ∷ 0 ∷ 6 ∷ [])
+    ∷ []) 0 1)
+    -- A Break (6) in the second run of an inner body ends the inner Loop (3) alone. That run goes on, with a Cycle (7) behind the Break, and counts; the inner Completed calls
+    -- a Cycle (8); and the outer Loop (1) goes on, so that all of this comes twice.
+    ∷ row
+    ((9 ∷ 4 ∷ 19 ∷ 6 ∷ []) ∷ (1 ∷ 1 ∷ 1 ∷ 1 ∷ []) ∷ (2 ∷ 1 ∷ 3 ∷ 100 ∷ []) ∷ (28 ∷ 29 ∷ 30 ∷ 29 ∷ 30 ∷ 20 ∷ 31 ∷ 23 ∷ 23 ∷ []) ∷ (0 ∷ 0 ∷ body-of 1 ∷ body-of 1 ∷ body-of 3 ∷ body-of 3 ∷ body-of 3 ∷ body-of 3 ∷ body-of 1 ∷ []) ∷ (-1 ∷ -1 ∷ -1 ∷ -1 ∷ -1 ∷ -1 ∷ -1 ∷ -1 ∷ -1 ∷ -1 ∷ -1 ∷ 13 ∷ -1 ∷ -1 ∷ -1 ∷ -1 ∷ -1 ∷ -1 ∷ -1 ∷ []) ∷ (0 ∷ 1 ∷ 0 ∷ 0 ∷ 2 ∷ 0 ∷ 3 ∷ 0 ∷ 0 ∷ 3 ∷ 0 ∷ 0 ∷ 0 ∷ 0 ∷ 0 ∷ 4 ∷ 0 ∷ 0 ∷ 4 ∷ []) ∷ (0 ∷ 6 ∷ 12 ∷ 14 ∷ 16 ∷ 8 ∷ []) ∷ (0 ∷ 10 ∷ 20 ∷ 24 ∷ 26 ∷ 32 ∷ []) ∷ [])
+    ((1 ∷ 1 ∷ []) ∷ (0 ∷ []) ∷ (1 ∷ []) ∷ (0 ∷ []) ∷ (0 ∷ []) ∷ [])
+    (plays
+    ((1 ∷ 13 ∷ 1 ∷ 0 ∷ 0 ∷ 0 ∷ 0 ∷ 0 ∷ 2 ∷ 0 ∷ 0 ∷ 0 ∷ 1 ∷ 3 ∷ 3 ∷ 0 ∷ 1 ∷ 0 ∷ 1 ∷ 3 ∷ 3 ∷ 0 ∷ 1 ∷ 0 ∷ 0 ∷ 0 ∷ 0 ∷ 0 ∷ 1 ∷ 0 ∷ 0 ∷ 1 ∷ 0 ∷ 0 ∷ 0 ∷ 2 ∷ 0 ∷ 0 ∷ 0 ∷ 1 ∷ 0 ∷ 2 ∷ 0 ∷ 0 ∷ 0 ∷ 1 ∷ 0 ∷ 0 ∷ 0 ∷ 0 ∷ 0 ∷ 2 ∷ 0 ∷ 0 ∷ 2 ∷ [])
+    ∷ []) 0 1)
+    -- A Break (3) before an inner Loop (4) does not end that, and outlasts it: three runs of the inner body, one of the outer.
+    ∷ row
+    ((7 ∷ 5 ∷ 14 ∷ 4 ∷ []) ∷ (1 ∷ 1 ∷ 1 ∷ 1 ∷ 1 ∷ []) ∷ (2 ∷ 1 ∷ 3 ∷ 4 ∷ 100 ∷ []) ∷ (28 ∷ 29 ∷ 30 ∷ 31 ∷ 29 ∷ 30 ∷ 23 ∷ []) ∷ (0 ∷ 0 ∷ body-of 1 ∷ body-of 1 ∷ body-of 1 ∷ body-of 4 ∷ body-of 4 ∷ []) ∷ (-1 ∷ -1 ∷ -1 ∷ -1 ∷ -1 ∷ -1 ∷ -1 ∷ -1 ∷ -1 ∷ -1 ∷ -1 ∷ -1 ∷ -1 ∷ -1 ∷ []) ∷ (0 ∷ 1 ∷ 0 ∷ 0 ∷ 2 ∷ 0 ∷ 0 ∷ 3 ∷ 0 ∷ 0 ∷ 4 ∷ 0 ∷ 0 ∷ 5 ∷ []) ∷ (0 ∷ 6 ∷ 8 ∷ 13 ∷ []) ∷ (0 ∷ 10 ∷ 12 ∷ 22 ∷ []) ∷ [])
+    ((1 ∷ 1 ∷ []) ∷ (0 ∷ []) ∷ (1 ∷ []) ∷ (0 ∷ []) ∷ (0 ∷ []) ∷ [])
+    (plays
+    ((1 ∷ 6 ∷ 1 ∷ 0 ∷ 0 ∷ 0 ∷ 0 ∷ 0 ∷ 2 ∷ 0 ∷ 0 ∷ 0 ∷ 1 ∷ 3 ∷ 3 ∷ 0 ∷ 1 ∷ 0 ∷ 0 ∷ 1 ∷ 3 ∷ 3 ∷ 0 ∷ 1 ∷ 0 ∷ 0 ∷ 1 ∷ 0 ∷ 0 ∷ 0 ∷ 1 ∷ 0 ∷ 0 ∷ 0 ∷ 0 ∷ 0 ∷ 0 ∷ 3 ∷ 0 ∷ 0 ∷ 0 ∷ 2 ∷ 0 ∷ 0 ∷ 3 ∷ [])
+    ∷ []) 0 1)
+    -- A Union (4) in a body is called twice in each of two runs, and by a fork of each. It passes once in each run, also where a unit of its own (3) had it pass in this tick;
+    -- and once a tick outside, also where it has passed in runs. A Cycle (5) behind it counts 1 + 2, and then 2 + 1 more.
+    ∷ row
+    ((6 ∷ 3 ∷ 9 ∷ 6 ∷ []) ∷ (1 ∷ 1 ∷ 1 ∷ []) ∷ (2 ∷ 1 ∷ 100 ∷ []) ∷ (28 ∷ 29 ∷ 30 ∷ 28 ∷ 21 ∷ 23 ∷ []) ∷ (1 ∷ 0 ∷ body-of 1 ∷ body-of 1 ∷ body-of 1 ∷ body-of 1 ∷ []) ∷ (-1 ∷ -1 ∷ -1 ∷ -1 ∷ -1 ∷ -1 ∷ -1 ∷ -1 ∷ -1 ∷ []) ∷ (0 ∷ 1 ∷ 0 ∷ 0 ∷ 2 ∷ 0 ∷ 0 ∷ 0 ∷ 3 ∷ []) ∷ (0 ∷ 6 ∷ 6 ∷ 6 ∷ 8 ∷ 10 ∷ []) ∷ (0 ∷ 10 ∷ 10 ∷ 11 ∷ 10 ∷ 12 ∷ []) ∷ [])
+    ((2 ∷ 3 ∷ []) ∷ (0 ∷ 0 ∷ []) ∷ (2 ∷ 1 ∷ []) ∷ (0 ∷ 3 ∷ 0 ∷ []) ∷ (0 ∷ 0 ∷ 0 ∷ []) ∷ [])
+    (plays
+    ((1 ∷ 11 ∷ 2 ∷ 0 ∷ 0 ∷ 0 ∷ 0 ∷ 3 ∷ 0 ∷ 2 ∷ 2 ∷ 0 ∷ 0 ∷ 0 ∷ 1 ∷ 3 ∷ 3 ∷ 0 ∷ 1 ∷ 0 ∷ 0 ∷ 0 ∷ 0 ∷ 0 ∷ 1 ∷ 0 ∷ 0 ∷ 0 ∷ 2 ∷ 0 ∷ 0 ∷ 0 ∷ 1 ∷ 0 ∷ 0 ∷ 0 ∷ 0 ∷ 0 ∷ 3 ∷ [])
+    ∷ (2 ∷ 10 ∷ 1 ∷ 0 ∷ 0 ∷ 0 ∷ 0 ∷ 0 ∷ 2 ∷ 0 ∷ 0 ∷ 0 ∷ 1 ∷ 3 ∷ 3 ∷ 0 ∷ 1 ∷ 0 ∷ 0 ∷ 0 ∷ 0 ∷ 0 ∷ 1 ∷ 0 ∷ 0 ∷ 0 ∷ 2 ∷ 0 ∷ 0 ∷ 0 ∷ 1 ∷ 0 ∷ 0 ∷ 0 ∷ 0 ∷ 0 ∷ 6 ∷ [])
+    ∷ []) 0 2)
+    -- Carrying's other case: in a main pass a Loop of rank 4 (2), by its pin, writes a Var (1) in its body. Of what watches the Var, all of rank 6, a ChangeDetector (5) and a
+    -- Toggle's pin (7) are carried; an EdgeExec (6) begins in this tick, behind the ChangeDetector, whose first reading was a change too.
+    ∷ row
+    ((8 ∷ 5 ∷ 13 ∷ 1 ∷ []) ∷ (3 ∷ 1 ∷ 1 ∷ 1 ∷ 1 ∷ []) ∷ (1 ∷ 0 ∷ 1 ∷ 2 ∷ 7 ∷ []) ∷ (5 ∷ 5 ∷ 29 ∷ 30 ∷ 19 ∷ 6 ∷ 9 ∷ 22 ∷ []) ∷ (0 ∷ 0 ∷ 4 ∷ body-of 2 ∷ body-of 2 ∷ 6 ∷ 6 ∷ 6 ∷ []) ∷ (-1 ∷ -1 ∷ 0 ∷ -1 ∷ -1 ∷ -1 ∷ -1 ∷ -1 ∷ -1 ∷ -1 ∷ 1 ∷ 1 ∷ 1 ∷ []) ∷ (1 ∷ 2 ∷ 0 ∷ 3 ∷ 0 ∷ 0 ∷ 4 ∷ 0 ∷ 3 ∷ 5 ∷ 0 ∷ 0 ∷ 0 ∷ []) ∷ (6 ∷ []) ∷ (14 ∷ []) ∷ [])
+    ((2 ∷ 0 ∷ []) ∷ (0 ∷ 0 ∷ []) ∷ (0 ∷ 0 ∷ []) ∷ [] ∷ [] ∷ [])
+    (plays
+    ((1 ∷ 2 ∷ 0 ∷ 3 ∷ 2 ∷ 0 ∷ 0 ∷ 2 ∷ 5 ∷ 6 ∷ 16 ∷ 0 ∷ 32 ∷ 5 ∷ 7 ∷ 0 ∷ 16 ∷ 3 ∷ 1 ∷ 0 ∷ 1 ∷ 3 ∷ 3 ∷ 0 ∷ 1 ∷ 0 ∷ 0 ∷ 0 ∷ 0 ∷ 0 ∷ 0 ∷ 1 ∷ 7 ∷ 0 ∷ 1 ∷ 0 ∷ 0 ∷ 0 ∷ 0 ∷ 0 ∷ 0 ∷ 0 ∷ 0 ∷ 0 ∷ 0 ∷ [])
+    ∷ (2 ∷ 1 ∷ 2 ∷ 0 ∷ 0 ∷ 0 ∷ 0 ∷ 5 ∷ 7 ∷ 0 ∷ 16 ∷ 3 ∷ 1 ∷ 0 ∷ 1 ∷ 3 ∷ 3 ∷ 0 ∷ 1 ∷ 0 ∷ 0 ∷ 0 ∷ 0 ∷ 0 ∷ 3 ∷ 1 ∷ 7 ∷ 0 ∷ 1 ∷ 0 ∷ 0 ∷ 0 ∷ 0 ∷ 0 ∷ 0 ∷ 0 ∷ 0 ∷ 0 ∷ 1 ∷ [])
+    ∷ []) 0 2)
+    -- Each check has its own reason: a VarSet of rank 5 (5), by its pin, then writes the Var outside. The ChangeDetector (6) is carried for the first write, and for the second
+    -- begins in this tick.
+    ∷ row
+    ((7 ∷ 6 ∷ 14 ∷ 1 ∷ []) ∷ (3 ∷ 1 ∷ 1 ∷ 1 ∷ 1 ∷ 1 ∷ []) ∷ (1 ∷ 0 ∷ 1 ∷ 2 ∷ 7 ∷ 8 ∷ []) ∷ (5 ∷ 5 ∷ 29 ∷ 30 ∷ 19 ∷ 19 ∷ 6 ∷ []) ∷ (0 ∷ 0 ∷ 4 ∷ body-of 2 ∷ body-of 2 ∷ 5 ∷ 6 ∷ []) ∷ (-1 ∷ -1 ∷ 0 ∷ -1 ∷ -1 ∷ -1 ∷ -1 ∷ -1 ∷ -1 ∷ -1 ∷ 0 ∷ -1 ∷ -1 ∷ 1 ∷ []) ∷ (1 ∷ 2 ∷ 0 ∷ 3 ∷ 0 ∷ 0 ∷ 4 ∷ 0 ∷ 3 ∷ 5 ∷ 0 ∷ 3 ∷ 6 ∷ 0 ∷ []) ∷ (6 ∷ []) ∷ (14 ∷ []) ∷ [])
+    ((1 ∷ 0 ∷ []) ∷ (0 ∷ []) ∷ (0 ∷ []) ∷ [] ∷ [] ∷ [])
+    (plays
+    ((1 ∷ 3 ∷ 0 ∷ 4 ∷ 1 ∷ 0 ∷ 0 ∷ 2 ∷ 5 ∷ 6 ∷ 6 ∷ 16 ∷ 16 ∷ 0 ∷ 0 ∷ 6 ∷ 0 ∷ 3 ∷ 1 ∷ 0 ∷ 1 ∷ 3 ∷ 3 ∷ 0 ∷ 1 ∷ 0 ∷ 0 ∷ 0 ∷ 1 ∷ 8 ∷ 0 ∷ 1 ∷ 0 ∷ 0 ∷ 0 ∷ 0 ∷ 0 ∷ 0 ∷ 0 ∷ [])
+    ∷ []) 0 1)
+    -- Where the same chain writes the Var outside too, here behind Completed (5), the ChangeDetector is not put off;
+    ∷ row
+    ((7 ∷ 6 ∷ 14 ∷ 2 ∷ []) ∷ (3 ∷ 1 ∷ 1 ∷ 1 ∷ 1 ∷ 1 ∷ []) ∷ (1 ∷ 0 ∷ 1 ∷ 2 ∷ 7 ∷ 8 ∷ []) ∷ (5 ∷ 5 ∷ 29 ∷ 30 ∷ 19 ∷ 19 ∷ 6 ∷ []) ∷ (0 ∷ 0 ∷ 4 ∷ body-of 2 ∷ body-of 2 ∷ 0 ∷ 6 ∷ []) ∷ (-1 ∷ -1 ∷ 0 ∷ -1 ∷ -1 ∷ -1 ∷ -1 ∷ -1 ∷ -1 ∷ -1 ∷ -1 ∷ -1 ∷ -1 ∷ 1 ∷ []) ∷ (1 ∷ 2 ∷ 0 ∷ 3 ∷ 0 ∷ 0 ∷ 4 ∷ 0 ∷ 3 ∷ 5 ∷ 0 ∷ 3 ∷ 6 ∷ 0 ∷ []) ∷ (6 ∷ 2 ∷ []) ∷ (14 ∷ 20 ∷ []) ∷ [])
+    ((1 ∷ 0 ∷ []) ∷ (0 ∷ []) ∷ (0 ∷ []) ∷ [] ∷ [] ∷ [])
+    (plays
+    ((1 ∷ 3 ∷ 0 ∷ 3 ∷ 0 ∷ 0 ∷ 0 ∷ 2 ∷ 6 ∷ 6 ∷ 16 ∷ 0 ∷ 0 ∷ 3 ∷ 1 ∷ 0 ∷ 1 ∷ 3 ∷ 3 ∷ 0 ∷ 1 ∷ 0 ∷ 0 ∷ 0 ∷ 1 ∷ 8 ∷ 0 ∷ 1 ∷ 0 ∷ 0 ∷ 0 ∷ 0 ∷ 0 ∷ 0 ∷ 0 ∷ [])
+    ∷ []) 0 1)
+    -- nor in the late pass, where a WorldEvent enters the Loop: it begins there, and for its first reading in the main pass.
+    ∷ row
+    ((6 ∷ 4 ∷ 10 ∷ 2 ∷ []) ∷ (1 ∷ 1 ∷ 1 ∷ 1 ∷ []) ∷ (0 ∷ 1 ∷ 2 ∷ 7 ∷ []) ∷ (28 ∷ 5 ∷ 29 ∷ 30 ∷ 19 ∷ 6 ∷ []) ∷ (5 ∷ 0 ∷ 0 ∷ body-of 2 ∷ body-of 2 ∷ 6 ∷ []) ∷ (-1 ∷ -1 ∷ -1 ∷ -1 ∷ -1 ∷ -1 ∷ -1 ∷ -1 ∷ -1 ∷ 2 ∷ []) ∷ (1 ∷ 0 ∷ 2 ∷ 0 ∷ 0 ∷ 3 ∷ 0 ∷ 2 ∷ 4 ∷ 0 ∷ []) ∷ (0 ∷ 7 ∷ []) ∷ (2 ∷ 12 ∷ []) ∷ [])
+    ((1 ∷ 1 ∷ []) ∷ (0 ∷ []) ∷ (1 ∷ []) ∷ (0 ∷ []) ∷ (0 ∷ []) ∷ [])
+    (plays
+    ((1 ∷ 2 ∷ 2 ∷ 1 ∷ 0 ∷ 0 ∷ 0 ∷ 0 ∷ 5 ∷ 5 ∷ 2 ∷ 0 ∷ 0 ∷ 0 ∷ 0 ∷ 1 ∷ 0 ∷ 1 ∷ 3 ∷ 3 ∷ 0 ∷ 1 ∷ 0 ∷ 0 ∷ 0 ∷ 0 ∷ 7 ∷ 0 ∷ 1 ∷ 0 ∷ 0 ∷ 0 ∷ 0 ∷ 0 ∷ 0 ∷ [])
+    ∷ []) 0 1)
+    -- Remote calls from a body wait for the end of the whole chain, and run outside. Each of three runs calls a Branch (4) so: all find a Toggle (6) behind Completed on, and
+    -- write the last Index to the Var (1); the ChangeDetector (7) is not put off.
+    ∷ row
+    ((8 ∷ 5 ∷ 14 ∷ 3 ∷ []) ∷ (3 ∷ 1 ∷ 1 ∷ 1 ∷ 1 ∷ []) ∷ (1 ∷ 0 ∷ 3 ∷ 2 ∷ 1 ∷ []) ∷ (5 ∷ 5 ∷ 29 ∷ 30 ∷ 20 ∷ 19 ∷ 22 ∷ 6 ∷ []) ∷ (0 ∷ 0 ∷ 4 ∷ body-of 2 ∷ body-of 2 ∷ body-of 2 ∷ 0 ∷ 6 ∷ []) ∷ (-1 ∷ -1 ∷ 0 ∷ -1 ∷ -1 ∷ -1 ∷ -1 ∷ -1 ∷ 12 ∷ -1 ∷ -1 ∷ 7 ∷ -1 ∷ 1 ∷ []) ∷ (1 ∷ 2 ∷ 0 ∷ 3 ∷ 0 ∷ 0 ∷ 4 ∷ 0 ∷ 0 ∷ 0 ∷ 5 ∷ 0 ∷ 0 ∷ 0 ∷ []) ∷ (6 ∷ 8 ∷ 2 ∷ []) ∷ (15 ∷ 18 ∷ 24 ∷ []) ∷ [])
+    ((1 ∷ 0 ∷ []) ∷ (0 ∷ []) ∷ (0 ∷ []) ∷ [] ∷ [] ∷ [])
+    (plays
+    ((1 ∷ 8 ∷ 0 ∷ 3 ∷ 0 ∷ 0 ∷ 0 ∷ 2 ∷ 7 ∷ 7 ∷ 16 ∷ 0 ∷ 0 ∷ 3 ∷ 1 ∷ 0 ∷ 1 ∷ 3 ∷ 3 ∷ 0 ∷ 1 ∷ 0 ∷ 0 ∷ 0 ∷ 0 ∷ 3 ∷ 0 ∷ 1 ∷ 2 ∷ 0 ∷ 3 ∷ 0 ∷ 0 ∷ 0 ∷ 2 ∷ 0 ∷ 0 ∷ 0 ∷ 0 ∷ 1 ∷ 0 ∷ [])
+    ∷ []) 0 1)
     -- Question 1: a word is missing.
     ∷ row
     ((2 ∷ 1 ∷ 1 ∷ 1 ∷ []) ∷ (1 ∷ []) ∷ (7 ∷ []) ∷ (28 ∷ 22 ∷ []) ∷ (0 ∷ 1 ∷ []) ∷ (-1 ∷ []) ∷ (0 ∷ []) ∷ (0 ∷ []) ∷ [] ∷ [])
@@ -233,9 +323,9 @@ rows =
     ((2 ∷ 1 ∷ 1 ∷ 1 ∷ []) ∷ (1 ∷ []) ∷ (7 ∷ []) ∷ (32 ∷ 22 ∷ []) ∷ (0 ∷ 1 ∷ []) ∷ (-1 ∷ []) ∷ (0 ∷ []) ∷ (0 ∷ []) ∷ (0 ∷ []) ∷ [])
     ((1 ∷ 1 ∷ []) ∷ (4598175219545276416 ∷ []) ∷ (1 ∷ []) ∷ (0 ∷ []) ∷ (1 ∷ []) ∷ [])
     (refused 3)
-    -- The last body is 64, and 65 is refused by question 3.
+    -- The last body is 64, that of gate 63; the next is refused by question 3.
     ∷ row
-    ((1 ∷ 0 ∷ 1 ∷ 0 ∷ []) ∷ [] ∷ [] ∷ (22 ∷ []) ∷ (4259840 ∷ []) ∷ (-1 ∷ []) ∷ (0 ∷ []) ∷ [] ∷ [] ∷ [])
+    ((1 ∷ 0 ∷ 1 ∷ 0 ∷ []) ∷ [] ∷ [] ∷ (22 ∷ []) ∷ (body-of 64 ∷ []) ∷ (-1 ∷ []) ∷ (0 ∷ []) ∷ [] ∷ [] ∷ [])
     ((0 ∷ 0 ∷ []) ∷ [] ∷ [] ∷ [] ∷ [] ∷ [])
     (refused 3)
     -- Question 4: a source that is an exec output.
@@ -245,7 +335,7 @@ rows =
     (refused 4)
     -- An entry that names a Toggle.
     ∷ row
-    ((2 ∷ 1 ∷ 2 ∷ 0 ∷ []) ∷ (1 ∷ []) ∷ (0 ∷ []) ∷ (22 ∷ 30 ∷ []) ∷ (0 ∷ 65536 ∷ []) ∷ (-1 ∷ -1 ∷ []) ∷ (0 ∷ 1 ∷ []) ∷ [] ∷ [] ∷ [])
+    ((2 ∷ 1 ∷ 2 ∷ 0 ∷ []) ∷ (1 ∷ []) ∷ (0 ∷ []) ∷ (22 ∷ 30 ∷ []) ∷ (0 ∷ body-of 0 ∷ []) ∷ (-1 ∷ -1 ∷ []) ∷ (0 ∷ 1 ∷ []) ∷ [] ∷ [] ∷ [])
     ((0 ∷ 0 ∷ []) ∷ [] ∷ [] ∷ [] ∷ [] ∷ [])
     (refused 4)
     -- Question 5: a call from a value output.
@@ -255,17 +345,17 @@ rows =
     (refused 5)
     -- Question 19: yes of a Loop (gate 2) in the body of another (0), each with its entry (1 and 3) in its own body.
     ∷ row
-    ((4 ∷ 2 ∷ 10 ∷ 0 ∷ []) ∷ (1 ∷ 1 ∷ []) ∷ (0 ∷ 2 ∷ []) ∷ (29 ∷ 30 ∷ 29 ∷ 30 ∷ []) ∷ (0 ∷ 65536 ∷ 65536 ∷ 196608 ∷ []) ∷ (-1 ∷ -1 ∷ -1 ∷ -1 ∷ -1 ∷ -1 ∷ -1 ∷ -1 ∷ -1 ∷ -1 ∷ []) ∷ (0 ∷ 0 ∷ 0 ∷ 0 ∷ 1 ∷ 0 ∷ 0 ∷ 0 ∷ 0 ∷ 2 ∷ []) ∷ [] ∷ [] ∷ [])
+    ((4 ∷ 2 ∷ 10 ∷ 0 ∷ []) ∷ (1 ∷ 1 ∷ []) ∷ (0 ∷ 2 ∷ []) ∷ (29 ∷ 30 ∷ 29 ∷ 30 ∷ []) ∷ (0 ∷ body-of 0 ∷ body-of 0 ∷ body-of 2 ∷ []) ∷ (-1 ∷ -1 ∷ -1 ∷ -1 ∷ -1 ∷ -1 ∷ -1 ∷ -1 ∷ -1 ∷ -1 ∷ []) ∷ (0 ∷ 0 ∷ 0 ∷ 0 ∷ 1 ∷ 0 ∷ 0 ∷ 0 ∷ 0 ∷ 2 ∷ []) ∷ [] ∷ [] ∷ [])
     ((0 ∷ 0 ∷ []) ∷ [] ∷ [] ∷ [] ∷ [] ∷ [])
     (plays [] 0 0)
     -- It is no where a call leaves its body, here from an entry's Body to a Toggle outside;
     ∷ row
-    ((3 ∷ 1 ∷ 6 ∷ 1 ∷ []) ∷ (1 ∷ []) ∷ (0 ∷ []) ∷ (29 ∷ 30 ∷ 22 ∷ []) ∷ (0 ∷ 65536 ∷ 0 ∷ []) ∷ (-1 ∷ -1 ∷ -1 ∷ -1 ∷ -1 ∷ -1 ∷ []) ∷ (0 ∷ 0 ∷ 0 ∷ 0 ∷ 1 ∷ 0 ∷ []) ∷ (4 ∷ []) ∷ (10 ∷ []) ∷ [])
+    ((3 ∷ 1 ∷ 6 ∷ 1 ∷ []) ∷ (1 ∷ []) ∷ (0 ∷ []) ∷ (29 ∷ 30 ∷ 22 ∷ []) ∷ (0 ∷ body-of 0 ∷ 0 ∷ []) ∷ (-1 ∷ -1 ∷ -1 ∷ -1 ∷ -1 ∷ -1 ∷ []) ∷ (0 ∷ 0 ∷ 0 ∷ 0 ∷ 1 ∷ 0 ∷ []) ∷ (4 ∷ []) ∷ (10 ∷ []) ∷ [])
     ((0 ∷ 0 ∷ []) ∷ [] ∷ [] ∷ [] ∷ [] ∷ [])
     (refused 19)
     -- where a body is no Loop's;
     ∷ row
-    ((1 ∷ 0 ∷ 1 ∷ 0 ∷ []) ∷ [] ∷ [] ∷ (22 ∷ []) ∷ (4194304 ∷ []) ∷ (-1 ∷ []) ∷ (0 ∷ []) ∷ [] ∷ [] ∷ [])
+    ((1 ∷ 0 ∷ 1 ∷ 0 ∷ []) ∷ [] ∷ [] ∷ (22 ∷ []) ∷ (body-of 63 ∷ []) ∷ (-1 ∷ []) ∷ (0 ∷ []) ∷ [] ∷ [] ∷ [])
     ((0 ∷ 0 ∷ []) ∷ [] ∷ [] ∷ [] ∷ [] ∷ [])
     (refused 19)
     -- where a Loop has no entry,
@@ -275,7 +365,7 @@ rows =
     (refused 19)
     -- or two,
     ∷ row
-    ((3 ∷ 1 ∷ 6 ∷ 0 ∷ []) ∷ (1 ∷ []) ∷ (0 ∷ []) ∷ (29 ∷ 30 ∷ 30 ∷ []) ∷ (0 ∷ 65536 ∷ 65536 ∷ []) ∷ (-1 ∷ -1 ∷ -1 ∷ -1 ∷ -1 ∷ -1 ∷ []) ∷ (0 ∷ 0 ∷ 0 ∷ 0 ∷ 1 ∷ 1 ∷ []) ∷ [] ∷ [] ∷ [])
+    ((3 ∷ 1 ∷ 6 ∷ 0 ∷ []) ∷ (1 ∷ []) ∷ (0 ∷ []) ∷ (29 ∷ 30 ∷ 30 ∷ []) ∷ (0 ∷ body-of 0 ∷ body-of 0 ∷ []) ∷ (-1 ∷ -1 ∷ -1 ∷ -1 ∷ -1 ∷ -1 ∷ []) ∷ (0 ∷ 0 ∷ 0 ∷ 0 ∷ 1 ∷ 1 ∷ []) ∷ [] ∷ [] ∷ [])
     ((0 ∷ 0 ∷ []) ∷ [] ∷ [] ∷ [] ∷ [] ∷ [])
     (refused 19)
     -- or one that lies in another body;
@@ -285,17 +375,17 @@ rows =
     (refused 19)
     -- where two Loops lie each in the other's body,
     ∷ row
-    ((4 ∷ 2 ∷ 10 ∷ 0 ∷ []) ∷ (1 ∷ 1 ∷ []) ∷ (0 ∷ 2 ∷ []) ∷ (29 ∷ 30 ∷ 29 ∷ 30 ∷ []) ∷ (196608 ∷ 65536 ∷ 65536 ∷ 196608 ∷ []) ∷ (-1 ∷ -1 ∷ -1 ∷ -1 ∷ -1 ∷ -1 ∷ -1 ∷ -1 ∷ -1 ∷ -1 ∷ []) ∷ (0 ∷ 0 ∷ 0 ∷ 0 ∷ 1 ∷ 0 ∷ 0 ∷ 0 ∷ 0 ∷ 2 ∷ []) ∷ [] ∷ [] ∷ [])
+    ((4 ∷ 2 ∷ 10 ∷ 0 ∷ []) ∷ (1 ∷ 1 ∷ []) ∷ (0 ∷ 2 ∷ []) ∷ (29 ∷ 30 ∷ 29 ∷ 30 ∷ []) ∷ (body-of 2 ∷ body-of 0 ∷ body-of 0 ∷ body-of 2 ∷ []) ∷ (-1 ∷ -1 ∷ -1 ∷ -1 ∷ -1 ∷ -1 ∷ -1 ∷ -1 ∷ -1 ∷ -1 ∷ []) ∷ (0 ∷ 0 ∷ 0 ∷ 0 ∷ 1 ∷ 0 ∷ 0 ∷ 0 ∷ 0 ∷ 2 ∷ []) ∷ [] ∷ [] ∷ [])
     ((0 ∷ 0 ∷ []) ∷ [] ∷ [] ∷ [] ∷ [] ∷ [])
     (refused 19)
     -- or a Loop in its own.
     ∷ row
-    ((2 ∷ 1 ∷ 5 ∷ 0 ∷ []) ∷ (1 ∷ []) ∷ (0 ∷ []) ∷ (29 ∷ 30 ∷ []) ∷ (65536 ∷ 65536 ∷ []) ∷ (-1 ∷ -1 ∷ -1 ∷ -1 ∷ -1 ∷ []) ∷ (0 ∷ 0 ∷ 0 ∷ 0 ∷ 1 ∷ []) ∷ [] ∷ [] ∷ [])
+    ((2 ∷ 1 ∷ 5 ∷ 0 ∷ []) ∷ (1 ∷ []) ∷ (0 ∷ []) ∷ (29 ∷ 30 ∷ []) ∷ (body-of 0 ∷ body-of 0 ∷ []) ∷ (-1 ∷ -1 ∷ -1 ∷ -1 ∷ -1 ∷ []) ∷ (0 ∷ 0 ∷ 0 ∷ 0 ∷ 1 ∷ []) ∷ [] ∷ [] ∷ [])
     ((0 ∷ 0 ∷ []) ∷ [] ∷ [] ∷ [] ∷ [] ∷ [])
     (refused 19)
     -- It is asked before question 6: two Reroutes read each other, and a Toggle's body is no Loop's.
     ∷ row
-    ((3 ∷ 0 ∷ 3 ∷ 0 ∷ []) ∷ [] ∷ [] ∷ (2 ∷ 2 ∷ 22 ∷ []) ∷ (0 ∷ 0 ∷ 65536 ∷ []) ∷ (1 ∷ 0 ∷ -1 ∷ []) ∷ (0 ∷ 0 ∷ 0 ∷ []) ∷ [] ∷ [] ∷ [])
+    ((3 ∷ 0 ∷ 3 ∷ 0 ∷ []) ∷ [] ∷ [] ∷ (2 ∷ 2 ∷ 22 ∷ []) ∷ (0 ∷ 0 ∷ body-of 0 ∷ []) ∷ (1 ∷ 0 ∷ -1 ∷ []) ∷ (0 ∷ 0 ∷ 0 ∷ []) ∷ [] ∷ [] ∷ [])
     ((0 ∷ 0 ∷ []) ∷ [] ∷ [] ∷ [] ∷ [] ∷ [])
     (refused 19)
     -- Question 6: two Reroutes read each other.
@@ -401,3 +491,48 @@ pub stopped-carries :
     ≡ record { log = 1 ∷ 2 ∷ 0 ∷ 3 ∷ 3 ∷ 11 ∷ 0 ∷ 3 ∷ 0 ∷ 5 ∷ 0 ∷ 0 ∷ 32 ∷ 2 ∷ 3 ∷ 4 ∷ 32 ∷ 0 ∷ 16 ∷ []; stop = 11; ticks = 0 }
 unfolding model-opened
 stopped-carries = refl
+
+-- ---- the limit of runs, with a small number in place of 100,000, and that of the chain stack
+
+-- A Loop (gate 0) of three runs, whose body calls a Toggle (2) twice; Completed calls another one (3). The Loop is entered where so many runs are left to the tick, and
+-- so many calls of the second Toggle wait around it.
+unfoldable pub three-runs : ℕ → ℕ → Chained
+three-runs runs around =
+    let c =
+    circuit (joined (
+    (4 ∷ 2 ∷ 7 ∷ 3 ∷ [])
+    ∷ (1 ∷ 1 ∷ []) ∷ (3 ∷ 0 ∷ [])
+    ∷ (29 ∷ 30 ∷ 22 ∷ 22 ∷ []) ∷ (0 ∷ body-of 0 ∷ body-of 0 ∷ 0 ∷ [])
+    ∷ (-1 ∷ -1 ∷ -1 ∷ -1 ∷ -1 ∷ -1 ∷ -1 ∷ []) ∷ (0 ∷ 1 ∷ 0 ∷ 0 ∷ 2 ∷ 0 ∷ 0 ∷ [])
+    ∷ (4 ∷ 4 ∷ 0 ∷ []) ∷ (10 ∷ 10 ∷ 12 ∷ [])
+    ∷ [])) in
+    run-chain c 1000 (record { stack = 0 ∷ replicate around 6; forks = [] }) (runs-left-to runs (start c))
+
+-- Where two runs are left the third aborts the Loop, before Index is set, and Completed is fired; where three are left all is done.
+pub third-run-aborts :
+    (three-runs 2 0 .state .wires .outs
+    ≡ Nothing ∷ Int 2 ∷ Truth true ∷ Truth false ∷ Nothing ∷ Int 1 ∷ Nothing ∷ Truth false ∷ Nothing ∷ Truth true ∷ [])
+    × (three-runs 3 0 .state .wires .outs
+    ≡ Nothing ∷ Int 3 ∷ Truth false ∷ Truth false ∷ Nothing ∷ Int 2 ∷ Nothing ∷ Truth false ∷ Nothing ∷ Truth true ∷ [])
+unfolding model-opened three-runs
+third-run-aborts = (refl, refl)
+
+-- The stack's 256 covers all nested runs: 254 calls around the Loop and two in its body fit, 255 and two do not.
+pub stack-of-all-runs : (three-runs 3 254 .stop ≡ 0) × (three-runs 3 255 .stop ≡ 12)
+unfolding model-opened three-runs
+stack-of-all-runs = (refl, refl)
+
+-- ---- the index
+
+-- of the first four runs
+abbrev indices : ℤ → ℤ → List ℕ
+indices first step = map (λ done. index first done step) (0 ∷ 1 ∷ 2 ∷ 3 ∷ [])
+
+-- It wraps at 64 bits: past 2^63 - 1, by 2^62, by -2^63, and below -2^63. A word of 2^63 or more is negative.
+pub indices-wrap :
+    (indices (pos (2 ^ 63 - 2)) (pos 1) ≡ (2 ^ 63 - 2) ∷ (2 ^ 63 - 1) ∷ 2 ^ 63 ∷ (2 ^ 63 + 1) ∷ [])
+    × (indices (pos 0) (pos (2 ^ 62)) ≡ 0 ∷ 2 ^ 62 ∷ 2 ^ 63 ∷ (3 * 2 ^ 62) ∷ [])
+    × (indices (pos 5) (negsuc (2 ^ 63 - 1)) ≡ 5 ∷ (2 ^ 63 + 5) ∷ 5 ∷ (2 ^ 63 + 5) ∷ [])
+    × (indices (negsuc (2 ^ 63 - 1)) (negsuc 0) ≡ 2 ^ 63 ∷ (2 ^ 63 - 1) ∷ (2 ^ 63 - 2) ∷ (2 ^ 63 - 3) ∷ [])
+unfolding model-opened
+indices-wrap = (refl, refl, refl, refl)
