@@ -2,12 +2,15 @@
 //! 19 of document 02 (K5).
 
 use crate::graph::Op;
-use crate::kinds::{Kind, Port, Setting, bodies_taken, kind, kinds_taken};
+use crate::kinds::{Kind, Port, Setting, kind};
 use crate::value::Value;
 use crate::words::{Parts, words};
 
 /// The ranks, and how much a rank's word grows from one body to the next.
 const RANKS: i64 = 65_536;
+
+/// The bodies beside the outside.
+const BODIES: i64 = 64;
 
 /// A circuit of which questions 1 to 6 and 19 are answered yes.
 #[derive(Debug)]
@@ -50,13 +53,12 @@ pub struct Call {
 }
 
 impl Circuit {
-    /// The circuit, or the number of the first question answered no. Whether
-    /// `loops` are taken is for question 3.
-    pub fn decode(loops: bool, bytes: &[u8]) -> Result<Self, u8> {
+    /// The circuit, or the number of the first question answered no.
+    pub fn decode(bytes: &[u8]) -> Result<Self, u8> {
         let raw = Raw::read(bytes).ok_or(1)?;
         let constants = raw.constants().ok_or(2)?;
-        let kinds = raw.kinds(loops).ok_or(3)?;
-        let (ranks, bodies) = raw.ranks(loops).ok_or(3)?;
+        let kinds = raw.kinds().ok_or(3)?;
+        let (ranks, bodies) = raw.ranks().ok_or(3)?;
         let outputs = outputs(&kinds);
         let mut circuit = Circuit { constants, kinds, ranks, bodies, outputs, inputs: vec![], calls: vec![] };
         circuit.inputs = raw.inputs(&circuit).ok_or(4)?;
@@ -233,18 +235,17 @@ impl Raw {
     }
 
     /// Question 3: the kinds, with as many inputs as there are.
-    fn kinds(&self, loops: bool) -> Option<Vec<&'static Kind>> {
-        let taken = |&n: &i64| if n <= kinds_taken(loops) { kind(n) } else { None };
-        let kinds: Vec<_> = self.kinds.iter().map(taken).collect::<Option<_>>()?;
+    fn kinds(&self) -> Option<Vec<&'static Kind>> {
+        let kinds: Vec<_> = self.kinds.iter().map(|&n| kind(n)).collect::<Option<_>>()?;
         let inputs: usize = kinds.iter().map(|k| k.inputs.len()).sum();
         (inputs == self.sources.len()).then_some(kinds)
     }
 
     /// Question 3: the ranks and the bodies, which stand in one word.
-    fn ranks(&self, loops: bool) -> Option<(Vec<u32>, Vec<u32>)> {
+    fn ranks(&self) -> Option<(Vec<u32>, Vec<u32>)> {
         let split = |&word: &i64| {
             let (rank, body) = (word.rem_euclid(RANKS), word.div_euclid(RANKS));
-            (0..=bodies_taken(loops)).contains(&body).then_some((rank as u32, body as u32))
+            (0..=BODIES).contains(&body).then_some((rank as u32, body as u32))
         };
         self.ranks.iter().map(split).collect()
     }

@@ -7,7 +7,7 @@ mod looped;
 mod random;
 mod valid;
 
-pub use damaged::{ASKED, Damaged, damaged, damaged_loops, damaged_with};
-pub use family::{FAMILIES, Family, WITH_LOOPS, families, stated_families};
+pub use damaged::{ASKED, Damaged, damaged, damaged_loops};
+pub use family::{FAMILIES, Family, WITH_LOOPS, stated_families};
 pub use random::Random;
 pub use valid::valid;

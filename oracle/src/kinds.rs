@@ -4,23 +4,6 @@
 
 use crate::graph::{Detector, LoopKind, Op};
 
-/// Whether Loops, their entries and Breaks (document 02, K5) are taken. From this
-/// follow the kinds and bodies that question 3 takes, and whether the stated
-/// circuits, the vectors, what is packed and the generator's families have
-/// Loops. What is open can be asked for all the same (`run_with`,
-/// `circuits::groups_with`), so that the tests play Loops in any case.
-pub const LOOPS_OPEN: bool = true;
-
-/// How many kinds question 3 takes.
-pub const fn kinds_taken(loops: bool) -> i64 {
-    if loops { 31 } else { 28 }
-}
-
-/// How many bodies question 3 takes beside the outside.
-pub const fn bodies_taken(loops: bool) -> i64 {
-    if loops { 64 } else { 0 }
-}
-
 #[derive(Clone, Copy, Debug, PartialEq, Eq)]
 pub enum Port {
     Value(&'static str),

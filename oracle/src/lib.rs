@@ -54,12 +54,7 @@ pub enum Answer {
 
 /// Ask the questions, then play.
 pub fn run(circuit: &[u8], script: &[u8], lent: &Lent) -> Answer {
-    run_with(kinds::LOOPS_OPEN, circuit, script, lent)
-}
-
-/// [`run`], whether or not Loops are taken.
-pub fn run_with(loops: bool, circuit: &[u8], script: &[u8], lent: &Lent) -> Answer {
-    match questions::ask_with(loops, circuit, script, Some(lent)) {
+    match questions::ask(circuit, script, Some(lent)) {
         Err(number) => Answer::Refused(number),
         Ok((circuit, script)) => play::play(&circuit, &script, lent.log),
     }
@@ -68,12 +63,7 @@ pub fn run_with(loops: bool, circuit: &[u8], script: &[u8], lent: &Lent) -> Answ
 /// The questions of a call that is lent no areas: the number of the first
 /// answered no, or 0.
 pub fn check(circuit: &[u8], script: &[u8]) -> u8 {
-    check_with(kinds::LOOPS_OPEN, circuit, script)
-}
-
-/// [`check`], whether or not Loops are taken.
-pub fn check_with(loops: bool, circuit: &[u8], script: &[u8]) -> u8 {
-    questions::ask_with(loops, circuit, script, None).err().unwrap_or(0)
+    questions::ask(circuit, script, None).err().unwrap_or(0)
 }
 
 /// What document 01's program prints for `answer`.

@@ -2,7 +2,6 @@
 
 use crate::Lent;
 use crate::circuit::Circuit;
-use crate::kinds::LOOPS_OPEN;
 use crate::script::Script;
 
 /// The least bytes of an area.
@@ -13,17 +12,7 @@ const QUEUES: usize = 8;
 /// The circuit and the script, or the number of the first question answered
 /// no. A call that is lent no areas asks only the first half of question 7.
 pub fn ask(circuit: &[u8], script: &[u8], lent: Option<&Lent>) -> Result<(Circuit, Script), u8> {
-    ask_with(LOOPS_OPEN, circuit, script, lent)
-}
-
-/// [`ask`], whether or not Loops are taken.
-pub fn ask_with(
-    loops: bool,
-    circuit: &[u8],
-    script: &[u8],
-    lent: Option<&Lent>,
-) -> Result<(Circuit, Script), u8> {
-    let circuit = Circuit::decode(loops, circuit)?;
+    let circuit = Circuit::decode(circuit)?;
     let queues = circuit.queues();
     if queues > QUEUES || lent.is_some_and(|lent| !areas_suffice(lent, queues)) {
         return Err(7);

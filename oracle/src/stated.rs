@@ -2,15 +2,15 @@
 
 use std::path::Path;
 
-use oracle::circuits::{Case, all_with};
-use oracle::generate::{damaged, damaged_loops, families, valid};
+use oracle::circuits::{Case, all};
+use oracle::generate::{FAMILIES, damaged, damaged_loops, valid};
 
-/// The stated circuit of this name, with Loops or without.
+/// The stated circuit of this name.
 pub fn stated(name: &str) -> Option<Case> {
-    all_with(true).into_iter().find(|case| case.name == name)
+    all().into_iter().find(|case| case.name == name)
 }
 
-/// The case of a family, or a damaged one, and a seed, with Loops or without.
+/// The case of a family, or a damaged one, and a seed.
 pub fn generated(family: &str, seed: &str) -> Option<Case> {
     let seed = seed.parse().ok()?;
     match family {
@@ -18,7 +18,7 @@ pub fn generated(family: &str, seed: &str) -> Option<Case> {
         "damaged-loops" => return Some(damaged_loops(seed).case),
         _ => {}
     }
-    let family = families(true).find(|f| f.name() == family)?;
+    let family = FAMILIES.into_iter().find(|f| f.name() == family)?;
     Some(valid(seed, family))
 }
 

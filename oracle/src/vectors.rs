@@ -6,7 +6,6 @@ use std::path::Path;
 
 use crate::circuits::{Case, Group, groups};
 use crate::generate::{FAMILIES, damaged, damaged_loops, valid};
-use crate::kinds::LOOPS_OPEN;
 use crate::{Answer, Lent, run};
 
 /// Words above this many are not written but summed up.
@@ -29,9 +28,7 @@ pub fn write_random(dir: &Path, first: u64, last: u64) -> std::io::Result<()> {
             text += &vector(&valid(seed, family));
         }
         text += &vector(&damaged(seed).case);
-        if LOOPS_OPEN {
-            text += &vector(&damaged_loops(seed).case);
-        }
+        text += &vector(&damaged_loops(seed).case);
     }
     std::fs::write(dir.join("random.txt"), text)
 }

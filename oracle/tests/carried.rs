@@ -1,6 +1,5 @@
 //! What a record lists as carried (document 02, K4), on every stated circuit
-//! and on random ones of every family, those with Loops too, played with a log
-//! that takes all:
+//! and on random ones of every family, played with a log that takes all:
 //!
 //! - It is the source's own list `carried` when the tick has ended or stopped,
 //!   gate by gate and form by form, in its order.
@@ -14,9 +13,9 @@ mod reading;
 
 use oracle::circuits;
 use oracle::circuits::Case;
-use oracle::generate::{families, valid};
+use oracle::generate::{FAMILIES, valid};
 use oracle::play::start;
-use oracle::questions::ask_with;
+use oracle::questions::ask;
 use reading::Played;
 
 /// The form of a unit that an event begins.
@@ -40,7 +39,7 @@ struct Sum {
 
 /// What a case plays, and the source's own list after each tick.
 fn play(case: &Case) -> Option<(Played, Vec<Vec<(i64, i64)>>)> {
-    let (circuit, script) = ask_with(true, &case.circuit, &case.script, Some(&case.lent)).ok()?;
+    let (circuit, script) = ask(&case.circuit, &case.script, Some(&case.lent)).ok()?;
     let mut machine = start(&circuit, &script);
     let (mut log, mut lists) = (Vec::new(), Vec::new());
     let (mut stop, mut done) = (0, 0);
@@ -106,7 +105,7 @@ fn assert_begin_next(p: &Played, k: usize, case: &Case, sum: &mut Sum) {
 #[test]
 fn of_the_stated_circuits() {
     let mut sum = Sum::default();
-    for case in circuits::all_with(true) {
+    for case in circuits::all() {
         compare(&case, &mut sum);
     }
     assert!(sum.records > 800 && sum.against_ranks > 60 && sum.begun > 1_000, "{sum:?}");
@@ -116,7 +115,7 @@ fn of_the_stated_circuits() {
 #[test]
 fn of_random_ones() {
     let mut sum = Sum::default();
-    for family in families(true) {
+    for family in FAMILIES {
         for seed in 0..400 {
             compare(&valid(seed, family), &mut sum);
         }

@@ -6,7 +6,6 @@ mod reading;
 
 use oracle::circuits::{self, Case};
 use oracle::generate::ASKED;
-use oracle::kinds::LOOPS_OPEN;
 use oracle::{Answer, check, print, run};
 use reading::{Played, STATED, case, played};
 
@@ -895,8 +894,7 @@ fn questions() {
         }
         asked[question as usize][usize::from(yes)] += 1;
     }
-    let mut numbers = ASKED.iter().filter(|&&question| LOOPS_OPEN || question != 19);
-    assert!(numbers.all(|&n| asked[n as usize][0] > 3 && asked[n as usize][1] > 0), "{asked:?}");
+    assert!(ASKED.iter().all(|&n| asked[n as usize][0] > 3 && asked[n as usize][1] > 0), "{asked:?}");
 }
 
 #[test]
@@ -924,7 +922,7 @@ fn every_log_is_made_of_whole_records() {
 
 #[test]
 fn every_place_is_told_or_held_otherwise() {
-    for place in 1..=circuits::places(LOOPS_OPEN).len() as u8 {
+    for place in 1..=circuits::PLACES.len() as u8 {
         let told = STATED.iter().any(|c| c.trap.contains(&place));
         let otherwise = circuits::HELD_OTHERWISE.iter().any(|held| held.0 == place);
         assert!(told != otherwise, "place {place}");
@@ -954,10 +952,7 @@ fn every_kind_and_form_begins() {
     let mut wanted = vec![(6, 0), (9, 32), (9, 33), (11, 0), (13, 0), (14, 0), (15, 0), (16, 0), (17, 0)];
     wanted.extend([(26, 1), (27, 1), (28, 2), (15, 16), (15, 17), (15, 18), (23, 16), (23, 17)]);
     wanted.extend((16..=22).map(|kind| (kind, 16)));
-    wanted.extend([(24, 16), (25, 16)]);
-    if LOOPS_OPEN {
-        wanted.extend([(29, 16), (31, 16)]);
-    }
+    wanted.extend([(24, 16), (25, 16), (29, 16), (31, 16)]);
     for form in wanted {
         assert!(begun.contains(&form), "{form:?}");
     }

@@ -3,16 +3,13 @@
 
 mod reading;
 
-use oracle::generate::{
-    ASKED, Damaged, FAMILIES, Family, Random, WITH_LOOPS, damaged_loops, damaged_with, valid,
-};
-use oracle::kinds::LOOPS_OPEN;
-use oracle::{Answer, check, check_with, run_with};
+use oracle::generate::{ASKED, Damaged, FAMILIES, Family, Random, WITH_LOOPS, damaged, damaged_loops, valid};
+use oracle::{Answer, check, run};
 
 #[test]
 fn valid_ones_are_played() {
     for family in FAMILIES {
-        for seed in 0..150 {
+        for seed in 0..if WITH_LOOPS.contains(&family) { 600 } else { 150 } {
             let case = valid(seed, family);
             assert_eq!(check(&case.circuit, &case.script), 0, "{}", case.name);
             let played = reading::read(&case).unwrap_or_else(|| panic!("{} is refused", case.name));
@@ -22,10 +19,10 @@ fn valid_ones_are_played() {
 }
 
 /// How often each question was the first of these that is answered no.
-fn refused(loops: bool, damaged: impl Iterator<Item = Damaged>) -> [usize; 20] {
+fn refused(damaged: impl Iterator<Item = Damaged>) -> [usize; 20] {
     let mut refused = [0; 20];
     for Damaged { case, questions } in damaged {
-        let answer = run_with(loops, &case.circuit, &case.script, &case.lent);
+        let answer = run(&case.circuit, &case.script, &case.lent);
         assert_eq!(answer, Answer::Refused(questions[0]), "{}: {}", case.name, case.shows);
         refused[questions[0] as usize] += 1;
     }
@@ -34,41 +31,14 @@ fn refused(loops: bool, damaged: impl Iterator<Item = Damaged>) -> [usize; 20] {
 
 #[test]
 fn damaged_ones_are_refused_by_their_first_question() {
-    for loops in [false, true] {
-        let refused = refused(loops, (0..2000).map(|seed| damaged_with(seed, loops)));
-        let asked = ASKED.iter().filter(|&&question| question != 19);
-        assert!(asked.into_iter().all(|&n| refused[n as usize] > 50), "{refused:?}");
-        assert!((refused[19] > 10) == loops, "{refused:?}");
-    }
-}
-
-/// Whether Loops are taken or not, a damaged one without them is the same, but
-/// for a Stopwatch that a kind of 29 would make a Loop.
-#[test]
-fn damaged_ones_stay() {
-    let same = |seed: &u64| {
-        let [a, b] = [false, true].map(|loops| damaged_with(*seed, loops).case);
-        a.circuit == b.circuit && a.script == b.script && a.lent == b.lent
-    };
-    assert!((0..2000).filter(same).count() > 1990);
-    assert!((0..150).all(|seed| same(&seed)), "the stated ones");
-}
-
-#[test]
-fn those_with_loops_are_played() {
-    for family in WITH_LOOPS {
-        for seed in 0..600 {
-            let case = valid(seed, family);
-            assert_eq!(check_with(true, &case.circuit, &case.script), 0, "{}", case.name);
-            let played = reading::read_with(true, &case).unwrap();
-            played.assert_whole(&case);
-        }
-    }
+    let refused = refused((0..2000).map(damaged));
+    let often = |&n: &u8| refused[n as usize] > if n == 19 { 10 } else { 50 };
+    assert!(ASKED.iter().all(often), "{refused:?}");
 }
 
 #[test]
 fn damaged_ones_with_loops_are_refused_by_their_first_question() {
-    let refused = refused(true, (0..2000).map(damaged_loops));
+    let refused = refused((0..2000).map(damaged_loops));
     assert!([3, 4, 5, 19].iter().all(|&n| refused[n] > 200), "{refused:?}");
     assert_eq!(refused.iter().sum::<usize>(), 2000);
 }
@@ -104,8 +74,7 @@ fn the_families_reach_what_they_are_about() {
         "{carried} {stopped} {late} {main}"
     );
     // Every form of a unit that document 01 has: kinds 6, 9, 11, 13 to 28; and of document 02 kinds 29 and 31.
-    let of_loops = if LOOPS_OPEN { 2 } else { 0 };
-    assert_eq!(begun.len(), 1 + 2 + 2 + 1 + (1 + 3) + 2 * 2 + 5 + 2 + 2 + 2 + 1 + of_loops, "{begun:?}");
+    assert_eq!(begun.len(), 1 + 2 + 2 + 1 + (1 + 3) + 2 * 2 + 5 + 2 + 2 + 2 + 1 + 2, "{begun:?}");
 }
 
 #[test]

@@ -1,27 +1,19 @@
 //! Counted loops (document 02, K5): the stated circuits of the group `loops`,
 //! each with its answer worked out by hand from document 02 and the source's
-//! text. They are played with Loops taken, whether or not `LOOPS_OPEN` is set.
+//! text.
 
 mod reading;
 
 use std::sync::LazyLock;
 
 use oracle::circuits::{self, Case};
-use oracle::{Answer, check_with, run_with};
-use reading::{Played, read_with};
+use oracle::{Answer, check, run};
+use reading::{Played, played, read};
 
 static LOOPS: LazyLock<Vec<Case>> = LazyLock::new(|| {
-    let groups = circuits::groups_with(true);
+    let groups = circuits::groups();
     groups.into_iter().find(|group| group.name == "loops").unwrap().cases
 });
-
-fn case(name: &str) -> &'static Case {
-    LOOPS.iter().find(|c| c.name == name).unwrap_or_else(|| panic!("no circuit {name}"))
-}
-
-fn played(name: &str) -> Played {
-    read_with(true, case(name)).unwrap_or_else(|| panic!("{name} is refused"))
-}
 
 const NOTHING: (i64, i64) = (0, 0);
 
@@ -474,8 +466,8 @@ fn questions() {
             continue;
         };
         let question: u8 = question.parse().unwrap();
-        let answer = run_with(true, &case.circuit, &case.script, &case.lent);
-        let checked = check_with(true, &case.circuit, &case.script);
+        let answer = run(&case.circuit, &case.script, &case.lent);
+        let checked = check(&case.circuit, &case.script);
         let yes = rest.starts_with("yes-");
         if yes {
             assert!(matches!(answer, Answer::Played { stop: 0, .. }), "{}: {answer:?}", case.name);
@@ -501,7 +493,7 @@ fn as_deep_as_can_be() {
 #[test]
 fn every_log_is_made_of_whole_records() {
     for case in LOOPS.iter() {
-        if let Some(p) = read_with(true, case) {
+        if let Some(p) = read(case) {
             p.assert_whole(case);
         }
     }
@@ -517,9 +509,10 @@ fn every_circuit_is_worked_out() {
     }
 }
 
+/// The places from 59 on are those of Loops.
 #[test]
 fn every_place_of_loops_is_told() {
-    for place in circuits::places(false).len() + 1..=circuits::places(true).len() {
-        assert!(LOOPS.iter().any(|c| c.trap.contains(&(place as u8))), "place {place}");
+    for place in 59..=circuits::PLACES.len() as u8 {
+        assert!(LOOPS.iter().any(|c| c.trap.contains(&place)), "place {place}");
     }
 }

@@ -3,7 +3,6 @@
 
 use oracle::circuits::{self, Case};
 use oracle::generate::ASKED;
-use oracle::kinds::LOOPS_OPEN;
 use oracle::pack::{cases, pack, printed};
 use oracle::questions::ask;
 use oracle::runs;
@@ -22,7 +21,7 @@ const ROOM: usize = 65_536;
 
 /// What a file may hold. A program reads it case by case, so this is for who
 /// keeps the files alone; runs with Loops come to a tenth of it.
-const WHOLE: usize = if LOOPS_OPEN { 1_750_000 } else { 1_500_000 };
+const WHOLE: usize = 1_750_000;
 
 #[test]
 fn the_packed_questions_are_up_to_date() {
@@ -65,8 +64,7 @@ fn every_case_can_be_read_back() {
         assert!(circuit.len() <= ROOM && script.len() <= ROOM, "{}", case.name);
     }
     assert!(rest.is_empty());
-    let mut numbers = ASKED.iter().filter(|&&question| LOOPS_OPEN || question != 19);
-    assert!(numbers.all(|&n| refused[n as usize] > 20), "{refused:?}");
+    assert!(ASKED.iter().all(|&n| refused[n as usize] > 20), "{refused:?}");
     assert!(refused[0] > cases.len() / 2, "more that are not refused");
     assert!(checked[0] > refused[0], "some are refused by their areas alone");
 }
@@ -99,7 +97,7 @@ fn the_packed_runs_are_up_to_date() {
 #[test]
 fn the_runs_that_are_left_out() {
     let runs = runs::runs();
-    assert_eq!(runs.packed.len(), if LOOPS_OPEN { 1254 } else { 1067 });
+    assert_eq!(runs.packed.len(), 1254);
     let left = [
         "ticks-100000",
         "stimuli-65535",

@@ -1,11 +1,10 @@
 //! The questions: each bound accepted at its edge and refused past it, and the
-//! order they are asked in. Those about Loops (document 02, K5) are asked with
-//! Loops taken, whether or not `LOOPS_OPEN` is set.
+//! order they are asked in.
 
 mod common;
 
 use common::{Pin, Plan, bytes};
-use oracle::{Answer, Lent, check, check_with, run};
+use oracle::{Answer, Lent, check, run};
 
 /// Words changed by hand: place and new word.
 type Changes<'a> = &'a [(usize, i64)];
@@ -124,29 +123,23 @@ fn question_3_gates() {
     assert_eq!(circuit(&[(13, 18)]), 3, "an input too few");
 }
 
-/// What is taken with Loops and what without: of the base a word of 65,536 is a
-/// body without a Loop.
+/// Kinds and bodies of Loops: of the base a word of 65,536 is a body without a
+/// Loop.
 #[test]
-fn question_3_with_loops() {
-    let asked = |loops, changes: Changes| {
-        let (circuit, script) = base();
-        check_with(loops, &bytes(&changed(&circuit, changes)), &bytes(&script))
-    };
+fn question_3_loops() {
     let words = [65_535, 65_536, 64 * 65_536 + 65_535, 65 * 65_536, -1, -65_536, i64::MIN, i64::MAX];
-    assert_eq!(words.map(|word| asked(true, &[(14, word)])), [0, 19, 19, 3, 3, 3, 3, 3]);
-    assert_eq!(words.map(|word| asked(false, &[(14, word)])), [0, 3, 3, 3, 3, 3, 3, 3]);
+    assert_eq!(words.map(|word| circuit(&[(14, word)])), [0, 19, 19, 3, 3, 3, 3, 3]);
     // A gate without inputs and one output, in place of the World event, is none of these.
     let kinds = [28, 29, 30, 31, 32];
-    assert_eq!(kinds.map(|kind| asked(true, &[(10, kind)])), [0, 3, 3, 3, 3]);
-    let alone = |loops, kind: i64, inputs: usize| {
+    assert_eq!(kinds.map(|kind| circuit(&[(10, kind)])), [0, 3, 3, 3, 3]);
+    let alone = |kind: i64, inputs: usize| {
         let sizes = [1, 0, inputs as i64, 0, kind, 0];
         let words = [&sizes[..], &vec![-1; inputs], &vec![0; inputs]].concat();
-        check_with(loops, &bytes(&words), &bytes(&[0, 0]))
+        check(&bytes(&words), &bytes(&[0, 0]))
     };
     // A Loop alone has no entry, an entry alone no Loop.
-    assert_eq!([alone(true, 29, 4), alone(true, 30, 1), alone(true, 31, 1), alone(true, 32, 1)], [19, 4, 0, 3]);
-    assert_eq!([alone(true, 29, 3), alone(true, 29, 5), alone(true, 30, 0), alone(true, 31, 2)], [3; 4]);
-    assert_eq!([alone(false, 29, 4), alone(false, 30, 1), alone(false, 31, 1)], [3; 3]);
+    assert_eq!([alone(29, 4), alone(30, 1), alone(31, 1), alone(32, 1)], [19, 4, 0, 3]);
+    assert_eq!([alone(29, 3), alone(29, 5), alone(30, 0), alone(31, 2)], [3; 4]);
 }
 
 /// A World event 0, a Loop 1 with its entry 2 and a Toggle 3 in its body, and a
@@ -163,7 +156,7 @@ fn looped(words: [i64; 6], settings: [Pin; 2], calls: &[(usize, usize, usize)]) 
         plan.call(from, output, to, 0);
     }
     let (circuit, script) = plan.words(&[(0.25, &[(0, Pin::Nothing)])]);
-    check_with(true, &bytes(&circuit), &bytes(&script))
+    check(&bytes(&circuit), &bytes(&script))
 }
 
 #[test]

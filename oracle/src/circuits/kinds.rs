@@ -4,11 +4,9 @@
 use super::Case;
 use crate::build::*;
 
-pub fn cases(loops: bool) -> Vec<Case> {
-    let mut cases: Vec<Case> = (1..=28).map(every_pin).collect();
-    if loops {
-        cases.extend((LOOP..=BREAK).map(every_pin_of_loops));
-    }
+pub fn cases() -> Vec<Case> {
+    let mut cases: Vec<Case> = (SELECT..=WORLD_EVENT).map(every_pin).collect();
+    cases.extend((LOOP..=BREAK).map(every_pin_of_loops));
     cases.extend((SEND_EVENT..=SEND_EVENT_GLOBAL).map(eight_values));
     cases.push(queue_values());
     cases

@@ -1,9 +1,8 @@
 //! docs/CIRCUITS.md, written from the list of the stated circuits.
 
-use super::places::{HELD_OTHERWISE, places};
+use super::places::{HELD_OTHERWISE, PLACES};
 use super::{Case, Group, groups};
 use crate::generate::stated_families;
-use crate::kinds::LOOPS_OPEN;
 
 /// The text of docs/CIRCUITS.md.
 pub fn document() -> String {
@@ -14,7 +13,7 @@ pub fn document() -> String {
         text += &if group.name == "families" { families(group) } else { table(&group.cases) };
     }
     text += PLACES_INTRODUCTION;
-    for (place, number) in places(LOOPS_OPEN).into_iter().zip(1..) {
+    for (place, number) in PLACES.into_iter().zip(1..) {
         text += &format!("{number}. {place} {}\n", told(&groups, number));
     }
     text
@@ -50,14 +49,11 @@ fn table(cases: &[Case]) -> String {
 /// One row a family: its circuits differ in their seeds alone.
 fn families(group: &Group) -> String {
     let mut text = String::from("| circuits | family |\n|---|---|\n");
-    for family in stated_families(LOOPS_OPEN) {
+    for family in stated_families() {
         text += &row(group, &format!("random-{}", family.name()), family.about());
     }
     text += &row(group, "damaged", "Small circuits with a fault of one or two questions");
-    if LOOPS_OPEN {
-        text += &row(group, "damaged-loops", "Circuits with Loops and a fault of one or two questions");
-    }
-    text
+    text + &row(group, "damaged-loops", "Circuits with Loops and a fault of one or two questions")
 }
 
 fn row(group: &Group, name: &str, about: &str) -> String {

@@ -16,9 +16,8 @@ mod traps;
 mod vehicles;
 
 pub use crate::case::Case;
-use crate::kinds::LOOPS_OPEN;
 pub use list::document;
-pub use places::{HELD_OTHERWISE, places};
+pub use places::{HELD_OTHERWISE, PLACES};
 
 /// The cases of one file, in order.
 pub struct Group {
@@ -28,13 +27,8 @@ pub struct Group {
 }
 
 pub fn groups() -> Vec<Group> {
-    groups_with(LOOPS_OPEN)
-}
-
-/// [`groups`], whether or not Loops are among them.
-pub fn groups_with(loops: bool) -> Vec<Group> {
     let group = |name, about, cases| Group { name, about, cases };
-    let mut groups = vec![
+    vec![
         group(
             "played",
             "Document 01's played examples, and the answers that look right and are wrong.",
@@ -52,36 +46,25 @@ pub fn groups_with(loops: bool) -> Vec<Group> {
             "What a tick narrows and so changes is counted in its record (document 02, K9).",
             narrowed::cases(),
         ),
-        group("kinds", "Every kind and every pin.", kinds::cases(loops)),
+        group(
+            "loops",
+            "Counted loops: what they read, run and show, Breaks, Unions, forks and limits in bodies, what \
+             bodies put off, and question 19 (document 02, K5).",
+            loops::cases(),
+        ),
+        group("kinds", "Every kind and every pin.", kinds::cases()),
         group("limits", "Every limit at its edge and one past it.", limits::cases()),
         group(
             "questions",
             "Each question at each of its bounds, and two faults at once.",
-            questions::cases(loops),
+            questions::cases(),
         ),
         group("vehicles", "Six vehicles of a kit.", vehicles::cases()),
-        group(
-            "families",
-            "Seeded random circuits of each family, whole and damaged.",
-            families::cases(loops),
-        ),
-    ];
-    if loops {
-        let about = "Counted loops: what they read, run and show, Breaks, Unions, forks and limits in bodies, what bodies put off, and question 19 (document 02, K5).";
-        groups.insert(NARROWED + 1, group("loops", about, loops::cases()));
-    }
-    groups
+        group("families", "Seeded random circuits of each family, whole and damaged.", families::cases()),
+    ]
 }
-
-/// The place of the group before that of Loops.
-const NARROWED: usize = 4;
 
 /// Every stated circuit.
 pub fn all() -> Vec<Case> {
-    all_with(LOOPS_OPEN)
-}
-
-/// [`all`], whether or not Loops are among them.
-pub fn all_with(loops: bool) -> Vec<Case> {
-    groups_with(loops).into_iter().flat_map(|g| g.cases).collect()
+    groups().into_iter().flat_map(|g| g.cases).collect()
 }

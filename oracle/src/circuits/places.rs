@@ -1,13 +1,8 @@
 //! Places where a port goes wrong.
 
 /// Each in short; a case names the places that it tells by their numbers,
-/// from 1. Those of Loops come last.
-pub fn places(loops: bool) -> Vec<&'static str> {
-    let of_loops = if loops { &OF_LOOPS[..] } else { &[] };
-    [&PLACES, of_loops].concat()
-}
-
-const PLACES: [&str; 58] = [
+/// from 1. Those from 59 on are of Loops (document 02, K5).
+pub const PLACES: [&str; 74] = [
     "Settling refreshes stale gates once, before its checks. A pulse raised by a check leaves gates \
      stale, and a later VarSet is seen through them at once.",
     "Refreshing a gate refreshes all its stale pure sources, the unchosen side of a Select too.",
@@ -96,10 +91,6 @@ const PLACES: [&str; 58] = [
      become f64s narrow nothing.",
     "The count begins anew in every tick. A stopped record has what was counted up to the stop: what is \
      not done after a full list does not count.",
-];
-
-/// Those of document 02's K5, from 59.
-const OF_LOOPS: [&str; 16] = [
     "A gate's rank is its word without the body. Units go by rank, whatever their bodies, and are carried by \
      rank alone.",
     "Count, FirstIndex and Step are read once, before the first run, all three also where none is made: \

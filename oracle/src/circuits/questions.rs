@@ -5,22 +5,21 @@ use super::Case;
 use crate::Lent;
 use crate::build::*;
 use crate::generate::ASKED;
-use crate::kinds::kinds_taken;
 
-pub fn cases(loops: bool) -> Vec<Case> {
+pub fn cases() -> Vec<Case> {
     let mut cases = Vec::new();
     cases.extend(question_1());
     cases.extend(question_2());
-    cases.extend(question_3(loops));
-    cases.extend(question_4_wires(loops));
+    cases.extend(question_3());
+    cases.extend(question_4_wires());
     cases.extend(question_4_settings());
-    cases.extend(question_5(loops));
+    cases.extend(question_5());
     cases.extend(question_6());
     cases.extend(question_7());
     cases.extend(question_8());
     cases.extend(question_9());
     cases.extend(question_10());
-    cases.extend(pairs(loops));
+    cases.extend(pairs());
     cases
 }
 
@@ -168,18 +167,16 @@ fn question_2() -> Vec<Case> {
     ]
 }
 
-/// Where Loops are taken, words of 65,536 and more are asked about in the group
-/// of Loops.
-fn question_3(loops: bool) -> Vec<Case> {
-    let past = kinds_taken(loops) + 1;
+/// Words of 65,536 and more are asked about in the group of Loops.
+fn question_3() -> Vec<Case> {
     let kind = |kind: i64| move |d: &mut Draft| d.c.gates[0].0 = kind;
     let rank = |rank: i64| move |d: &mut Draft| d.c.gates[4].1 = rank;
-    let mut cases = vec![
+    vec![
         no(3, "kind 0", kind(0)),
-        no(3, &format!("kind {past}"), kind(past)),
+        no(3, "kind 32", kind(32)),
         no(3, "kind -1", kind(-1)),
         no(3, "kind 28 + 2^32", kind(28 + (1 << 32))),
-        no(3, "the last kind", |d| d.c.gates[4].0 = past),
+        no(3, "the last kind", |d| d.c.gates[4].0 = 32),
         no(3, "rank -1", rank(-1)),
         no(3, "rank 2^32", rank(1 << 32)),
         no(3, "an input more", |d| d.c.inputs.push((-1, 0))),
@@ -193,14 +190,10 @@ fn question_3(loops: bool) -> Vec<Case> {
         yes(3, "a gate without inputs at the end", |d| {
             d.c.delta_time();
         }),
-    ];
-    if !loops {
-        cases.insert(6, no(3, "rank 65536", rank(65_536)));
-    }
-    cases
+    ]
 }
 
-fn question_4_wires(loops: bool) -> Vec<Case> {
+fn question_4_wires() -> Vec<Case> {
     let source = |to: i64| move |d: &mut Draft| d.c.inputs[d.reroute.pin("RER_Input").0 as usize].0 = to;
     let stored =
         |name: i64| move |d: &mut Draft| d.c.inputs[d.reroute.pin("RER_Input").0 as usize] = (-1, name);
@@ -228,7 +221,7 @@ fn question_4_wires(loops: bool) -> Vec<Case> {
             d.c.inputs[d.toggle.pin("Exec").0 as usize] = (1, 1)
         }),
     ];
-    for kind in 1..=kinds_taken(loops) {
+    for kind in SELECT..=BREAK {
         for (k, pin) in inputs_of(kind).into_iter().enumerate() {
             let what =
                 format!("on {} {}", kind_name(kind), pin.trim_start_matches("E:").trim_start_matches("S:"));
@@ -358,7 +351,7 @@ fn shown(with: Feed) -> String {
     }
 }
 
-fn question_5(loops: bool) -> Vec<Case> {
+fn question_5() -> Vec<Case> {
     let from = |from: i64| move |d: &mut Draft| d.c.calls[0].0 = from;
     let to = |to: i64| move |d: &mut Draft| d.c.calls[0].1 = to;
     let mut cases = vec![
@@ -377,7 +370,7 @@ fn question_5(loops: bool) -> Vec<Case> {
         yes(5, "remote", |d| d.c.calls[0].1 += 1),
         yes(5, "a pin with a source", |d| d.c.feed(d.toggle.pin("Exec"), d.world)).tells(&[8]),
     ];
-    for kind in 1..=kinds_taken(loops) {
+    for kind in SELECT..=BREAK {
         for (k, out) in outputs_of(kind).into_iter().enumerate() {
             let what = format!("from {} {}", kind_name(kind), out.trim_end_matches('!'));
             let edit = move |d: &mut Draft| {
@@ -604,11 +597,10 @@ fn fault(question: u8, d: &mut Draft) {
 }
 
 /// Two faults: the number of the question asked first is the answer.
-fn pairs(loops: bool) -> Vec<Case> {
+fn pairs() -> Vec<Case> {
     let mut cases = Vec::new();
-    let asked: Vec<u8> = ASKED.into_iter().filter(|&question| loops || question != 19).collect();
-    for (k, &low) in asked.iter().enumerate() {
-        for &high in &asked[k + 1..] {
+    for (k, &low) in ASKED.iter().enumerate() {
+        for &high in &ASKED[k + 1..] {
             let mut case = edited(format!("q{low}-no-and-{high}"), |d| {
                 fault(low, d);
                 fault(high, d);
@@ -623,16 +615,16 @@ fn pairs(loops: bool) -> Vec<Case> {
             cases.push(case);
         }
     }
-    cases.push(bad_constant_and_kind(kinds_taken(loops) + 1));
+    cases.push(bad_constant_and_kind());
     cases
 }
 
 /// As the pair of questions 2 and 3, by a kind in place of a rank.
-fn bad_constant_and_kind(kind: i64) -> Case {
+fn bad_constant_and_kind() -> Case {
     let mut case = edited("q2-no-and-3-by-a-kind".into(), |d| {
         fault(2, d);
-        d.c.gates[2].0 = kind;
+        d.c.gates[2].0 = 32;
     });
-    case.shows = format!("Questions 2 and 3, both no, the latter by a gate of kind {kind}.");
+    case.shows = "Questions 2 and 3, both no, the latter by a gate of kind 32.".into();
     case
 }

@@ -5,7 +5,6 @@ use super::{Family, Random, looped};
 use crate::Lent;
 use crate::build::*;
 use crate::case::Case;
-use crate::kinds::LOOPS_OPEN;
 
 /// The questions in the order in which they are asked.
 pub const ASKED: [u8; 11] = [1, 2, 3, 4, 5, 19, 6, 7, 8, 9, 10];
@@ -35,11 +34,6 @@ struct Draft {
 
 /// The damaged case of a seed, without a Loop.
 pub fn damaged(seed: u64) -> Damaged {
-    damaged_with(seed, LOOPS_OPEN)
-}
-
-/// [`damaged`], whether or not Loops are taken.
-pub fn damaged_with(seed: u64, loops: bool) -> Damaged {
     let mut r = Random::new(seed ^ 0xDA3A_6ED0_0000_0000);
     let mut d = whole(seed);
     let mut questions = vec![1 + r.below(10) as u8];
@@ -50,7 +44,7 @@ pub fn damaged_with(seed: u64, loops: bool) -> Damaged {
     }
     let drawn = questions.clone();
     for (question, drawn) in questions.iter_mut().zip(&drawn) {
-        *question = fault(*drawn, &mut r, &mut d, loops);
+        *question = fault(*drawn, &mut r, &mut d);
     }
     in_order(&mut questions);
     let (mut circuit, mut script) = (d.c.bytes(), d.s.bytes());
@@ -79,11 +73,11 @@ fn whole(seed: u64) -> Draft {
 }
 
 /// One of the faults of a question; those of 1 and 8 are made on the bytes. The
-/// answer is the question that it is a fault of where `loops` are taken or not.
-fn fault(question: u8, r: &mut Random, d: &mut Draft, loops: bool) -> u8 {
+/// answer is the question that it is a fault of: of those of 3 one is of 19.
+fn fault(question: u8, r: &mut Random, d: &mut Draft) -> u8 {
     match question {
         2 => constant(r, d),
-        3 => return kind_or_rank(r, d, loops),
+        3 => return kind_or_rank(r, d),
         4 => input(r, d),
         5 => call(r, d),
         6 => ring(r, d),
@@ -136,20 +130,20 @@ fn constant(r: &mut Random, d: &mut Draft) {
     }
 }
 
-/// A kind of 29 is wrong by its inputs where Loops are taken, but for a gate of
-/// four inputs, which is given a kind of 32; a word of 65,536 is then a body
-/// without a Loop, and asked for by question 19.
-fn kind_or_rank(r: &mut Random, d: &mut Draft, loops: bool) -> u8 {
+/// A kind of 29 is wrong by its inputs, but for a gate of four inputs, which is
+/// given a kind of 32; a word of 65,536 is a body without a Loop, and asked for
+/// by question 19.
+fn kind_or_rank(r: &mut Random, d: &mut Draft) -> u8 {
     let at = r.below(d.c.gates.len());
     match r.below(4) {
         0 => {
             let four = d.c.gates[at].0 == STOPWATCH;
             let kind = r.pick(&[0, LOOP, -1, 28 + (1 << 32), i64::MIN]);
-            d.c.gates[at].0 = if loops && four && kind == LOOP { 32 } else { kind };
+            d.c.gates[at].0 = if four && kind == LOOP { 32 } else { kind };
         }
         1 => {
             d.c.gates[at].1 = r.pick(&[-1, RANKS, 1 << 32, i64::MIN]);
-            if loops && d.c.gates[at].1 == RANKS {
+            if d.c.gates[at].1 == RANKS {
                 return 19;
             }
         }

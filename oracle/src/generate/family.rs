@@ -1,7 +1,5 @@
 //! What a family of random circuits is about, and what it draws from.
 
-use crate::kinds::LOOPS_OPEN;
-
 #[derive(Clone, Copy, Debug, PartialEq, Eq)]
 pub enum Family {
     Small,
@@ -24,11 +22,8 @@ pub enum Family {
     PutOff,
 }
 
-/// The families, those with Loops only where these are taken.
-pub const FAMILIES: [Family; if LOOPS_OPEN { 18 } else { 16 }] = first();
-
 /// All families, those with Loops last.
-const EVERY: [Family; 18] = [
+pub const FAMILIES: [Family; 18] = [
     Family::Small,
     Family::Pure,
     Family::Ranks,
@@ -52,25 +47,10 @@ const EVERY: [Family; 18] = [
 /// The families with Loops.
 pub const WITH_LOOPS: [Family; 2] = [Family::Loops, Family::PutOff];
 
-const fn first<const N: usize>() -> [Family; N] {
-    let mut families = [EVERY[0]; N];
-    let mut k = 1;
-    while k < N {
-        families[k] = EVERY[k];
-        k += 1;
-    }
-    families
-}
-
-/// The families, whether or not those with Loops are among them.
-pub fn families(loops: bool) -> impl Iterator<Item = Family> {
-    EVERY.into_iter().filter(move |family| loops || !WITH_LOOPS.contains(family))
-}
-
 /// The families of the stated circuits: all but the one that was made for what
 /// units see when they begin.
-pub fn stated_families(loops: bool) -> impl Iterator<Item = Family> {
-    families(loops).filter(|&family| family != Family::Stale)
+pub fn stated_families() -> impl Iterator<Item = Family> {
+    FAMILIES.into_iter().filter(|&family| family != Family::Stale)
 }
 
 impl Family {

@@ -6,8 +6,7 @@ use std::collections::{BTreeMap, BTreeSet};
 use std::sync::LazyLock;
 
 use oracle::circuits::{self, Case};
-use oracle::kinds::LOOPS_OPEN;
-use oracle::{Answer, build, run_with};
+use oracle::{Answer, build, run};
 
 /// Every stated circuit.
 pub static STATED: LazyLock<Vec<Case>> = LazyLock::new(circuits::all);
@@ -47,12 +46,7 @@ pub fn played(name: &str) -> Played {
 
 /// What a case played, unless it is refused.
 pub fn read(case: &Case) -> Option<Played> {
-    read_with(LOOPS_OPEN, case)
-}
-
-/// [`read`], whether or not Loops are taken.
-pub fn read_with(loops: bool, case: &Case) -> Option<Played> {
-    match run_with(loops, &case.circuit, &case.script, &case.lent) {
+    match run(&case.circuit, &case.script, &case.lent) {
         Answer::Refused(_) => None,
         Answer::Played { log, stop, ticks } => Some(of_log(case, log, stop, ticks)),
     }
