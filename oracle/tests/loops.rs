@@ -4,11 +4,13 @@
 
 mod reading;
 
+use std::collections::BTreeSet;
 use std::sync::LazyLock;
 
+use oracle::build::{BREAK, RANKS, SELECT};
 use oracle::circuits::{self, Case};
 use oracle::{Answer, check, run};
-use reading::{Played, played, read};
+use reading::{Played, circuit_of, played, read};
 
 static LOOPS: LazyLock<Vec<Case>> = LazyLock::new(|| {
     let groups = circuits::groups();
@@ -19,6 +21,10 @@ const NOTHING: (i64, i64) = (0, 0);
 
 fn int(n: i64) -> (i64, i64) {
     (1, n)
+}
+
+fn float(f: f64) -> (i64, i64) {
+    (2, f.to_bits() as i64)
 }
 
 fn yes() -> (i64, i64) {
@@ -193,6 +199,43 @@ fn ranks_do_not_have_their_bodies() {
     assert_eq!((loop_shows(&p, 3, 0), p.shown(3, 1, 1), p.late(3)), (NOT_YET, NOTHING, vec![]));
 }
 
+#[test]
+fn what_lies_in_a_body() {
+    // The watchers of Index itself are checked first, the EdgeExec 7 among them, then the one behind the Select.
+    let p = played("watchers-in-a-body");
+    assert_eq!((p.main(1), &p.ticks[2].late[..]), (vec![4], &[(0, 2), (7, 32), (4, 0)][..]));
+    assert_eq!((p.late(4), p.late(5), [2, 3].map(|t| p.ticks[t].steps)), (vec![0], vec![], [1, 1]));
+    let shown = |gate, out| [1, 2, 3, 4, 5].map(|t| p.shown(t, gate, out));
+    assert_eq!(shown(3, 0), [NOTHING, NOTHING, int(1), int(1), int(1)]);
+    assert_eq!(shown(5, 0), [NOTHING, NOTHING, yes(), yes(), no()]);
+    assert_eq!(shown(5, 1), [NOTHING; 5]);
+    // The first reading is a change too; its pulse ends as tick 3 opens.
+    assert_eq!(shown(6, 0), [yes(), yes(), yes(), yes(), no()]);
+    assert_eq!(shown(8, 0), [NOTHING, NOTHING, NOTHING, int(1), int(1)]);
+    // DeltaTime 3, ServerUptime 4, Stopwatch 5, buffer 6, Queue 7, Toggle 8. Tick 2: the Loop and twice two calls.
+    let p = played("times-in-a-body");
+    let shown = |gate, out| [1, 2, 3, 4].map(|t| p.shown(t, gate, out));
+    assert_eq!(shown(3, 0), [0.5, 0.25, 0.125, 0.5].map(float));
+    assert_eq!(shown(4, 0), [0.5, 0.75, 0.875, 1.375].map(float));
+    assert_eq!(shown(5, 0), [NOTHING, float(0.0), float(0.125), float(0.5)]);
+    assert_eq!(shown(6, 0), [NOTHING, NOTHING, NOTHING, int(1)]);
+    assert_eq!([3, 4].map(|t| (p.shown(t, 7, 1), p.shown(t, 7, 2))), [(float(0.25), float(0.75)); 2]);
+    assert_eq!((p.ticks[1].steps, &p.ticks[2].late[..], p.ticks[2].steps), (1 + 2 * 2, &[(7, 0)][..], 0));
+    assert_eq!((&p.ticks[3].late[..], p.ticks[3].steps, p.shown(4, 8, 1)), (&[(7, 0), (5, 0)][..], 1, yes()));
+    let p = played("global-send-in-a-body");
+    assert_eq!([0, 1].map(|t| p.ticks[t].steps), [1 + 2, 1]);
+    assert_eq!((&p.ticks[1].late[..], p.shown(2, 4, 1), p.shown(2, 5, 2)), (&[(4, 1)][..], int(0), int(1)));
+}
+
+/// Every kind lies in a body in one of these circuits.
+#[test]
+fn every_kind_in_a_body() {
+    let by_hand = LOOPS.iter().filter(|case| !case.name.starts_with('q'));
+    let gates = by_hand.flat_map(|case| circuit_of(case).0.gates);
+    let kinds: BTreeSet<i64> = gates.filter(|gate| gate.1 >= RANKS).map(|gate| gate.0).collect();
+    assert!(kinds.iter().copied().eq(SELECT..=BREAK), "{kinds:?}");
+}
+
 // ---- Breaks ----
 
 #[test]
@@ -260,6 +303,10 @@ fn forks_of_bodies() {
     let p = played("fork-of-a-body");
     assert_eq!([5, 8, 2, 11, 1].map(|var| p.shown(1, var, 0)), [NOTHING, int(2), int(3), int(1), int(4)]);
     assert_eq!(p.ticks[0].steps, 1 + 4 * 2);
+    // The Loop, the Toggle, three forks of two gates.
+    let p = played("forks-as-found");
+    assert_eq!([2, 5, 8, 1].map(|var| p.shown(1, var, 0)), [NOTHING, int(1), int(2), int(3)]);
+    assert_eq!(p.ticks[0].steps, 1 + 1 + 3 * 2);
     let p = played("forks-see-the-last-index");
     assert_eq!((handed_out(&p, 3), handed_out(&p, 4)), (vec![0, 1, 2], vec![2, 2, 2]));
     assert_eq!(p.ticks[0].steps, 1 + 3 + 3);

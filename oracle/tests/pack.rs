@@ -97,7 +97,7 @@ fn the_packed_runs_are_up_to_date() {
 #[test]
 fn the_runs_that_are_left_out() {
     let runs = runs::runs();
-    assert_eq!(runs.packed.len(), 1254);
+    assert_eq!(runs.packed.len(), 1258);
     let left = [
         "ticks-100000",
         "stimuli-65535",

@@ -7,7 +7,7 @@ use crate::build::{Circuit, Gate, NOTHING, Script};
 pub fn cases() -> Vec<Case> {
     let mut cases = vec![union_in_a_body(), union_around(), union_in_forks()];
     cases.extend([union_as_a_unit(), union_after_a_unit()]);
-    cases.extend([fork_order(), forks_see_the_last_index(), forks_of_nested_bodies()]);
+    cases.extend([fork_order(), forks_as_found(), forks_see_the_last_index(), forks_of_nested_bodies()]);
     cases.extend([0, 1].map(stack));
     cases.extend([0, 1].map(stack_of_nested_bodies));
     cases.extend([0, 1].map(forks));
@@ -138,6 +138,26 @@ fn fork_order() -> Case {
     s.tick(0.25).fire(world);
     let shows = "A fork of a body runs when the unit's whole chain has ended, as found: places 2, 3, 1, 4.";
     Case::new("fork-of-a-body", shows, &c, &s).tells(&[66])
+}
+
+/// Places: 1 by a fork of the World event, 2 by one of the body, 3 by one of a
+/// Toggle after the Loop.
+fn forks_as_found() -> Case {
+    let mut c = Circuit::new();
+    let world = c.world_event(0);
+    let last = c.var(NOTHING);
+    let [one, two, three] = [1, 2, 3].map(|k| place(&mut c, last, k));
+    let (repeat, body) = repeat(&mut c, 1);
+    let after = c.toggle(0);
+    c.put_inside(repeat, &two);
+    c.remote(world, one[0]);
+    c.call_all(world, &[repeat, after]);
+    c.remote(body, two[0]);
+    c.remote(after, three[0]);
+    let mut s = Script::new();
+    s.tick(0.25).fire(world);
+    let shows = "Forks found before a Loop, in its body and after it run in this order: places 1, 2, 3.";
+    Case::new("forks-as-found", shows, &c, &s).tells(&[66])
 }
 
 fn forks_see_the_last_index() -> Case {

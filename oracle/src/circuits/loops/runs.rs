@@ -12,6 +12,7 @@ pub fn cases() -> Vec<Case> {
     cases.extend([reads_once(), shows_the_last(), order_of_checks(), in_its_chain(), empty_body()]);
     cases.extend([by_its_pin(), at_the_start(), twice_in_a_chain(), again_by_its_completed()]);
     cases.extend([nested(), counted_by_an_index(), three_deep(), ranks_of_bodies(), units_of_bodies()]);
+    cases.extend([watchers_in_a_body(), times_in_a_body(), global_send_in_a_body()]);
     cases
 }
 
@@ -410,4 +411,62 @@ fn units_of_bodies() -> Case {
     s.tick(0.25).give(world, seven).ticks(2, 0.25);
     let shows = "Gates of a body begin as units like any others: the Queue of rank 1, the buffer of rank 3, the event last.";
     Case::new("units-of-bodies", shows, &c, &s).tells(&[59])
+}
+
+/// Twice the Index goes 5, 3, 1.
+fn watchers_in_a_body() -> Case {
+    let mut c = Circuit::new();
+    let world = c.world_event(0);
+    let repeat = c.repeat(0, 3, 5, -2);
+    let body = c.body(repeat);
+    let through = c.select(true, NOTHING, body);
+    let behind = c.change_detector(1, through);
+    let pulses = [c.edge(body), c.change(body)];
+    let edge = c.edge_exec(1, body);
+    let held = c.buffer_ticks(body, 1, NOTHING);
+    c.put_inside(repeat, &[&[through, behind, edge, held][..], &pulses].concat());
+    c.call(world, repeat);
+    let mut s = Script::new();
+    s.first_checks(2, 0.25).tick(0.25).fire(world).tick(0.25).fire(world).tick(0.25);
+    let shows = "Watchers in the body see the last Index alone, when the unit settles: 1, a rise; after 5, 3 and 1 again it is unchanged.";
+    Case::new("watchers-in-a-body", shows, &c, &s).tells(&[63])
+}
+
+/// Each run restarts the Stopwatch and keeps both times in a Queue.
+fn times_in_a_body() -> Case {
+    let mut c = Circuit::new();
+    let world = c.world_event(0);
+    let (repeat, body) = repeat(&mut c, 2);
+    let (time, uptime) = (c.delta_time(), c.server_uptime());
+    let watch = c.stopwatch(0, 0.5);
+    let held = c.buffer_seconds(body, 0.25, NOTHING);
+    let seen = c.queue_ticks(0, time, 1);
+    let after = c.toggle(0);
+    c.feed(seen.pin("DataIn2"), uptime);
+    c.put_inside(repeat, &[time, uptime, watch, held, seen, after]);
+    c.call(world, repeat);
+    c.call_all(body, &[watch, seen]);
+    c.call(watch, after);
+    let mut s = Script::new();
+    s.first_checks(1, 0.5).tick(0.25).fire(world).tick(0.125).tick(0.5);
+    let shows = "Times, a Stopwatch and a buffer of seconds that lie in a body go with the ticks, whether it runs or not.";
+    Case::new("times-in-a-body", shows, &c, &s)
+}
+
+fn global_send_in_a_body() -> Case {
+    let mut c = Circuit::new();
+    let world = c.world_event(0);
+    let (repeat, body) = repeat(&mut c, 2);
+    let send = c.send_global(0, 9, body);
+    let event = c.event_global(0, 9);
+    let count = c.cycle(0, 100);
+    c.put_inside(repeat, &[send, event, count]);
+    c.call(world, repeat);
+    c.call(body, send);
+    c.call(event, count);
+    let mut s = Script::new();
+    s.tick(0.25).fire(world).tick(0.25);
+    let shows =
+        "A global send of the first run reaches an event in the same body, which begins as a unit: 0.";
+    Case::new("global-send-in-a-body", shows, &c, &s)
 }
