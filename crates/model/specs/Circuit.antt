@@ -9,7 +9,7 @@ use Rattle.model.specs.declared.Value.{Value}
 use Rattle.model.specs.declared.Value.the-variants.{Nothing, Int}
 use Rattle.model.specs.Base.{if_then_else_, keep, joined, both, from, starts, owners}
 use Rattle.model.specs.Value.{value-of, same}
-use Rattle.model.specs.Kinds.{In, never, if-driven, always, Out, kind-at, time-source, buffering, receiving}
+use Rattle.model.specs.Kinds.{In, never, if-driven, always, Out, kind-at, Clock, Stopwatch, LoopEntry, time-source, buffering, receiving}
 
 -- the gates that a circuit has at the most
 abbrev pub most-gates : ℕ
@@ -103,7 +103,7 @@ rank-size = 65536
 
 -- whether gate e is an entry that names gate g
 unfoldable pub names : List ℕ → List Value → List ℕ → ℕ → ℕ → Bool
-names kinds stored first-input g e = eqb (getD kinds e 0) 30 && same (getD stored (getD first-input e 0) Nothing) (Int g)
+names kinds stored first-input g e = eqb (getD kinds e 0) LoopEntry && same (getD stored (getD first-input e 0) Nothing) (Int g)
 
 -- the gates whose kind passes the test, ascending
 unfoldable pub gates-such : (ℕ → Bool) → List ℕ → List ℕ
@@ -149,8 +149,8 @@ circuit ws =
       calls = map (λ o. calls-from o listed) (from 0 (length outputs));
       time-sources = gates-such time-source kinds;
       buffers = gates-such buffering kinds;
-      clocks = gates-such (λ k. eqb k 14) kinds;
-      stopwatches = gates-such (λ k. eqb k 15) kinds;
+      clocks = gates-such (λ k. eqb k Clock) kinds;
+      stopwatches = gates-such (λ k. eqb k Stopwatch) kinds;
       receivers = gates-such receiving kinds;
     }
 

@@ -10,6 +10,7 @@ use Rattle.model.specs.declared.Value.{Value}
 use Rattle.model.specs.declared.Value.the-variants.{Int, Float, Bool as Truth}
 use Rattle.model.specs.Base.{if_then_else_, each, snoc, among, from}
 use Rattle.model.specs.Value.{truthy, as-int, as-float}
+use Rattle.model.specs.Kinds.{Reroute, BufferTicksExec, BufferSeconds, BufferSecondsExec, Stopwatch, QueueInTicks, QueueInSeconds, VarGet, VarSet, Branch, Union, Toggle, Cycle, SendEvent, SendEventGlobal, Break}
 use Rattle.model.specs.Circuit.{Circuit, most-gates, kind-of-gate, input, output, gate-at-input, gate-at-output, setting}
 use Rattle.model.specs.State.{Wires, Countdown, Delay, idle, fires≔, State, written≔, written-outside≔, unions-passed≔, breaking≔, wires≔, delays≔, outbox≔, changed≔}
 use Rattle.model.specs.Wires.{shown, show, look, ready, set-out}
@@ -89,7 +90,7 @@ module _ (c : Circuit) where
   -- the countdown that a buffer starts
   unfoldable pub countdown : ℕ → Bool → Started
   countdown g rising =
-      if leb 12 (kind-of-gate c g) then countdown-seconds rising (setting c g 1) (setting c g 2) else countdown-ticks rising (setting c g 1) (setting c g 2)
+      if leb BufferSeconds (kind-of-gate c g) then countdown-seconds rising (setting c g 1) (setting c g 2) else countdown-ticks rising (setting c g 1) (setting c g 2)
 
   -- the Value of the Var that setting 1 of gate g names
   unfoldable pub var : ℕ → ℕ
@@ -97,7 +98,7 @@ module _ (c : Circuit) where
 
   -- ---- by kind; p is the pin entered through
 
-  -- 11 and 13: one fire more is under way, never with the zero wait; that its wait was changed counts also where there is no room
+  -- a buffer in exec mode: one fire more is under way, never with the zero wait; that its wait was changed counts also where there is no room
   unfoldable pub exec-Buffer : State → ℕ → Stepped
   exec-Buffer s₀ g =
       let k = countdown g true in
@@ -173,19 +174,19 @@ module _ (c : Circuit) where
   -- by the kind k of gate g; `inside` says whether a body is running
   unfoldable pub exec-kind : Bool → ℕ → State → ℕ → ℕ → Stepped
   exec-kind inside k s g p =
-      if eqb k 2 then fires-next s (output c g 0)
-      else if eqb k 11 || eqb k 13 then exec-Buffer s g
-      else if eqb k 15 then exec-Stopwatch s g p
-      else if eqb k 16 then exec-Queue s g (λ v. in-ticks (as-int (pos 0) v))
-      else if eqb k 17 then exec-Queue s g (λ v. in-seconds (as-float 0 v))
-      else if eqb k 18 then exec-VarGet s g
-      else if eqb k 19 then exec-VarSet inside s g
-      else if eqb k 20 then exec-Branch s g
-      else if eqb k 21 then exec-Union s g
-      else if eqb k 22 then exec-Toggle s g
-      else if eqb k 23 then exec-Cycle s g p
-      else if eqb k 24 || eqb k 25 then exec-SendEvent s g
-      else if eqb k 31 then exec-Break s g
+      if eqb k Reroute then fires-next s (output c g 0)
+      else if eqb k BufferTicksExec || eqb k BufferSecondsExec then exec-Buffer s g
+      else if eqb k Stopwatch then exec-Stopwatch s g p
+      else if eqb k QueueInTicks then exec-Queue s g (λ v. in-ticks (as-int (pos 0) v))
+      else if eqb k QueueInSeconds then exec-Queue s g (λ v. in-seconds (as-float 0 v))
+      else if eqb k VarGet then exec-VarGet s g
+      else if eqb k VarSet then exec-VarSet inside s g
+      else if eqb k Branch then exec-Branch s g
+      else if eqb k Union then exec-Union s g
+      else if eqb k Toggle then exec-Toggle s g
+      else if eqb k Cycle then exec-Cycle s g p
+      else if eqb k SendEvent || eqb k SendEventGlobal then exec-SendEvent s g
+      else if eqb k Break then exec-Break s g
       else ends s
 
   -- the gate that has input i

@@ -13,7 +13,7 @@ use Rattle.model.specs.declared.Value.{Value}
 use Rattle.model.specs.declared.Value.the-variants.{Nothing, Float}
 use Rattle.model.specs.Base.{if_then_else_}
 use Rattle.model.specs.Value.{truthy, same}
-use Rattle.model.specs.Kinds.{pure}
+use Rattle.model.specs.Kinds.{Select, Reroute, DeltaTime, pure}
 use Rattle.model.specs.Circuit.{Circuit, circuit, kind-of-gate, input, source, stored-in, gate-at-output}
 use Rattle.model.specs.State.{Wires, Act}
 use Rattle.model.specs.Wires.{shown, refresh}
@@ -32,9 +32,9 @@ module _ (c : Circuit) where
   -- DeltaTime the tick's length, ServerUptime the uptime.
   unfoldable pub gives : Wires → ℕ → (ℕ → Value) → Value
   gives w k at =
-      if eqb k 1 then (if truthy (at 0) then at 2 else at 1)
-      else if eqb k 2 then at 0
-      else if eqb k 3 then Float (w .dt)
+      if eqb k Select then (if truthy (at 0) then at 2 else at 1)
+      else if eqb k Reroute then at 0
+      else if eqb k DeltaTime then Float (w .dt)
       else Float (w .uptime)
 
   -- Output o worked out afresh: of a pure gate what it gives, where at each of its inputs stands what its source comes to, worked out afresh too, or else the value

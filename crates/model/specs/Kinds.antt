@@ -1,4 +1,4 @@
--- The 31 kinds of gates: what each input and each output is.
+-- The 31 kinds of gates: what each input and each output is, and their names.
 use Prim.Native.Nat.{ℕ, zero, suc}
 use mathlib.Core.Bool.{Bool, true, false, _&&_, _||_}
 use mathlib.Core.List.{List, [], _∷_}
@@ -99,21 +99,118 @@ unfoldable pub kind-at : ℕ → Kind
 kind-at zero = record { ins = []; outs = [] }
 kind-at (suc k) = getD table k (record { ins = []; outs = [] })
 
+-- ---- the kinds by name
+
+abbrev pub Select : ℕ
+Select = 1
+
+abbrev pub Reroute : ℕ
+Reroute = 2
+
+abbrev pub DeltaTime : ℕ
+DeltaTime = 3
+
+abbrev pub ServerUptime : ℕ
+ServerUptime = 4
+
+abbrev pub Var : ℕ
+Var = 5
+
+abbrev pub ChangeDetector : ℕ
+ChangeDetector = 6
+
+abbrev pub Edge : ℕ
+Edge = 7
+
+abbrev pub Change : ℕ
+Change = 8
+
+abbrev pub EdgeExec : ℕ
+EdgeExec = 9
+
+abbrev pub BufferTicks : ℕ
+BufferTicks = 10
+
+abbrev pub BufferTicksExec : ℕ
+BufferTicksExec = 11
+
+abbrev pub BufferSeconds : ℕ
+BufferSeconds = 12
+
+abbrev pub BufferSecondsExec : ℕ
+BufferSecondsExec = 13
+
+abbrev pub Clock : ℕ
+Clock = 14
+
+abbrev pub Stopwatch : ℕ
+Stopwatch = 15
+
+abbrev pub QueueInTicks : ℕ
+QueueInTicks = 16
+
+abbrev pub QueueInSeconds : ℕ
+QueueInSeconds = 17
+
+abbrev pub VarGet : ℕ
+VarGet = 18
+
+abbrev pub VarSet : ℕ
+VarSet = 19
+
+abbrev pub Branch : ℕ
+Branch = 20
+
+abbrev pub Union : ℕ
+Union = 21
+
+abbrev pub Toggle : ℕ
+Toggle = 22
+
+abbrev pub Cycle : ℕ
+Cycle = 23
+
+abbrev pub SendEvent : ℕ
+SendEvent = 24
+
+abbrev pub SendEventGlobal : ℕ
+SendEventGlobal = 25
+
+abbrev pub EventCustom : ℕ
+EventCustom = 26
+
+abbrev pub EventCustomGlobal : ℕ
+EventCustomGlobal = 27
+
+abbrev pub WorldEvent : ℕ
+WorldEvent = 28
+
+abbrev pub Loop : ℕ
+Loop = 29
+
+abbrev pub LoopEntry : ℕ
+LoopEntry = 30
+
+abbrev pub Break : ℕ
+Break = 31
+
+-- ---- groups of kinds
+
 -- Select, Reroute, DeltaTime and ServerUptime are the pure gates
 unfoldable pub pure : ℕ → Bool
-pure k = leb 1 k && leb k 4
+pure k = leb Select k && leb k ServerUptime
 
 -- DeltaTime and ServerUptime are the time sources
 unfoldable pub time-source : ℕ → Bool
-time-source k = eqb k 3 || eqb k 4
+time-source k = eqb k DeltaTime || eqb k ServerUptime
 
 -- buffers and Queues
 unfoldable pub buffering : ℕ → Bool
-buffering k = (leb 10 k && leb k 13) || (leb 16 k && leb k 17)
+buffering k = (leb BufferTicks k && leb k BufferSecondsExec) || (leb QueueInTicks k && leb k QueueInSeconds)
 
 -- EventCustom, local and global, receives events
 unfoldable pub receiving : ℕ → Bool
-receiving k = eqb k 26 || eqb k 27
+receiving k = eqb k EventCustom || eqb k EventCustomGlobal
 
 unfoldable pub kinds-opened : ℕ
 unfolding exec exec-only value watched route set-to kind table kind-at pure time-source buffering receiving

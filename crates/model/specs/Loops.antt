@@ -10,6 +10,7 @@ use Rattle.schedule.specs.Schedule.{list-full}
 use Rattle.model.specs.declared.Value.the-variants.{Int, Bool as Truth}
 use Rattle.model.specs.Base.{if_then_else_}
 use Rattle.model.specs.Value.{as-int}
+use Rattle.model.specs.Kinds.{Loop}
 use Rattle.model.specs.Circuit.{Circuit, kind-of-gate, entry-of-loop, output, gate-at-input}
 use Rattle.model.specs.State.{State, unions-passed≔, breaking≔, runs-left≔, wires≔}
 use Rattle.model.specs.Delays.{nat}
@@ -100,7 +101,7 @@ module _ (c : Circuit) where
   unfoldable pub operate : Body → Bool → ℕ → Chained → Chained
   operate body inside i r =
       let g = gate-at-input c i in
-      if eqb (kind-of-gate c g) 29 then unless-stopped (fire-output c (output c g 0)) (run-loop body g r) else make-call c inside i r
+      if eqb (kind-of-gate c g) Loop then unless-stopped (fire-output c (output c g 0)) (run-loop body g r) else make-call c inside i r
 
   -- calls are made, inside a body or outside, all but the `under` that waited when this run began
   unfoldable pub run-nested : Body → Bool → ℕ → Chained → Chained

@@ -11,8 +11,9 @@ use Rattle.schedule.specs.Schedule.{Raise, Place, When, numbered, acts, tick}
 use Rattle.schedule.specs.Promise.{total}
 use Rattle.model.specs.declared.Value.{Value}
 use Rattle.model.specs.Base.{if_then_else_, keep, from}
+use Rattle.model.specs.Kinds.{ChangeDetector}
 use Rattle.model.specs.Circuit.{Circuit, kind-of-gate, gate-at-input, watching}
-use Rattle.model.specs.State.{State, Act, wires≔}
+use Rattle.model.specs.State.{form-Fire, State, Act, wires≔}
 use Rattle.model.specs.Wires.{refresh-all}
 use Rattle.model.specs.Settle.{Settled, calm, taken, when-checked, check, check-on}
 use Rattle.model.specs.Opening.{start, Opened, pending, before-settling, open-tick}
@@ -21,7 +22,7 @@ use Rattle.model.specs.Order.{Numbered-tick}
 
 -- 1 for a Fire of gate g, 0 for any other act
 unfoldable pub fire-of : ℕ → Act → ℕ
-fire-of g a = if eqb (a .gate) g && eqb (a .form) 0 then 1 else 0
+fire-of g a = if eqb (a .gate) g && eqb (a .form) form-Fire then 1 else 0
 
 module _ (c : Circuit) where
   -- At the start every watched input waits to be checked, in ascending gate and input, and none was read.
@@ -80,7 +81,7 @@ module _ (c : Circuit) where
   -- K2 of a ChangeDetector with input j: it begins in the main pass of tick 1, whatever it reads
   abbrev pub Begins-first : ℕ → Allowed → ℕ → Type 0
   Begins-first room i j =
-      kind-of-gate c (gate-at-input c j) ≡ 6 → tick-1 room i .stop ≡ 0 →
+      kind-of-gate c (gate-at-input c j) ≡ ChangeDetector → tick-1 room i .stop ≡ 0 →
       1 ≤ total (fire-of (gate-at-input c j)) (acts (numbered (machine c)) (tick-1 room i .main))
 
   -- the start, and whatever tick 1 gets

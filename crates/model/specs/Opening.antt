@@ -10,10 +10,10 @@ use Rattle.model.specs.declared.Value.{Value}
 use Rattle.model.specs.declared.Value.the-variants.{Nothing, Int, Float, Bool as Truth}
 use Rattle.model.specs.Base.{if_then_else_, each, keep, joined, from}
 use Rattle.model.specs.Value.{truthy, bit, as-float, same, narrow, narrow-changes, plus64, one-point-zero}
-use Rattle.model.specs.Kinds.{pure}
+use Rattle.model.specs.Kinds.{Var, BufferTicks, BufferTicksExec, BufferSeconds, BufferSecondsExec, QueueInTicks, QueueInSeconds, pure}
 use Rattle.model.specs.Circuit.{Circuit, kind-of-gate, output, setting, watching, gates-of}
 use Rattle.model.specs.Script.{Given}
-use Rattle.model.specs.State.{Wires, idle, Act, Send, State, times≔, pulses≔, unions-passed≔, runs-left≔, wires≔, outbox≔, changed≔}
+use Rattle.model.specs.State.{Wires, idle, form-Fire, form-Event, Act, Send, State, times≔, pulses≔, unions-passed≔, runs-left≔, wires≔, outbox≔, changed≔}
 use Rattle.model.specs.Wires.{watch, invalidate, refresh-all, set-out, set-outs}
 use Rattle.model.specs.Delays.{Moved, advance-flight, advance-fires, advance-records, advance-elapsed, advance-time}
 use Rattle.model.specs.Exec.{count-changed, delay, delay≔, readied, read, countdown}
@@ -28,7 +28,7 @@ wires-stale c =
       tick = 0;
       dt = 0;
       uptime = 0;
-      outs = each (λ vs g. set vs (output c g 0) (setting c g 0)) (replicate (length (c .outputs)) Nothing) (gates-of c (λ k. eqb k 5));
+      outs = each (λ vs g. set vs (output c g 0) (setting c g 0)) (replicate (length (c .outputs)) Nothing) (gates-of c (λ k. eqb k Var));
       dirty = map pure (c .kinds);
       to-check = [];
       queued = replicate (length (c .pins)) false;
@@ -71,7 +71,7 @@ pending rs = map (λ r. record { at = r .at; act = r .act; place = to-pending })
 
 -- n Fires of gate g
 unfoldable pub fire : ℕ → ℕ → List Act
-fire n g = replicate n (record { gate = g; form = 0; row = [] })
+fire n g = replicate n (record { gate = g; form = form-Fire; row = [] })
 
 -- how often bodies may be run in a tick, those of all Loops together: the source's MAX_INVOCATIONS_PER_TICK
 abbrev pub most-runs : ℕ
@@ -94,13 +94,13 @@ enabled (Float b) = truthy (Float b)
 enabled (Truth t) = t
 
 module _ (c : Circuit) where
-  -- an event goes to the receivers of its channel, local (24 to 26) or global (25 to 27), ascending
+  -- an event goes to the receivers of its channel, ascending: from a SendEvent to EventCustoms, from a global one to global ones, whose kinds are 2 more
   unfoldable pub receives : ℕ → ℕ → Bool
   receives g r = eqb (kind-of-gate c r) (kind-of-gate c g + 2) && same (setting c g 1) (setting c r 0)
 
   -- what an event raises
   unfoldable pub delivered : Send → List Act
-  delivered m = map (λ r. record { gate = r; form = 1; row = m .row }) (keep (receives (m .gate)) (c .receivers))
+  delivered m = map (λ r. record { gate = r; form = form-Event; row = m .row }) (keep (receives (m .gate)) (c .receivers))
 
   -- a pulse falls when raised-at + 2 ≤ tick
   unfoldable pub lower : Wires → ℕ → Wires
@@ -114,15 +114,15 @@ module _ (c : Circuit) where
       let t = count-changed (wires≔ (delay≔ c s g (m .state)) (set-outs c (s .wires) (output c g p) (m .row))) (m .changed) in
       record { state = t; raises = z .raises ++ raised-to place t (fire (m .fires) g) }
 
-  -- 10 to 13, 16 and 17; dt is the tick's length in f32
+  -- buffers and Queues; dt is the tick's length in f32
   unfoldable pub advance-buffer : ℕ → Opened → ℕ → Opened
   advance-buffer dt z g =
       let s = z .state in
       let k = kind-of-gate c g in
       let d = delay c s g in
-      if eqb k 10 || eqb k 12 then advanced z s to-late g 0 (advance-flight (λ v. countdown c g (truthy v)) dt d)
-      else if eqb k 11 || eqb k 13 then advanced z s to-late g 0 (advance-fires dt d)
-      else if eqb k 16 || eqb k 17 then advanced z s to-late g 1 (advance-records dt d)
+      if eqb k BufferTicks || eqb k BufferSeconds then advanced z s to-late g 0 (advance-flight (λ v. countdown c g (truthy v)) dt d)
+      else if eqb k BufferTicksExec || eqb k BufferSecondsExec then advanced z s to-late g 0 (advance-fires dt d)
+      else if eqb k QueueInTicks || eqb k QueueInSeconds then advanced z s to-late g 1 (advance-records dt d)
       else z
 
   -- the input's interval, unless it reads nothing, then the setting, then 1.0; both inputs are read, also where it is not enabled

@@ -4,15 +4,16 @@ use mathlib.Core.Logic.{_⊎_}
 use Prim.Native.Nat.{ℕ, _+_}
 use Rattle.schedule.specs.Schedule.{Raise, When, put-off}
 use Rattle.schedule.specs.Promise.{All}
+use Rattle.model.specs.Kinds.{ChangeDetector}
 use Rattle.model.specs.Circuit.{Circuit, kind-of-gate}
-use Rattle.model.specs.State.{Act}
+use Rattle.model.specs.State.{form-Fire, form-pin, Act}
 use Rattle.model.specs.Unit.{World}
 use Rattle.model.specs.Run.{body}
 
 module _ (c : Circuit) where
   -- the Fire of a ChangeDetector, or a pin
   abbrev pub May-wait : Act → Type 0
-  May-wait a = ((kind-of-gate c (a .gate) ≡ 6) × (a .form ≡ 0)) ⊎ ((p : ℕ) × (a .form ≡ 16 + p))
+  May-wait a = ((kind-of-gate c (a .gate) ≡ ChangeDetector) × (a .form ≡ form-Fire)) ⊎ ((p : ℕ) × (a .form ≡ form-pin + p))
 
   -- what is put off may be
   abbrev pub Rightly : {W : Type 0} → Raise W Act When → Type 0

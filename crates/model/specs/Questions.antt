@@ -10,8 +10,8 @@ use Rattle.words.specs.Words.{words}
 use Rattle.model.specs.declared.Value.{Value}
 use Rattle.model.specs.declared.Value.the-variants.{Nothing, Int, Float, Bool as Truth}
 use Rattle.model.specs.Base.{if_then_else_, keep, all, both, from, sum}
-use Rattle.model.specs.Value.{le64}
-use Rattle.model.specs.Kinds.{In, value, Setting, anything, ticks, seconds, variable, channel, loop, fires, shows, passes, kind-at, pure}
+use Rattle.model.specs.Value.{le64, kind-Int, kind-Float, kind-Bool}
+use Rattle.model.specs.Kinds.{In, value, Setting, anything, ticks, seconds, variable, channel, loop, fires, shows, passes, kind-at, Var, QueueInTicks, QueueInSeconds, WorldEvent, Loop, pure}
 use Rattle.model.specs.Circuit.{Circuit, circuit, part, word-at, minus-one, names, kind-of-gate, body-of-gate, inputs-of, gate-at-input, source, stored-in, gate-at-output, calls-of, gates, gates-of}
 
 -- low to high
@@ -35,7 +35,7 @@ question-1 bytes ws =
 
 -- 2. Is each constant of kind 1 to 3, a Float finite, a Bool 0 or 1?
 unfoldable pub good-constant : ℕ → ℕ → Bool
-good-constant k b = if eqb k 1 then true else if eqb k 2 then finite b else if eqb k 3 then within 0 1 b else false
+good-constant k b = if eqb k kind-Int then true else if eqb k kind-Float then finite b else if eqb k kind-Bool then within 0 1 b else false
 
 -- of all constants
 unfoldable pub question-2 : List ℕ → Bool
@@ -78,9 +78,9 @@ unfoldable pub good-setting : Circuit → Setting → Value → Bool
 good-setting c anything v = true
 good-setting c ticks v = int-or-nothing v
 good-setting c seconds v = float-or-nothing v
-good-setting c variable v = int-such-that (λ g. eqb (kind-of-gate c g) 5) v
+good-setting c variable v = int-such-that (λ g. eqb (kind-of-gate c g) Var) v
 good-setting c channel v = int-such-that (within 0 255) v
-good-setting c loop v = int-such-that (λ g. eqb (kind-of-gate c g) 29) v
+good-setting c loop v = int-such-that (λ g. eqb (kind-of-gate c g) Loop) v
 
 -- 0 to K: the constants are named 1 to K, and 0 is nothing
 unfoldable pub names-constant : Circuit → ℕ → Bool
@@ -120,7 +120,7 @@ calls-inside c o = all (λ k. eqb (body-of-gate c (gate-at-output c o)) (body-of
 
 -- the body that gate g lies in is 0, outside, or that of a Loop
 unfoldable pub in-a-body : Circuit → ℕ → Bool
-in-a-body c g = eqb (body-of-gate c g) 0 || eqb (kind-of-gate c (body-of-gate c g - 1)) 29
+in-a-body c g = eqb (body-of-gate c g) 0 || eqb (kind-of-gate c (body-of-gate c g - 1)) Loop
 
 -- the entries that name gate g
 unfoldable pub entries-of : Circuit → ℕ → List ℕ
@@ -128,7 +128,7 @@ entries-of c g = keep (names (c .kinds) (c .stored) (c .first-input) g) (gates c
 
 -- gate g, if it is a Loop, has one entry, and that lies in the Loop's own body
 unfoldable pub has-entry : Circuit → ℕ → Bool
-has-entry c g = not (eqb (kind-of-gate c g) 29) || (eqb (length (entries-of c g)) 1 && all (λ e. eqb (body-of-gate c e) (suc g)) (entries-of c g))
+has-entry c g = not (eqb (kind-of-gate c g) Loop) || (eqb (length (entries-of c g)) 1 && all (λ e. eqb (body-of-gate c e) (suc g)) (entries-of c g))
 
 -- going outwards from body b, from a Loop's body to the one that the Loop lies in, ends outside after n bodies at the most
 unfoldable pub comes-out : Circuit → ℕ → ℕ → Bool
@@ -167,7 +167,7 @@ pub record Areas : Type 0 where
 
 -- Queues in ticks and in seconds together
 unfoldable pub queues : Circuit → ℕ
-queues c = length (gates-of c (within 16 17))
+queues c = length (gates-of c (within QueueInTicks QueueInSeconds))
 
 -- a call that is lent no areas asks only the first half
 unfoldable pub question-7 : Option Areas → Circuit → Bool
@@ -195,7 +195,7 @@ unfoldable pub question-10 : List ℕ → Circuit → Bool
 question-10 ws c =
     let S = word-at ws 1 in
     let stimuli = 2 + 2 * word-at ws 0 in
-    all (λ g. eqb (kind-of-gate c g) 28) (part ws stimuli S) && all (names-constant c) (part ws (stimuli + S) S)
+    all (λ g. eqb (kind-of-gate c g) WorldEvent) (part ws stimuli S) && all (names-constant c) (part ws (stimuli + S) S)
 
 -- The number of the first question about the circuit whose answer is no, and 0 where all are yes. `areas` is none for a call that is lent none.
 unfoldable pub circuit-refusal : Option Areas → List ℕ → ℕ

@@ -7,7 +7,7 @@ use Rattle.model.specs.declared.Value.{Value}
 use Rattle.model.specs.declared.Value.the-variants.{Nothing}
 use Rattle.model.specs.Base.{if_then_else_, both}
 use Rattle.model.specs.Circuit.{part, word-at}
-use Rattle.model.specs.State.{Act}
+use Rattle.model.specs.State.{Act, form-World}
 
 -- the length of a tick, as f64 bits, and its stimuli in order
 pub record Given : Type 0 where
@@ -16,7 +16,7 @@ pub record Given : Type 0 where
 
 -- a WorldEvent fires, and brings its constant; constant 0 only fires
 unfoldable pub stimulus : List Value → ℕ → ℕ → Act
-stimulus constants g k = record { gate = g; form = 2; row = if eqb k 0 then [] else getD constants k Nothing ∷ [] }
+stimulus constants g k = record { gate = g; form = form-World; row = if eqb k 0 then [] else getD constants k Nothing ∷ [] }
 
 -- each tick takes the next so many stimuli
 unfoldable pub given : List ℕ → List ℕ → List Act → List Given

@@ -1,5 +1,5 @@
 -- What the units of small runs see when they begin, computed from words, and that reading for the record is not seen: Fresh and Unread, played.
-use Prim.Native.Nat.{ℕ, _^_, _-_}
+use Prim.Native.Nat.{ℕ}
 use mathlib.Core.Path.{_≡_, refl}
 use mathlib.Core.Bool.{Bool, true, false}
 use mathlib.Core.List.{List, [], _∷_, map}
@@ -9,6 +9,7 @@ use Rattle.words.specs.Words.{bytes}
 use Rattle.model.specs.declared.Value.{Value}
 use Rattle.model.specs.declared.Value.the-variants.{Nothing, Int, Float, Bool as Truth}
 use Rattle.model.specs.Base.{joined}
+use Rattle.model.specs.Kinds.{Select, Reroute, DeltaTime, ServerUptime, Var, ChangeDetector, Edge, EdgeExec, Clock, VarGet, VarSet, Toggle, SendEvent, EventCustom, WorldEvent, Loop, LoopEntry}
 use Rattle.model.specs.Circuit.{Circuit, circuit}
 use Rattle.model.specs.Script.{script}
 use Rattle.model.specs.State.{Wires}
@@ -17,20 +18,10 @@ use Rattle.model.specs.Loops.{run-chain}
 use Rattle.model.specs.Unit.{begin, enter}
 use Rattle.model.specs.Run.{Allowed, allowed, machine, world-at-start, ticks-of}
 use Rattle.model.specs.Answer.{checked, model-opened}
+use Rattle.model.specs.Table.{quarter, half, body-of, -1}
 use Rattle.model.specs.Order.{Numbered-tick, numbered-ticks}
 use Rattle.model.specs.Fresh.{read-output, afresh, fresh-opened}
 use Rattle.model.specs.Unread.{unread, unread-ticks, unread-opened}
-
--- the word -1
-abbrev -1 : ℕ
--1 = 2 ^ 64 - 1
-
--- 0.25 and 0.5
-abbrev quarter : ℕ
-quarter = 0x3FD0000000000000
-
-abbrev half : ℕ
-half = 0x3FE0000000000000
 
 -- ---- what units see
 
@@ -92,7 +83,7 @@ card =
     joined (
     (6 ∷ 4 ∷ 9 ∷ 1 ∷ [])
     ∷ (1 ∷ 1 ∷ 1 ∷ 1 ∷ []) ∷ (0 ∷ 1 ∷ 6 ∷ 7 ∷ [])
-    ∷ (28 ∷ 5 ∷ 19 ∷ 2 ∷ 1 ∷ 9 ∷ []) ∷ (0 ∷ 0 ∷ 0 ∷ 0 ∷ 0 ∷ 0 ∷ [])
+    ∷ (WorldEvent ∷ Var ∷ VarSet ∷ Reroute ∷ Select ∷ EdgeExec ∷ []) ∷ (0 ∷ 0 ∷ 0 ∷ 0 ∷ 0 ∷ 0 ∷ [])
     ∷ (-1 ∷ -1 ∷ -1 ∷ 1 ∷ 2 ∷ 4 ∷ -1 ∷ -1 ∷ 5 ∷ []) ∷ (1 ∷ 0 ∷ 2 ∷ 0 ∷ 0 ∷ 0 ∷ 1 ∷ 3 ∷ 0 ∷ [])
     ∷ (0 ∷ []) ∷ (2 ∷ [])
     ∷ [])
@@ -124,7 +115,7 @@ got =
     joined (
     (4 ∷ 2 ∷ 4 ∷ 1 ∷ [])
     ∷ (1 ∷ 1 ∷ []) ∷ (2 ∷ 7 ∷ [])
-    ∷ (28 ∷ 18 ∷ 5 ∷ 2 ∷ []) ∷ (0 ∷ 0 ∷ 0 ∷ 0 ∷ [])
+    ∷ (WorldEvent ∷ VarGet ∷ Var ∷ Reroute ∷ []) ∷ (0 ∷ 0 ∷ 0 ∷ 0 ∷ [])
     ∷ (-1 ∷ -1 ∷ -1 ∷ 3 ∷ []) ∷ (0 ∷ 1 ∷ 2 ∷ 0 ∷ [])
     ∷ (0 ∷ []) ∷ (0 ∷ [])
     ∷ [])
@@ -152,7 +143,7 @@ pulse =
     joined (
     (4 ∷ 1 ∷ 2 ∷ 0 ∷ [])
     ∷ (1 ∷ []) ∷ (7 ∷ [])
-    ∷ (28 ∷ 7 ∷ 2 ∷ 28 ∷ []) ∷ (0 ∷ 0 ∷ 0 ∷ 0 ∷ [])
+    ∷ (WorldEvent ∷ Edge ∷ Reroute ∷ WorldEvent ∷ []) ∷ (0 ∷ 0 ∷ 0 ∷ 0 ∷ [])
     ∷ (1 ∷ 2 ∷ []) ∷ (0 ∷ 0 ∷ [])
     ∷ [])
 
@@ -180,7 +171,7 @@ chained =
     joined (
     (5 ∷ 3 ∷ 7 ∷ 0 ∷ [])
     ∷ (1 ∷ 1 ∷ 1 ∷ []) ∷ (7 ∷ 5 ∷ 6 ∷ [])
-    ∷ (28 ∷ 7 ∷ 1 ∷ 1 ∷ 28 ∷ []) ∷ (0 ∷ 0 ∷ 0 ∷ 0 ∷ 0 ∷ [])
+    ∷ (WorldEvent ∷ Edge ∷ Select ∷ Select ∷ WorldEvent ∷ []) ∷ (0 ∷ 0 ∷ 0 ∷ 0 ∷ 0 ∷ [])
     ∷ (1 ∷ 2 ∷ -1 ∷ 5 ∷ 2 ∷ -1 ∷ -1 ∷ []) ∷ (0 ∷ 0 ∷ 2 ∷ 0 ∷ 0 ∷ 2 ∷ 3 ∷ [])
     ∷ [])
 
@@ -202,7 +193,7 @@ shift =
     joined (
     (5 ∷ 1 ∷ 7 ∷ 1 ∷ [])
     ∷ (2 ∷ []) ∷ (quarter ∷ [])
-    ∷ (14 ∷ 22 ∷ 9 ∷ 9 ∷ 2 ∷ []) ∷ (4 ∷ 0 ∷ 4 ∷ 5 ∷ 0 ∷ [])
+    ∷ (Clock ∷ Toggle ∷ EdgeExec ∷ EdgeExec ∷ Reroute ∷ []) ∷ (4 ∷ 0 ∷ 4 ∷ 5 ∷ 0 ∷ [])
     ∷ (-1 ∷ -1 ∷ -1 ∷ -1 ∷ 2 ∷ 2 ∷ 2 ∷ []) ∷ (0 ∷ 0 ∷ 1 ∷ 0 ∷ 0 ∷ 0 ∷ 0 ∷ [])
     ∷ (0 ∷ []) ∷ (6 ∷ [])
     ∷ [])
@@ -222,7 +213,7 @@ message =
     joined (
     (4 ∷ 2 ∷ 12 ∷ 1 ∷ [])
     ∷ (1 ∷ 1 ∷ []) ∷ (0 ∷ 5 ∷ [])
-    ∷ (28 ∷ 24 ∷ 26 ∷ 2 ∷ []) ∷ (0 ∷ 0 ∷ 0 ∷ 0 ∷ [])
+    ∷ (WorldEvent ∷ SendEvent ∷ EventCustom ∷ Reroute ∷ []) ∷ (0 ∷ 0 ∷ 0 ∷ 0 ∷ [])
     ∷ (-1 ∷ -1 ∷ -1 ∷ -1 ∷ -1 ∷ -1 ∷ -1 ∷ -1 ∷ -1 ∷ -1 ∷ -1 ∷ 4 ∷ []) ∷ (0 ∷ 1 ∷ 2 ∷ 0 ∷ 0 ∷ 0 ∷ 0 ∷ 0 ∷ 0 ∷ 0 ∷ 1 ∷ 0 ∷ [])
     ∷ (0 ∷ []) ∷ (0 ∷ [])
     ∷ [])
@@ -241,7 +232,7 @@ delivered-too = (refl, refl)
 
 -- A WorldEvent (0), DeltaTime (1), output 2, and ServerUptime (2), output 3; two ticks of 0.25 seconds, with an event in each.
 unfoldable pub times : List ℕ
-times = 3 ∷ 0 ∷ 0 ∷ 0 ∷ 28 ∷ 3 ∷ 4 ∷ 0 ∷ 0 ∷ 0 ∷ []
+times = 3 ∷ 0 ∷ 0 ∷ 0 ∷ WorldEvent ∷ DeltaTime ∷ ServerUptime ∷ 0 ∷ 0 ∷ 0 ∷ []
 
 unfoldable pub two-quarters : List ℕ
 two-quarters = 2 ∷ 2 ∷ quarter ∷ quarter ∷ 1 ∷ 1 ∷ 0 ∷ 0 ∷ 0 ∷ 0 ∷ []
@@ -262,7 +253,7 @@ repeated =
     joined (
     (8 ∷ 5 ∷ 13 ∷ 1 ∷ [])
     ∷ (3 ∷ 1 ∷ 1 ∷ 1 ∷ 1 ∷ []) ∷ (1 ∷ 0 ∷ 3 ∷ 2 ∷ 1 ∷ [])
-    ∷ (5 ∷ 5 ∷ 29 ∷ 30 ∷ 19 ∷ 2 ∷ 2 ∷ 6 ∷ []) ∷ (0 ∷ 0 ∷ 4 ∷ 196608 ∷ 196608 ∷ 0 ∷ 0 ∷ 6 ∷ [])
+    ∷ (Var ∷ Var ∷ Loop ∷ LoopEntry ∷ VarSet ∷ Reroute ∷ Reroute ∷ ChangeDetector ∷ []) ∷ (0 ∷ 0 ∷ 4 ∷ body-of 2 ∷ body-of 2 ∷ 0 ∷ 0 ∷ 6 ∷ [])
     ∷ (-1 ∷ -1 ∷ 0 ∷ -1 ∷ -1 ∷ -1 ∷ -1 ∷ -1 ∷ -1 ∷ 9 ∷ 7 ∷ 1 ∷ 10 ∷ []) ∷ (1 ∷ 2 ∷ 0 ∷ 3 ∷ 0 ∷ 0 ∷ 4 ∷ 0 ∷ 5 ∷ 0 ∷ 0 ∷ 0 ∷ 0 ∷ [])
     ∷ (6 ∷ []) ∷ (14 ∷ [])
     ∷ [])
@@ -306,7 +297,7 @@ write-behind =
     joined (
     (8 ∷ 5 ∷ 12 ∷ 2 ∷ [])
     ∷ (1 ∷ 1 ∷ 1 ∷ 1 ∷ 1 ∷ []) ∷ (1 ∷ 3 ∷ 9 ∷ 7 ∷ 0 ∷ [])
-    ∷ (28 ∷ 7 ∷ 1 ∷ 5 ∷ 28 ∷ 19 ∷ 19 ∷ 5 ∷ []) ∷ (0 ∷ 0 ∷ 0 ∷ 0 ∷ 0 ∷ 0 ∷ 0 ∷ 0 ∷ [])
+    ∷ (WorldEvent ∷ Edge ∷ Select ∷ Var ∷ WorldEvent ∷ VarSet ∷ VarSet ∷ Var ∷ []) ∷ (0 ∷ 0 ∷ 0 ∷ 0 ∷ 0 ∷ 0 ∷ 0 ∷ 0 ∷ [])
     ∷ (1 ∷ 2 ∷ 5 ∷ 5 ∷ -1 ∷ -1 ∷ -1 ∷ -1 ∷ -1 ∷ -1 ∷ 4 ∷ -1 ∷ []) ∷ (0 ∷ 0 ∷ 0 ∷ 0 ∷ 1 ∷ 0 ∷ 2 ∷ 3 ∷ 0 ∷ 4 ∷ 0 ∷ 5 ∷ [])
     ∷ (6 ∷ 8 ∷ []) ∷ (10 ∷ 16 ∷ [])
     ∷ [])

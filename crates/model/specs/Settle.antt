@@ -11,8 +11,9 @@ use Rattle.model.specs.declared.Value.{Value}
 use Rattle.model.specs.declared.Value.the-variants.{Nothing, Bool as Truth}
 use Rattle.model.specs.Base.{if_then_else_, each}
 use Rattle.model.specs.Value.{truthy, as-float, same, lt64}
+use Rattle.model.specs.Kinds.{ChangeDetector, Edge, Change, EdgeExec, BufferTicks, BufferSeconds}
 use Rattle.model.specs.Circuit.{Circuit, kind-of-gate, input, output, gate-at-input, gate-at-output}
-use Rattle.model.specs.State.{Wires, Act, State, to-check≔, late-checks≔, last≔, pulses≔, written≔, written-outside≔, wires≔}
+use Rattle.model.specs.State.{Wires, form-Fire, form-pin, form-output, Act, State, to-check≔, late-checks≔, last≔, pulses≔, written≔, written-outside≔, wires≔}
 use Rattle.model.specs.Wires.{look, ready, refresh-all, mark-readers-for, set-out}
 use Rattle.model.specs.Delays.{buffer-input}
 use Rattle.model.specs.Exec.{with-countdown, countdown}
@@ -65,7 +66,7 @@ module _ (c : Circuit) where
   unfoldable pub pulse : Wires → ℕ → Wires
   pulse w o = let u = set-out c w o (Truth true) in pulses≔ u (set (u .pulses) o (u .tick))
 
-  -- kinds 7 and 9 compare as Floats, nothing as 0.0: rising is output 0, falling output 1
+  -- Edge and EdgeExec compare as Floats, nothing as 0.0: rising is output 0, falling output 1
   unfoldable pub edge : State → Value → Value → (State → ℕ → Settled) → Settled
   edge s was now hit =
       if lt64 (as-float 0 was) (as-float 0 now) then hit s 0 else if lt64 (as-float 0 now) (as-float 0 was) then hit s 1 else calm s
@@ -73,12 +74,12 @@ module _ (c : Circuit) where
   -- watched input p of gate g changed: a detector, a value buffer, or an exec pin, which raises where the value is true; only a ChangeDetector and a pin are put off
   unfoldable pub detect : ℕ → When → State → ℕ → ℕ → Value → Value → Settled
   detect k when s g p was now =
-      if eqb k 6 then raise when s g 0
-      else if eqb k 7 then edge s was now (λ t o. calm (wires≔ t (pulse (t .wires) (output c g o))))
-      else if eqb k 8 then calm (wires≔ s (pulse (s .wires) (output c g 0)))
-      else if eqb k 9 then edge s was now (λ t o. raise by-rank t g (32 + o))
-      else if eqb k 10 || eqb k 12 then calm (with-countdown c s g (λ d left. buffer-input d now left) (countdown c g (truthy now)))
-      else if truthy now then raise when s g (16 + p)
+      if eqb k ChangeDetector then raise when s g form-Fire
+      else if eqb k Edge then edge s was now (λ t o. calm (wires≔ t (pulse (t .wires) (output c g o))))
+      else if eqb k Change then calm (wires≔ s (pulse (s .wires) (output c g 0)))
+      else if eqb k EdgeExec then edge s was now (λ t o. raise by-rank t g (form-output + o))
+      else if eqb k BufferTicks || eqb k BufferSeconds then calm (with-countdown c s g (λ d left. buffer-input d now left) (countdown c g (truthy now)))
+      else if truthy now then raise when s g (form-pin + p)
       else calm s
 
   -- `last` is replaced at every check, and acted on is only a change

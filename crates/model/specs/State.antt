@@ -54,8 +54,23 @@ pub record Delay : Type 0 where
   pub running : Bool
   pub records : List Queued
 
--- What an activation runs: a gate, a form as in the log, and the values that it brings (Event: eight, World: one or none).
--- Forms: 0 Fire, 1 Event, 2 World, 16 + pin, 32 + output.
+-- The forms of activations, as in the log: Fire, Event, World; of a pin form-pin + pin, of an output form-output + output.
+abbrev pub form-Fire : ℕ
+form-Fire = 0
+
+abbrev pub form-Event : ℕ
+form-Event = 1
+
+abbrev pub form-World : ℕ
+form-World = 2
+
+abbrev pub form-pin : ℕ
+form-pin = 16
+
+abbrev pub form-output : ℕ
+form-output = 32
+
+-- What an activation runs: a gate, a form, and the values that it brings (Event: eight, World: one or none).
 pub record Act : Type 0 where
   pub gate : ℕ
   pub form : ℕ

@@ -8,8 +8,9 @@ use lib.IntN.{ℤ, pos, negsuc}
 use lib.ListN.{replicate}
 use Rattle.words.specs.Words.{bytes}
 use Rattle.model.specs.declared.Value.the-variants.{Nothing, Int, Bool as Truth}
-use Rattle.model.specs.Base.{joined}
-use Rattle.model.specs.Value.{narrow, narrow-changes}
+use Rattle.model.specs.Base.{joined, from}
+use Rattle.model.specs.Value.{narrow, narrow-changes, one-point-zero}
+use Rattle.model.specs.Kinds.{Select, Reroute, DeltaTime, ServerUptime, Var, ChangeDetector, Edge, Change, EdgeExec, BufferTicks, BufferTicksExec, BufferSeconds, BufferSecondsExec, Clock, Stopwatch, QueueInTicks, QueueInSeconds, VarGet, VarSet, Branch, Union, Toggle, Cycle, SendEvent, SendEventGlobal, EventCustom, EventCustomGlobal, WorldEvent, Loop, LoopEntry, Break}
 use Rattle.model.specs.Circuit.{rank-size, circuit}
 use Rattle.model.specs.Script.{script}
 use Rattle.model.specs.Chain.{Chained}
@@ -36,49 +37,98 @@ plays records stop ticks = played (record { log = joined records; stop = stop; t
 unfoldable pub answered : Row → Answer
 answered r = answer (record { values = 65536; units = 65536; delays = 65536 }) 65536 (bytes (joined (r .circuit))) (bytes (joined (r .script)))
 
--- the words -1 and -3
-abbrev -1 : ℕ
+-- ---- words of circuits and scripts
+
+-- -1 and -3
+abbrev pub -1 : ℕ
 -1 = 2 ^ 64 - 1
 
 abbrev -3 : ℕ
 -3 = 2 ^ 64 - 3
 
--- the word of a gate of rank 0 in the body of Loop g
-abbrev body-of : ℕ → ℕ
+-- 0.1, 0.25, 0.5 and 0.75, as f64 bits
+abbrev tenth : ℕ
+tenth = 0x3FB999999999999A
+
+abbrev pub quarter : ℕ
+quarter = 0x3FD0000000000000
+
+abbrev pub half : ℕ
+half = 0x3FE0000000000000
+
+abbrev three-quarters : ℕ
+three-quarters = 0x3FE8000000000000
+
+-- the next number above 3,600
+abbrev above-3600 : ℕ
+above-3600 = 0x40AC200000000001
+
+-- of a gate: rank 0, in the body of Loop g
+abbrev pub body-of : ℕ → ℕ
 body-of g = rank-size * suc g
+
+-- ---- circuits that more than one row plays
+
+-- a WorldEvent calls a Toggle
+abbrev switch : List (List ℕ)
+switch = (2 ∷ 1 ∷ 1 ∷ 1 ∷ []) ∷ (1 ∷ []) ∷ (7 ∷ []) ∷ (WorldEvent ∷ Toggle ∷ []) ∷ (0 ∷ 1 ∷ []) ∷ (-1 ∷ []) ∷ (0 ∷ []) ∷ (0 ∷ []) ∷ (0 ∷ []) ∷ []
+
+-- one tick, of 0.25 seconds, in which it brings Int 7
+abbrev pressed-once : List (List ℕ)
+pressed-once = (1 ∷ 1 ∷ []) ∷ (quarter ∷ []) ∷ (1 ∷ []) ∷ (0 ∷ []) ∷ (1 ∷ []) ∷ []
 
 -- A Clock (rank 4) calls a Toggle, whose output is read by an EdgeExec, a ChangeDetector, a Toggle's pin (ranks 4, 3, 2) and two more EdgeExecs (5, 6); the first of
 -- these calls the second Toggle.
 abbrev carries : List (List ℕ)
 carries =
-    ((7 ∷ 1 ∷ 9 ∷ 2 ∷ []) ∷ (2 ∷ []) ∷ (4598175219545276416 ∷ []) ∷ (14 ∷ 22 ∷ 9 ∷ 6 ∷ 22 ∷ 9 ∷ 9 ∷ []) ∷ (4 ∷ 0 ∷ 4 ∷ 3 ∷ 2 ∷ 5 ∷ 6 ∷ []) ∷ (-1 ∷ -1 ∷ -1 ∷ -1 ∷ 2 ∷ 2 ∷ 2 ∷ 2 ∷ 2 ∷ []) ∷ (0 ∷ 0 ∷ 1 ∷ 0 ∷ 0 ∷ 0 ∷ 0 ∷ 0 ∷ 0 ∷ []) ∷ (0 ∷ 8 ∷ []) ∷ (6 ∷ 12 ∷ []) ∷ [])
+    ((7 ∷ 1 ∷ 9 ∷ 2 ∷ [])
+    ∷ (2 ∷ []) ∷ (quarter ∷ [])
+    ∷ (Clock ∷ Toggle ∷ EdgeExec ∷ ChangeDetector ∷ Toggle ∷ EdgeExec ∷ EdgeExec ∷ []) ∷ (4 ∷ 0 ∷ 4 ∷ 3 ∷ 2 ∷ 5 ∷ 6 ∷ [])
+    ∷ (-1 ∷ -1 ∷ -1 ∷ -1 ∷ 2 ∷ 2 ∷ 2 ∷ 2 ∷ 2 ∷ []) ∷ (0 ∷ 0 ∷ 1 ∷ 0 ∷ 0 ∷ 0 ∷ 0 ∷ 0 ∷ 0 ∷ [])
+    ∷ (0 ∷ 8 ∷ []) ∷ (6 ∷ 12 ∷ [])
+    ∷ [])
 
--- document 01's examples are marked *
+-- ---- the numbers of the kinds, as the documents count them
+
+pub kinds-numbered :
+    from 1 31
+    ≡ Select ∷ Reroute ∷ DeltaTime ∷ ServerUptime ∷ Var ∷ ChangeDetector ∷ Edge ∷ Change ∷ EdgeExec ∷ BufferTicks ∷ BufferTicksExec ∷ BufferSeconds ∷ BufferSecondsExec
+    ∷ Clock ∷ Stopwatch ∷ QueueInTicks ∷ QueueInSeconds ∷ VarGet ∷ VarSet ∷ Branch ∷ Union ∷ Toggle ∷ Cycle ∷ SendEvent ∷ SendEventGlobal ∷ EventCustom ∷ EventCustomGlobal
+    ∷ WorldEvent ∷ Loop ∷ LoopEntry ∷ Break ∷ []
+unfolding from
+kinds-numbered = refl
+
+-- ---- the rows; document 01's examples are marked *
 unfoldable pub rows : List Row
 rows =
     -- * A WorldEvent calls a Toggle.
     row
-    ((2 ∷ 1 ∷ 1 ∷ 1 ∷ []) ∷ (1 ∷ []) ∷ (7 ∷ []) ∷ (28 ∷ 22 ∷ []) ∷ (0 ∷ 1 ∷ []) ∷ (-1 ∷ []) ∷ (0 ∷ []) ∷ (0 ∷ []) ∷ (0 ∷ []) ∷ [])
-    ((1 ∷ 1 ∷ []) ∷ (4598175219545276416 ∷ []) ∷ (1 ∷ []) ∷ (0 ∷ []) ∷ (1 ∷ []) ∷ [])
+    switch
+    pressed-once
     (plays
     ((1 ∷ 1 ∷ 1 ∷ 0 ∷ 0 ∷ 0 ∷ 0 ∷ 0 ∷ 2 ∷ 0 ∷ 1 ∷ 0 ∷ 3 ∷ 0 ∷ 7 ∷ 0 ∷ 1 ∷ [])
     ∷ []) 0 1)
     -- * T = 0: an empty log.
     ∷ row
-    ((2 ∷ 1 ∷ 1 ∷ 1 ∷ []) ∷ (1 ∷ []) ∷ (7 ∷ []) ∷ (28 ∷ 22 ∷ []) ∷ (0 ∷ 1 ∷ []) ∷ (-1 ∷ []) ∷ (0 ∷ []) ∷ (0 ∷ []) ∷ (0 ∷ []) ∷ [])
+    switch
     ((0 ∷ 0 ∷ []) ∷ [] ∷ [] ∷ [] ∷ [] ∷ [])
     (plays [] 0 0)
     -- * In a main pass a Clock of rank 4 raises two EdgeExecs: the one of rank 4 is carried, and begins first in tick 2's late pass; the one of rank 5 begins in this tick.
     ∷ row
-    ((4 ∷ 1 ∷ 6 ∷ 1 ∷ []) ∷ (2 ∷ []) ∷ (4598175219545276416 ∷ []) ∷ (14 ∷ 22 ∷ 9 ∷ 9 ∷ []) ∷ (4 ∷ 0 ∷ 4 ∷ 5 ∷ []) ∷ (-1 ∷ -1 ∷ -1 ∷ -1 ∷ 2 ∷ 2 ∷ []) ∷ (0 ∷ 0 ∷ 1 ∷ 0 ∷ 0 ∷ 0 ∷ []) ∷ (0 ∷ []) ∷ (6 ∷ []) ∷ [])
-    ((2 ∷ 0 ∷ []) ∷ (4598175219545276416 ∷ 0 ∷ []) ∷ (0 ∷ 0 ∷ []) ∷ [] ∷ [] ∷ [])
+    ((4 ∷ 1 ∷ 6 ∷ 1 ∷ [])
+    ∷ (2 ∷ []) ∷ (quarter ∷ [])
+    ∷ (Clock ∷ Toggle ∷ EdgeExec ∷ EdgeExec ∷ []) ∷ (4 ∷ 0 ∷ 4 ∷ 5 ∷ [])
+    ∷ (-1 ∷ -1 ∷ -1 ∷ -1 ∷ 2 ∷ 2 ∷ []) ∷ (0 ∷ 0 ∷ 1 ∷ 0 ∷ 0 ∷ 0 ∷ [])
+    ∷ (0 ∷ []) ∷ (6 ∷ [])
+    ∷ [])
+    ((2 ∷ 0 ∷ []) ∷ (quarter ∷ 0 ∷ []) ∷ (0 ∷ 0 ∷ []) ∷ [] ∷ [] ∷ [])
     (plays
     ((1 ∷ 1 ∷ 0 ∷ 2 ∷ 1 ∷ 0 ∷ 0 ∷ 0 ∷ 3 ∷ 0 ∷ 32 ∷ 2 ∷ 32 ∷ 0 ∷ 0 ∷ 3 ∷ 0 ∷ 0 ∷ 0 ∷ 0 ∷ 0 ∷ 0 ∷ 1 ∷ 0 ∷ 0 ∷ 0 ∷ 0 ∷ [])
     ∷ (2 ∷ 0 ∷ 1 ∷ 0 ∷ 0 ∷ 0 ∷ 0 ∷ 2 ∷ 32 ∷ 0 ∷ 0 ∷ 3 ∷ 0 ∷ 0 ∷ 0 ∷ 0 ∷ 0 ∷ 0 ∷ 1 ∷ 0 ∷ 0 ∷ 0 ∷ 0 ∷ [])
     ∷ []) 0 2)
     -- * A pulse raised in tick 5 is true in records 5 and 6, and false in 7.
     ∷ row
-    ((2 ∷ 1 ∷ 1 ∷ 0 ∷ []) ∷ (1 ∷ []) ∷ (1 ∷ []) ∷ (28 ∷ 7 ∷ []) ∷ (0 ∷ 0 ∷ []) ∷ (1 ∷ []) ∷ (0 ∷ []) ∷ [] ∷ [] ∷ [])
+    ((2 ∷ 1 ∷ 1 ∷ 0 ∷ []) ∷ (1 ∷ []) ∷ (1 ∷ []) ∷ (WorldEvent ∷ Edge ∷ []) ∷ (0 ∷ 0 ∷ []) ∷ (1 ∷ []) ∷ (0 ∷ []) ∷ [] ∷ [] ∷ [])
     ((7 ∷ 1 ∷ []) ∷ (0 ∷ 0 ∷ 0 ∷ 0 ∷ 0 ∷ 0 ∷ 0 ∷ []) ∷ (0 ∷ 0 ∷ 0 ∷ 0 ∷ 1 ∷ 0 ∷ 0 ∷ []) ∷ (0 ∷ []) ∷ (1 ∷ []) ∷ [])
     (plays
     ((1 ∷ 0 ∷ 0 ∷ 0 ∷ 0 ∷ 0 ∷ 0 ∷ 0 ∷ 0 ∷ 0 ∷ 0 ∷ 0 ∷ 0 ∷ 0 ∷ 0 ∷ [])
@@ -91,8 +141,8 @@ rows =
     ∷ []) 0 7)
     -- * Interval 1.0, ticks of 0.25: a Clock fires in ticks 4 and 8.
     ∷ row
-    ((1 ∷ 1 ∷ 3 ∷ 0 ∷ []) ∷ (2 ∷ []) ∷ (4607182418800017408 ∷ []) ∷ (14 ∷ []) ∷ (0 ∷ []) ∷ (-1 ∷ -1 ∷ -1 ∷ []) ∷ (0 ∷ 0 ∷ 1 ∷ []) ∷ [] ∷ [] ∷ [])
-    ((8 ∷ 0 ∷ []) ∷ (4598175219545276416 ∷ 4598175219545276416 ∷ 4598175219545276416 ∷ 4598175219545276416 ∷ 4598175219545276416 ∷ 4598175219545276416 ∷ 4598175219545276416 ∷ 4598175219545276416 ∷ []) ∷ (0 ∷ 0 ∷ 0 ∷ 0 ∷ 0 ∷ 0 ∷ 0 ∷ 0 ∷ []) ∷ [] ∷ [] ∷ [])
+    ((1 ∷ 1 ∷ 3 ∷ 0 ∷ []) ∷ (2 ∷ []) ∷ (one-point-zero ∷ []) ∷ (Clock ∷ []) ∷ (0 ∷ []) ∷ (-1 ∷ -1 ∷ -1 ∷ []) ∷ (0 ∷ 0 ∷ 1 ∷ []) ∷ [] ∷ [] ∷ [])
+    ((8 ∷ 0 ∷ []) ∷ replicate 8 quarter ∷ replicate 8 0 ∷ [] ∷ [] ∷ [])
     (plays
     ((1 ∷ 0 ∷ 0 ∷ 0 ∷ 0 ∷ 0 ∷ 0 ∷ 0 ∷ 0 ∷ [])
     ∷ (2 ∷ 0 ∷ 0 ∷ 0 ∷ 0 ∷ 0 ∷ 0 ∷ 0 ∷ 0 ∷ [])
@@ -105,8 +155,8 @@ rows =
     ∷ []) 0 8)
     -- A Clock loses the excess: interval 1.0, ticks of 0.75, so it fires in ticks 2 and 4, and not in 3.
     ∷ row
-    ((1 ∷ 1 ∷ 3 ∷ 0 ∷ []) ∷ (2 ∷ []) ∷ (4607182418800017408 ∷ []) ∷ (14 ∷ []) ∷ (0 ∷ []) ∷ (-1 ∷ -1 ∷ -1 ∷ []) ∷ (0 ∷ 0 ∷ 1 ∷ []) ∷ [] ∷ [] ∷ [])
-    ((4 ∷ 0 ∷ []) ∷ (4604930618986332160 ∷ 4604930618986332160 ∷ 4604930618986332160 ∷ 4604930618986332160 ∷ []) ∷ (0 ∷ 0 ∷ 0 ∷ 0 ∷ []) ∷ [] ∷ [] ∷ [])
+    ((1 ∷ 1 ∷ 3 ∷ 0 ∷ []) ∷ (2 ∷ []) ∷ (one-point-zero ∷ []) ∷ (Clock ∷ []) ∷ (0 ∷ []) ∷ (-1 ∷ -1 ∷ -1 ∷ []) ∷ (0 ∷ 0 ∷ 1 ∷ []) ∷ [] ∷ [] ∷ [])
+    ((4 ∷ 0 ∷ []) ∷ (three-quarters ∷ three-quarters ∷ three-quarters ∷ three-quarters ∷ []) ∷ (0 ∷ 0 ∷ 0 ∷ 0 ∷ []) ∷ [] ∷ [] ∷ [])
     (plays
     ((1 ∷ 0 ∷ 0 ∷ 0 ∷ 0 ∷ 0 ∷ 0 ∷ 0 ∷ 0 ∷ [])
     ∷ (2 ∷ 0 ∷ 0 ∷ 1 ∷ 0 ∷ 0 ∷ 0 ∷ 0 ∷ 0 ∷ 0 ∷ 0 ∷ [])
@@ -115,14 +165,24 @@ rows =
     ∷ []) 0 4)
     -- * Two Cycles, Count 3, each from nothing: up gives 1, down gives 2.
     ∷ row
-    ((3 ∷ 1 ∷ 6 ∷ 2 ∷ []) ∷ (1 ∷ []) ∷ (3 ∷ []) ∷ (28 ∷ 23 ∷ 23 ∷ []) ∷ (0 ∷ 0 ∷ 0 ∷ []) ∷ (-1 ∷ -1 ∷ -1 ∷ -1 ∷ -1 ∷ -1 ∷ []) ∷ (0 ∷ 0 ∷ 1 ∷ 0 ∷ 0 ∷ 1 ∷ []) ∷ (0 ∷ 0 ∷ []) ∷ (0 ∷ 8 ∷ []) ∷ [])
+    ((3 ∷ 1 ∷ 6 ∷ 2 ∷ [])
+    ∷ (1 ∷ []) ∷ (3 ∷ [])
+    ∷ (WorldEvent ∷ Cycle ∷ Cycle ∷ []) ∷ (0 ∷ 0 ∷ 0 ∷ [])
+    ∷ (-1 ∷ -1 ∷ -1 ∷ -1 ∷ -1 ∷ -1 ∷ []) ∷ (0 ∷ 0 ∷ 1 ∷ 0 ∷ 0 ∷ 1 ∷ [])
+    ∷ (0 ∷ 0 ∷ []) ∷ (0 ∷ 8 ∷ [])
+    ∷ [])
     ((1 ∷ 1 ∷ []) ∷ (0 ∷ []) ∷ (1 ∷ []) ∷ (0 ∷ []) ∷ (0 ∷ []) ∷ [])
     (plays
     ((1 ∷ 2 ∷ 1 ∷ 0 ∷ 0 ∷ 0 ∷ 0 ∷ 0 ∷ 2 ∷ 0 ∷ 0 ∷ 0 ∷ 0 ∷ 1 ∷ 0 ∷ 0 ∷ 1 ∷ 0 ∷ 0 ∷ 0 ∷ 0 ∷ 1 ∷ 0 ∷ 0 ∷ 2 ∷ [])
     ∷ []) 0 1)
     -- A Cycle's Count shrinks from 1,000,000 to 7 while 999,999 is shown: up gives 1. ExecDown fires the second output, Exec the first: a Toggle behind each.
     ∷ row
-    ((6 ∷ 2 ∷ 5 ∷ 4 ∷ []) ∷ (1 ∷ 1 ∷ []) ∷ (1000000 ∷ 7 ∷ []) ∷ (28 ∷ 28 ∷ 28 ∷ 23 ∷ 22 ∷ 22 ∷ []) ∷ (0 ∷ 0 ∷ 0 ∷ 0 ∷ 0 ∷ 0 ∷ []) ∷ (-1 ∷ -1 ∷ 5 ∷ -1 ∷ -1 ∷ []) ∷ (0 ∷ 0 ∷ 0 ∷ 0 ∷ 0 ∷ []) ∷ (0 ∷ 2 ∷ 6 ∷ 7 ∷ []) ∷ (0 ∷ 2 ∷ 6 ∷ 8 ∷ []) ∷ [])
+    ((6 ∷ 2 ∷ 5 ∷ 4 ∷ [])
+    ∷ (1 ∷ 1 ∷ []) ∷ (1000000 ∷ 7 ∷ [])
+    ∷ (WorldEvent ∷ WorldEvent ∷ WorldEvent ∷ Cycle ∷ Toggle ∷ Toggle ∷ []) ∷ (0 ∷ 0 ∷ 0 ∷ 0 ∷ 0 ∷ 0 ∷ [])
+    ∷ (-1 ∷ -1 ∷ 5 ∷ -1 ∷ -1 ∷ []) ∷ (0 ∷ 0 ∷ 0 ∷ 0 ∷ 0 ∷ [])
+    ∷ (0 ∷ 2 ∷ 6 ∷ 7 ∷ []) ∷ (0 ∷ 2 ∷ 6 ∷ 8 ∷ [])
+    ∷ [])
     ((2 ∷ 4 ∷ []) ∷ (0 ∷ 0 ∷ []) ∷ (2 ∷ 2 ∷ []) ∷ (2 ∷ 1 ∷ 2 ∷ 0 ∷ []) ∷ (1 ∷ 0 ∷ 2 ∷ 0 ∷ []) ∷ [])
     (plays
     ((1 ∷ 2 ∷ 2 ∷ 0 ∷ 0 ∷ 0 ∷ 0 ∷ 2 ∷ 1 ∷ 2 ∷ 2 ∷ 0 ∷ 0 ∷ 0 ∷ 0 ∷ 0 ∷ 1 ∷ 0 ∷ 0 ∷ 1 ∷ 0 ∷ 0 ∷ 0 ∷ 3 ∷ 0 ∷ 0 ∷ 0 ∷ 0 ∷ 0 ∷ 1000000 ∷ 0 ∷ 0 ∷ 999999 ∷ 0 ∷ 0 ∷ 0 ∷ 1 ∷ [])
@@ -130,7 +190,12 @@ rows =
     ∷ []) 0 2)
     -- A delivered event of rank 0 begins after the ranked late unit, a WorldEvent of rank 5.
     ∷ row
-    ((3 ∷ 1 ∷ 11 ∷ 1 ∷ []) ∷ (1 ∷ []) ∷ (0 ∷ []) ∷ (28 ∷ 24 ∷ 26 ∷ []) ∷ (5 ∷ 0 ∷ 0 ∷ []) ∷ (-1 ∷ -1 ∷ -1 ∷ -1 ∷ -1 ∷ -1 ∷ -1 ∷ -1 ∷ -1 ∷ -1 ∷ -1 ∷ []) ∷ (0 ∷ 1 ∷ 0 ∷ 0 ∷ 0 ∷ 0 ∷ 0 ∷ 0 ∷ 0 ∷ 0 ∷ 1 ∷ []) ∷ (0 ∷ []) ∷ (0 ∷ []) ∷ [])
+    ((3 ∷ 1 ∷ 11 ∷ 1 ∷ [])
+    ∷ (1 ∷ []) ∷ (0 ∷ [])
+    ∷ (WorldEvent ∷ SendEvent ∷ EventCustom ∷ []) ∷ (5 ∷ 0 ∷ 0 ∷ [])
+    ∷ replicate 11 -1 ∷ (0 ∷ 1 ∷ 0 ∷ 0 ∷ 0 ∷ 0 ∷ 0 ∷ 0 ∷ 0 ∷ 0 ∷ 1 ∷ [])
+    ∷ (0 ∷ []) ∷ (0 ∷ [])
+    ∷ [])
     ((2 ∷ 2 ∷ []) ∷ (0 ∷ 0 ∷ []) ∷ (1 ∷ 1 ∷ []) ∷ (0 ∷ 0 ∷ []) ∷ (0 ∷ 0 ∷ []) ∷ [])
     (plays
     ((1 ∷ 1 ∷ 1 ∷ 0 ∷ 0 ∷ 0 ∷ 0 ∷ 0 ∷ 2 ∷ 0 ∷ 0 ∷ 0 ∷ 0 ∷ 0 ∷ 0 ∷ 0 ∷ 0 ∷ 0 ∷ 0 ∷ 0 ∷ 0 ∷ 0 ∷ 0 ∷ 0 ∷ 0 ∷ 0 ∷ 0 ∷ 0 ∷ 0 ∷ 0 ∷ 0 ∷ 0 ∷ 0 ∷ [])
@@ -138,7 +203,12 @@ rows =
     ∷ []) 0 2)
     -- Two records of a Queue are due in tick 2: one is handed out in tick 2, the other in tick 3.
     ∷ row
-    ((2 ∷ 3 ∷ 10 ∷ 1 ∷ []) ∷ (1 ∷ 1 ∷ 1 ∷ []) ∷ (1 ∷ 7 ∷ 8 ∷ []) ∷ (28 ∷ 16 ∷ []) ∷ (0 ∷ 0 ∷ []) ∷ (-1 ∷ 1 ∷ -1 ∷ -1 ∷ -1 ∷ -1 ∷ -1 ∷ -1 ∷ -1 ∷ -1 ∷ []) ∷ (0 ∷ 0 ∷ 0 ∷ 0 ∷ 0 ∷ 0 ∷ 0 ∷ 0 ∷ 0 ∷ 1 ∷ []) ∷ (0 ∷ []) ∷ (0 ∷ []) ∷ [])
+    ((2 ∷ 3 ∷ 10 ∷ 1 ∷ [])
+    ∷ (1 ∷ 1 ∷ 1 ∷ []) ∷ (1 ∷ 7 ∷ 8 ∷ [])
+    ∷ (WorldEvent ∷ QueueInTicks ∷ []) ∷ (0 ∷ 0 ∷ [])
+    ∷ (-1 ∷ 1 ∷ -1 ∷ -1 ∷ -1 ∷ -1 ∷ -1 ∷ -1 ∷ -1 ∷ -1 ∷ []) ∷ (0 ∷ 0 ∷ 0 ∷ 0 ∷ 0 ∷ 0 ∷ 0 ∷ 0 ∷ 0 ∷ 1 ∷ [])
+    ∷ (0 ∷ []) ∷ (0 ∷ [])
+    ∷ [])
     ((3 ∷ 2 ∷ []) ∷ (0 ∷ 0 ∷ 0 ∷ []) ∷ (2 ∷ 0 ∷ 0 ∷ []) ∷ (0 ∷ 0 ∷ []) ∷ (2 ∷ 3 ∷ []) ∷ [])
     (plays
     ((1 ∷ 2 ∷ 2 ∷ 0 ∷ 0 ∷ 0 ∷ 0 ∷ 0 ∷ 0 ∷ 2 ∷ 2 ∷ 0 ∷ 1 ∷ 0 ∷ 0 ∷ 0 ∷ 0 ∷ 0 ∷ 0 ∷ 0 ∷ 0 ∷ 0 ∷ 0 ∷ 8 ∷ 0 ∷ 0 ∷ 0 ∷ 0 ∷ 0 ∷ 0 ∷ 0 ∷ 0 ∷ 0 ∷ [])
@@ -147,15 +217,25 @@ rows =
     ∷ []) 0 3)
     -- Marking takes the last one found first: an output's own watched reader (3), then the one behind its last pure reader (5), then the one behind the first (4).
     ∷ row
-    ((6 ∷ 1 ∷ 5 ∷ 0 ∷ []) ∷ (1 ∷ []) ∷ (1 ∷ []) ∷ (28 ∷ 2 ∷ 2 ∷ 9 ∷ 9 ∷ 9 ∷ []) ∷ (0 ∷ 0 ∷ 0 ∷ 1 ∷ 1 ∷ 1 ∷ []) ∷ (1 ∷ 1 ∷ 1 ∷ 2 ∷ 3 ∷ []) ∷ (0 ∷ 0 ∷ 0 ∷ 0 ∷ 0 ∷ []) ∷ [] ∷ [] ∷ [])
+    ((6 ∷ 1 ∷ 5 ∷ 0 ∷ [])
+    ∷ (1 ∷ []) ∷ (1 ∷ [])
+    ∷ (WorldEvent ∷ Reroute ∷ Reroute ∷ EdgeExec ∷ EdgeExec ∷ EdgeExec ∷ []) ∷ (0 ∷ 0 ∷ 0 ∷ 1 ∷ 1 ∷ 1 ∷ [])
+    ∷ (1 ∷ 1 ∷ 1 ∷ 2 ∷ 3 ∷ []) ∷ (0 ∷ 0 ∷ 0 ∷ 0 ∷ 0 ∷ [])
+    ∷ [] ∷ []
+    ∷ [])
     ((1 ∷ 1 ∷ []) ∷ (0 ∷ []) ∷ (1 ∷ []) ∷ (0 ∷ []) ∷ (1 ∷ []) ∷ [])
     (plays
     ((1 ∷ 0 ∷ 4 ∷ 0 ∷ 0 ∷ 0 ∷ 0 ∷ 0 ∷ 3 ∷ 5 ∷ 4 ∷ 2 ∷ 32 ∷ 32 ∷ 32 ∷ 0 ∷ 1 ∷ 1 ∷ 1 ∷ 0 ∷ 0 ∷ 0 ∷ 0 ∷ 0 ∷ 0 ∷ 0 ∷ 1 ∷ 1 ∷ 1 ∷ 0 ∷ 0 ∷ 0 ∷ 0 ∷ 0 ∷ 0 ∷ [])
     ∷ []) 0 1)
     -- Within one rank the late list has first what was carried (gate 6), then stimuli (3), then buffers and Queues by gate (1, 2), then Stopwatches (0).
     ∷ row
-    ((7 ∷ 2 ∷ 22 ∷ 4 ∷ []) ∷ (2 ∷ 1 ∷ []) ∷ (4598175219545276416 ∷ 1 ∷ []) ∷ (15 ∷ 16 ∷ 11 ∷ 28 ∷ 14 ∷ 22 ∷ 9 ∷ []) ∷ (0 ∷ 0 ∷ 0 ∷ 0 ∷ 0 ∷ 0 ∷ 0 ∷ []) ∷ (-1 ∷ -1 ∷ -1 ∷ -1 ∷ -1 ∷ -1 ∷ -1 ∷ -1 ∷ -1 ∷ -1 ∷ -1 ∷ -1 ∷ -1 ∷ -1 ∷ -1 ∷ -1 ∷ -1 ∷ -1 ∷ -1 ∷ -1 ∷ -1 ∷ 16 ∷ []) ∷ (0 ∷ 0 ∷ 0 ∷ 1 ∷ 0 ∷ 0 ∷ 0 ∷ 0 ∷ 0 ∷ 0 ∷ 0 ∷ 0 ∷ 0 ∷ 2 ∷ 0 ∷ 2 ∷ 0 ∷ 0 ∷ 0 ∷ 1 ∷ 0 ∷ 0 ∷ []) ∷ (12 ∷ 12 ∷ 12 ∷ 14 ∷ []) ∷ (0 ∷ 8 ∷ 28 ∷ 40 ∷ []) ∷ [])
-    ((2 ∷ 2 ∷ []) ∷ (4598175219545276416 ∷ 4598175219545276416 ∷ []) ∷ (1 ∷ 1 ∷ []) ∷ (3 ∷ 3 ∷ []) ∷ (0 ∷ 0 ∷ []) ∷ [])
+    ((7 ∷ 2 ∷ 22 ∷ 4 ∷ [])
+    ∷ (2 ∷ 1 ∷ []) ∷ (quarter ∷ 1 ∷ [])
+    ∷ (Stopwatch ∷ QueueInTicks ∷ BufferTicksExec ∷ WorldEvent ∷ Clock ∷ Toggle ∷ EdgeExec ∷ []) ∷ (0 ∷ 0 ∷ 0 ∷ 0 ∷ 0 ∷ 0 ∷ 0 ∷ [])
+    ∷ (-1 ∷ -1 ∷ -1 ∷ -1 ∷ -1 ∷ -1 ∷ -1 ∷ -1 ∷ -1 ∷ -1 ∷ -1 ∷ -1 ∷ -1 ∷ -1 ∷ -1 ∷ -1 ∷ -1 ∷ -1 ∷ -1 ∷ -1 ∷ -1 ∷ 16 ∷ []) ∷ (0 ∷ 0 ∷ 0 ∷ 1 ∷ 0 ∷ 0 ∷ 0 ∷ 0 ∷ 0 ∷ 0 ∷ 0 ∷ 0 ∷ 0 ∷ 2 ∷ 0 ∷ 2 ∷ 0 ∷ 0 ∷ 0 ∷ 1 ∷ 0 ∷ 0 ∷ [])
+    ∷ (12 ∷ 12 ∷ 12 ∷ 14 ∷ []) ∷ (0 ∷ 8 ∷ 28 ∷ 40 ∷ [])
+    ∷ [])
+    ((2 ∷ 2 ∷ []) ∷ (quarter ∷ quarter ∷ []) ∷ (1 ∷ 1 ∷ []) ∷ (3 ∷ 3 ∷ []) ∷ (0 ∷ 0 ∷ []) ∷ [])
     (plays
     ((1 ∷ 4 ∷ 1 ∷ 1 ∷ 1 ∷ 0 ∷ 0 ∷ 3 ∷ 4 ∷ 2 ∷ 0 ∷ 6 ∷ 32 ∷ 2 ∷ 0 ∷ 0 ∷ 0 ∷ 0 ∷ 0 ∷ 0 ∷ 0 ∷ 0 ∷ 0 ∷ 0 ∷ 0 ∷ 0 ∷ 0 ∷ 0 ∷ 0 ∷ 3 ∷ 0 ∷ 0 ∷ 0 ∷ 0 ∷ 0 ∷ 0 ∷ 0 ∷ 0 ∷ 0 ∷ 0 ∷ 0 ∷ 0 ∷ 0 ∷ 0 ∷ 0 ∷ 0 ∷ 0 ∷ 0 ∷ 1 ∷ 0 ∷ 0 ∷ [])
     ∷ (2 ∷ 4 ∷ 5 ∷ 1 ∷ 1 ∷ 0 ∷ 0 ∷ 6 ∷ 3 ∷ 1 ∷ 2 ∷ 0 ∷ 4 ∷ 32 ∷ 2 ∷ 0 ∷ 0 ∷ 0 ∷ 0 ∷ 6 ∷ 33 ∷ 2 ∷ 0 ∷ 0 ∷ 0 ∷ 0 ∷ 0 ∷ 0 ∷ 0 ∷ 0 ∷ 0 ∷ 0 ∷ 0 ∷ 0 ∷ 0 ∷ 0 ∷ 0 ∷ 3 ∷ 0 ∷ 0 ∷ 0 ∷ 0 ∷ 0 ∷ 0 ∷ 0 ∷ 0 ∷ 0 ∷ 0 ∷ 0 ∷ 0 ∷ 0 ∷ 0 ∷ 0 ∷ 0 ∷ 0 ∷ 0 ∷ 0 ∷ 0 ∷ 0 ∷ [])
@@ -164,7 +244,7 @@ rows =
     -- tick 2 they begin by rank.
     ∷ row
     carries
-    ((2 ∷ 0 ∷ []) ∷ (4598175219545276416 ∷ 0 ∷ []) ∷ (0 ∷ 0 ∷ []) ∷ [] ∷ [] ∷ [])
+    ((2 ∷ 0 ∷ []) ∷ (quarter ∷ 0 ∷ []) ∷ (0 ∷ 0 ∷ []) ∷ [] ∷ [] ∷ [])
     (plays
     ((1 ∷ 2 ∷ 0 ∷ 4 ∷ 3 ∷ 0 ∷ 0 ∷ 3 ∷ 0 ∷ 5 ∷ 6 ∷ 0 ∷ 0 ∷ 32 ∷ 32 ∷ 2 ∷ 3 ∷ 4 ∷ 32 ∷ 0 ∷ 16 ∷ 0 ∷ 0 ∷ 3 ∷ 0 ∷ 0 ∷ 0 ∷ 0 ∷ 3 ∷ 0 ∷ 0 ∷ 0 ∷ 0 ∷ 0 ∷ 0 ∷ 1 ∷ 0 ∷ 0 ∷ 0 ∷ 0 ∷ 1 ∷ 0 ∷ 0 ∷ 0 ∷ 0 ∷ [])
     ∷ (2 ∷ 1 ∷ 3 ∷ 0 ∷ 0 ∷ 0 ∷ 0 ∷ 4 ∷ 3 ∷ 2 ∷ 16 ∷ 0 ∷ 32 ∷ 0 ∷ 0 ∷ 3 ∷ 0 ∷ 0 ∷ 0 ∷ 0 ∷ 3 ∷ 0 ∷ 0 ∷ 0 ∷ 0 ∷ 0 ∷ 0 ∷ 1 ∷ 0 ∷ 0 ∷ 0 ∷ 0 ∷ 0 ∷ 0 ∷ 0 ∷ 0 ∷ 0 ∷ [])
@@ -172,7 +252,12 @@ rows =
     -- K2: a card lies in the slot at the start. In tick 1 its first reading is a change, for a ChangeDetector (gate 1) and for a pin (2); nothing is one too (3). Of one
     -- rank the lower gate begins first.
     ∷ row
-    ((4 ∷ 1 ∷ 4 ∷ 0 ∷ []) ∷ (1 ∷ []) ∷ (1 ∷ []) ∷ (5 ∷ 6 ∷ 22 ∷ 6 ∷ []) ∷ (0 ∷ 3 ∷ 1 ∷ 3 ∷ []) ∷ (-1 ∷ 0 ∷ 0 ∷ -1 ∷ []) ∷ (1 ∷ 0 ∷ 0 ∷ 0 ∷ []) ∷ [] ∷ [] ∷ [])
+    ((4 ∷ 1 ∷ 4 ∷ 0 ∷ [])
+    ∷ (1 ∷ []) ∷ (1 ∷ [])
+    ∷ (Var ∷ ChangeDetector ∷ Toggle ∷ ChangeDetector ∷ []) ∷ (0 ∷ 3 ∷ 1 ∷ 3 ∷ [])
+    ∷ (-1 ∷ 0 ∷ 0 ∷ -1 ∷ []) ∷ (1 ∷ 0 ∷ 0 ∷ 0 ∷ [])
+    ∷ [] ∷ []
+    ∷ [])
     ((2 ∷ 0 ∷ []) ∷ (0 ∷ 0 ∷ []) ∷ (0 ∷ 0 ∷ []) ∷ [] ∷ [] ∷ [])
     (plays
     ((1 ∷ 1 ∷ 0 ∷ 3 ∷ 0 ∷ 0 ∷ 0 ∷ 2 ∷ 1 ∷ 3 ∷ 16 ∷ 0 ∷ 0 ∷ 1 ∷ 0 ∷ 0 ∷ 3 ∷ 0 ∷ 1 ∷ 0 ∷ 0 ∷ 1 ∷ 0 ∷ [])
@@ -180,14 +265,19 @@ rows =
     ∷ []) 0 2)
     -- K2: what reads nothing as tick 1 opens, and a card put in then: the ChangeDetector's activation that was raised second begins first, in the late pass.
     ∷ row
-    ((2 ∷ 1 ∷ 1 ∷ 0 ∷ []) ∷ (1 ∷ []) ∷ (7 ∷ []) ∷ (28 ∷ 6 ∷ []) ∷ (2 ∷ 5 ∷ []) ∷ (1 ∷ []) ∷ (0 ∷ []) ∷ [] ∷ [] ∷ [])
+    ((2 ∷ 1 ∷ 1 ∷ 0 ∷ []) ∷ (1 ∷ []) ∷ (7 ∷ []) ∷ (WorldEvent ∷ ChangeDetector ∷ []) ∷ (2 ∷ 5 ∷ []) ∷ (1 ∷ []) ∷ (0 ∷ []) ∷ [] ∷ [] ∷ [])
     ((1 ∷ 1 ∷ []) ∷ (0 ∷ []) ∷ (1 ∷ []) ∷ (0 ∷ []) ∷ (1 ∷ []) ∷ [])
     (plays
     ((1 ∷ 0 ∷ 2 ∷ 1 ∷ 0 ∷ 0 ∷ 0 ∷ 0 ∷ 1 ∷ 1 ∷ 2 ∷ 0 ∷ 0 ∷ 0 ∷ 1 ∷ 0 ∷ 0 ∷ 7 ∷ 0 ∷ [])
     ∷ []) 0 1)
     -- K2: a buffer with a wait of 2 launches nothing as tick 1 opens, so a card put in then waits until that has landed, in tick 3, and in full: it shows in tick 5.
     ∷ row
-    ((2 ∷ 2 ∷ 3 ∷ 0 ∷ []) ∷ (1 ∷ 1 ∷ []) ∷ (7 ∷ 2 ∷ []) ∷ (28 ∷ 10 ∷ []) ∷ (0 ∷ 0 ∷ []) ∷ (1 ∷ -1 ∷ -1 ∷ []) ∷ (0 ∷ 2 ∷ 0 ∷ []) ∷ [] ∷ [] ∷ [])
+    ((2 ∷ 2 ∷ 3 ∷ 0 ∷ [])
+    ∷ (1 ∷ 1 ∷ []) ∷ (7 ∷ 2 ∷ [])
+    ∷ (WorldEvent ∷ BufferTicks ∷ []) ∷ (0 ∷ 0 ∷ [])
+    ∷ (1 ∷ -1 ∷ -1 ∷ []) ∷ (0 ∷ 2 ∷ 0 ∷ [])
+    ∷ [] ∷ []
+    ∷ [])
     ((5 ∷ 1 ∷ []) ∷ (0 ∷ 0 ∷ 0 ∷ 0 ∷ 0 ∷ []) ∷ (1 ∷ 0 ∷ 0 ∷ 0 ∷ 0 ∷ []) ∷ (0 ∷ []) ∷ (1 ∷ []) ∷ [])
     (plays
     ((1 ∷ 0 ∷ 1 ∷ 0 ∷ 0 ∷ 0 ∷ 0 ∷ 0 ∷ 2 ∷ 0 ∷ 1 ∷ 0 ∷ 0 ∷ 7 ∷ 0 ∷ [])
@@ -198,8 +288,8 @@ rows =
     ∷ []) 0 5)
     -- K9: the length of a tick is counted where it is 0.1, and not where it is 0.25, also where no gate waits.
     ∷ row
-    ((1 ∷ 0 ∷ 0 ∷ 0 ∷ []) ∷ [] ∷ [] ∷ (28 ∷ []) ∷ (0 ∷ []) ∷ [] ∷ [] ∷ [] ∷ [] ∷ [])
-    ((2 ∷ 0 ∷ []) ∷ (4591870180066957722 ∷ 4598175219545276416 ∷ []) ∷ (0 ∷ 0 ∷ []) ∷ [] ∷ [] ∷ [])
+    ((1 ∷ 0 ∷ 0 ∷ 0 ∷ []) ∷ [] ∷ [] ∷ (WorldEvent ∷ []) ∷ (0 ∷ []) ∷ [] ∷ [] ∷ [] ∷ [] ∷ [])
+    ((2 ∷ 0 ∷ []) ∷ (tenth ∷ quarter ∷ []) ∷ (0 ∷ 0 ∷ []) ∷ [] ∷ [] ∷ [])
     (plays
     ((1 ∷ 0 ∷ 0 ∷ 0 ∷ 0 ∷ 0 ∷ 1 ∷ 0 ∷ 0 ∷ 0 ∷ 0 ∷ [])
     ∷ (2 ∷ 0 ∷ 0 ∷ 0 ∷ 0 ∷ 0 ∷ 0 ∷ 0 ∷ 0 ∷ 0 ∷ 0 ∷ [])
@@ -207,8 +297,13 @@ rows =
     -- Ticks of 0.1, 0.25 and 0.1; a stimulus calls a buffer and a Queue with a wait of 0.1 each and a buffer with 0.5. One in tick 1: its length and two waits; two in
     -- tick 2: four waits; none in tick 3: its length, once for all gates that wait.
     ∷ row
-    ((4 ∷ 2 ∷ 16 ∷ 3 ∷ []) ∷ (2 ∷ 2 ∷ []) ∷ (4591870180066957722 ∷ 4602678819172646912 ∷ []) ∷ (28 ∷ 13 ∷ 17 ∷ 13 ∷ []) ∷ (0 ∷ 0 ∷ 0 ∷ 0 ∷ []) ∷ (-1 ∷ -1 ∷ -1 ∷ -1 ∷ -1 ∷ -1 ∷ -1 ∷ -1 ∷ -1 ∷ -1 ∷ -1 ∷ -1 ∷ -1 ∷ -1 ∷ -1 ∷ -1 ∷ []) ∷ (0 ∷ 1 ∷ 0 ∷ 0 ∷ 0 ∷ 0 ∷ 0 ∷ 0 ∷ 0 ∷ 0 ∷ 0 ∷ 0 ∷ 1 ∷ 0 ∷ 2 ∷ 0 ∷ []) ∷ (0 ∷ 0 ∷ 0 ∷ []) ∷ (0 ∷ 6 ∷ 26 ∷ []) ∷ [])
-    ((3 ∷ 3 ∷ []) ∷ (4591870180066957722 ∷ 4598175219545276416 ∷ 4591870180066957722 ∷ []) ∷ (1 ∷ 2 ∷ 0 ∷ []) ∷ (0 ∷ 0 ∷ 0 ∷ []) ∷ (0 ∷ 0 ∷ 0 ∷ []) ∷ [])
+    ((4 ∷ 2 ∷ 16 ∷ 3 ∷ [])
+    ∷ (2 ∷ 2 ∷ []) ∷ (tenth ∷ half ∷ [])
+    ∷ (WorldEvent ∷ BufferSecondsExec ∷ QueueInSeconds ∷ BufferSecondsExec ∷ []) ∷ (0 ∷ 0 ∷ 0 ∷ 0 ∷ [])
+    ∷ replicate 16 -1 ∷ (0 ∷ 1 ∷ 0 ∷ 0 ∷ 0 ∷ 0 ∷ 0 ∷ 0 ∷ 0 ∷ 0 ∷ 0 ∷ 0 ∷ 1 ∷ 0 ∷ 2 ∷ 0 ∷ [])
+    ∷ (0 ∷ 0 ∷ 0 ∷ []) ∷ (0 ∷ 6 ∷ 26 ∷ [])
+    ∷ [])
+    ((3 ∷ 3 ∷ []) ∷ (tenth ∷ quarter ∷ tenth ∷ []) ∷ (1 ∷ 2 ∷ 0 ∷ []) ∷ (0 ∷ 0 ∷ 0 ∷ []) ∷ (0 ∷ 0 ∷ 0 ∷ []) ∷ [])
     (plays
     ((1 ∷ 3 ∷ 1 ∷ 0 ∷ 0 ∷ 0 ∷ 3 ∷ 0 ∷ 2 ∷ 0 ∷ 0 ∷ 0 ∷ 0 ∷ 0 ∷ 0 ∷ 0 ∷ 0 ∷ 0 ∷ 0 ∷ 0 ∷ 0 ∷ 0 ∷ 0 ∷ 0 ∷ 0 ∷ 0 ∷ 0 ∷ 0 ∷ 0 ∷ 0 ∷ 0 ∷ 0 ∷ 0 ∷ 0 ∷ 0 ∷ [])
     ∷ (2 ∷ 6 ∷ 4 ∷ 0 ∷ 0 ∷ 0 ∷ 4 ∷ 0 ∷ 0 ∷ 1 ∷ 2 ∷ 2 ∷ 2 ∷ 0 ∷ 0 ∷ 0 ∷ 0 ∷ 0 ∷ 0 ∷ 0 ∷ 0 ∷ 0 ∷ 0 ∷ 0 ∷ 0 ∷ 0 ∷ 0 ∷ 0 ∷ 0 ∷ 0 ∷ 0 ∷ 0 ∷ 0 ∷ 0 ∷ 0 ∷ 0 ∷ 0 ∷ 0 ∷ 0 ∷ 0 ∷ 0 ∷ [])
@@ -217,8 +312,13 @@ rows =
     -- A value buffer with a wait of 0.1 and a zero wait of 0.5, ticks of 0.25. In tick 1 nothing starts with the zero wait, and 7, which is only remembered, has its wait
     -- counted; when nothing lands, in tick 3, 7 starts, and its wait is counted again.
     ∷ row
-    ((2 ∷ 3 ∷ 3 ∷ 0 ∷ []) ∷ (2 ∷ 2 ∷ 1 ∷ []) ∷ (4591870180066957722 ∷ 4602678819172646912 ∷ 7 ∷ []) ∷ (28 ∷ 12 ∷ []) ∷ (0 ∷ 0 ∷ []) ∷ (1 ∷ -1 ∷ -1 ∷ []) ∷ (0 ∷ 1 ∷ 2 ∷ []) ∷ [] ∷ [] ∷ [])
-    ((4 ∷ 1 ∷ []) ∷ (4598175219545276416 ∷ 4598175219545276416 ∷ 4598175219545276416 ∷ 4598175219545276416 ∷ []) ∷ (1 ∷ 0 ∷ 0 ∷ 0 ∷ []) ∷ (0 ∷ []) ∷ (3 ∷ []) ∷ [])
+    ((2 ∷ 3 ∷ 3 ∷ 0 ∷ [])
+    ∷ (2 ∷ 2 ∷ 1 ∷ []) ∷ (tenth ∷ half ∷ 7 ∷ [])
+    ∷ (WorldEvent ∷ BufferSeconds ∷ []) ∷ (0 ∷ 0 ∷ [])
+    ∷ (1 ∷ -1 ∷ -1 ∷ []) ∷ (0 ∷ 1 ∷ 2 ∷ [])
+    ∷ [] ∷ []
+    ∷ [])
+    ((4 ∷ 1 ∷ []) ∷ (quarter ∷ quarter ∷ quarter ∷ quarter ∷ []) ∷ (1 ∷ 0 ∷ 0 ∷ 0 ∷ []) ∷ (0 ∷ []) ∷ (3 ∷ []) ∷ [])
     (plays
     ((1 ∷ 0 ∷ 1 ∷ 0 ∷ 0 ∷ 0 ∷ 1 ∷ 0 ∷ 2 ∷ 0 ∷ 1 ∷ 0 ∷ 0 ∷ 7 ∷ 0 ∷ [])
     ∷ (2 ∷ 0 ∷ 0 ∷ 0 ∷ 0 ∷ 0 ∷ 0 ∷ 0 ∷ 1 ∷ 0 ∷ 0 ∷ 7 ∷ 0 ∷ [])
@@ -227,20 +327,35 @@ rows =
     ∷ []) 0 4)
     -- A buffer with a wait of 0.1 is called 33 times in a tick of 0.25: the wait of the 33rd fire, which stops the tick, is counted too.
     ∷ row
-    ((2 ∷ 1 ∷ 3 ∷ 33 ∷ []) ∷ (2 ∷ []) ∷ (4591870180066957722 ∷ []) ∷ (28 ∷ 13 ∷ []) ∷ (0 ∷ 0 ∷ []) ∷ (-1 ∷ -1 ∷ -1 ∷ []) ∷ (0 ∷ 1 ∷ 0 ∷ []) ∷ replicate 33 0 ∷ replicate 33 0 ∷ [])
-    ((1 ∷ 1 ∷ []) ∷ (4598175219545276416 ∷ []) ∷ (1 ∷ []) ∷ (0 ∷ []) ∷ (0 ∷ []) ∷ [])
+    ((2 ∷ 1 ∷ 3 ∷ 33 ∷ [])
+    ∷ (2 ∷ []) ∷ (tenth ∷ [])
+    ∷ (WorldEvent ∷ BufferSecondsExec ∷ []) ∷ (0 ∷ 0 ∷ [])
+    ∷ (-1 ∷ -1 ∷ -1 ∷ []) ∷ (0 ∷ 1 ∷ 0 ∷ [])
+    ∷ replicate 33 0 ∷ replicate 33 0
+    ∷ [])
+    ((1 ∷ 1 ∷ []) ∷ (quarter ∷ []) ∷ (1 ∷ []) ∷ (0 ∷ []) ∷ (0 ∷ []) ∷ [])
     (plays ((1 ∷ 33 ∷ 1 ∷ 0 ∷ 0 ∷ 12 ∷ 33 ∷ 0 ∷ 2 ∷ []) ∷ []) 12 0)
     -- K5: a Loop (gate 2) runs its body, a VarSet (4), with 5, 2 and -1, and then calls the Toggle behind Completed: five steps. Its Count is the Var (1) that the body
     -- writes; it is read once, before the first run.
     ∷ row
-    ((6 ∷ 5 ∷ 10 ∷ 3 ∷ []) ∷ (1 ∷ 1 ∷ 1 ∷ 1 ∷ 1 ∷ []) ∷ (3 ∷ 5 ∷ -3 ∷ 2 ∷ 1 ∷ []) ∷ (28 ∷ 5 ∷ 29 ∷ 30 ∷ 19 ∷ 22 ∷ []) ∷ (0 ∷ 0 ∷ 0 ∷ body-of 2 ∷ body-of 2 ∷ 0 ∷ []) ∷ (-1 ∷ -1 ∷ 2 ∷ -1 ∷ -1 ∷ -1 ∷ -1 ∷ -1 ∷ 8 ∷ -1 ∷ []) ∷ (1 ∷ 0 ∷ 0 ∷ 2 ∷ 3 ∷ 4 ∷ 0 ∷ 5 ∷ 0 ∷ 0 ∷ []) ∷ (0 ∷ 7 ∷ 3 ∷ []) ∷ (2 ∷ 12 ∷ 18 ∷ []) ∷ [])
+    ((6 ∷ 5 ∷ 10 ∷ 3 ∷ [])
+    ∷ (1 ∷ 1 ∷ 1 ∷ 1 ∷ 1 ∷ []) ∷ (3 ∷ 5 ∷ -3 ∷ 2 ∷ 1 ∷ [])
+    ∷ (WorldEvent ∷ Var ∷ Loop ∷ LoopEntry ∷ VarSet ∷ Toggle ∷ []) ∷ (0 ∷ 0 ∷ 0 ∷ body-of 2 ∷ body-of 2 ∷ 0 ∷ [])
+    ∷ (-1 ∷ -1 ∷ 2 ∷ -1 ∷ -1 ∷ -1 ∷ -1 ∷ -1 ∷ 8 ∷ -1 ∷ []) ∷ (1 ∷ 0 ∷ 0 ∷ 2 ∷ 3 ∷ 4 ∷ 0 ∷ 5 ∷ 0 ∷ 0 ∷ [])
+    ∷ (0 ∷ 7 ∷ 3 ∷ []) ∷ (2 ∷ 12 ∷ 18 ∷ [])
+    ∷ [])
     ((1 ∷ 1 ∷ []) ∷ (0 ∷ []) ∷ (1 ∷ []) ∷ (0 ∷ []) ∷ (0 ∷ []) ∷ [])
     (plays
     ((1 ∷ 5 ∷ 1 ∷ 0 ∷ 0 ∷ 0 ∷ 0 ∷ 0 ∷ 2 ∷ 0 ∷ 0 ∷ 1 ∷ 0 ∷ 1 ∷ 3 ∷ 3 ∷ 0 ∷ 1 ∷ 0 ∷ 0 ∷ 3 ∷ 0 ∷ 0 ∷ -1 ∷ 0 ∷ 3 ∷ 0 ∷ 0 ∷ 0 ∷ -1 ∷ 0 ∷ 0 ∷ 1 ∷ [])
     ∷ []) 0 1)
     -- A Loop (3) in a Loop's body reads its Count, the outer Index, each time that it is entered: a Cycle in the inner body counts 0 + 1 + 2 + 3 runs.
     ∷ row
-    ((6 ∷ 4 ∷ 13 ∷ 3 ∷ []) ∷ (1 ∷ 1 ∷ 1 ∷ 1 ∷ []) ∷ (4 ∷ 1 ∷ 3 ∷ 100 ∷ []) ∷ (28 ∷ 29 ∷ 30 ∷ 29 ∷ 30 ∷ 23 ∷ []) ∷ (0 ∷ 0 ∷ body-of 1 ∷ body-of 1 ∷ body-of 3 ∷ body-of 3 ∷ []) ∷ (-1 ∷ -1 ∷ -1 ∷ -1 ∷ -1 ∷ -1 ∷ 7 ∷ -1 ∷ -1 ∷ -1 ∷ -1 ∷ -1 ∷ -1 ∷ []) ∷ (0 ∷ 1 ∷ 0 ∷ 0 ∷ 2 ∷ 0 ∷ 0 ∷ 0 ∷ 0 ∷ 3 ∷ 0 ∷ 0 ∷ 4 ∷ []) ∷ (0 ∷ 6 ∷ 12 ∷ []) ∷ (0 ∷ 10 ∷ 20 ∷ []) ∷ [])
+    ((6 ∷ 4 ∷ 13 ∷ 3 ∷ [])
+    ∷ (1 ∷ 1 ∷ 1 ∷ 1 ∷ []) ∷ (4 ∷ 1 ∷ 3 ∷ 100 ∷ [])
+    ∷ (WorldEvent ∷ Loop ∷ LoopEntry ∷ Loop ∷ LoopEntry ∷ Cycle ∷ []) ∷ (0 ∷ 0 ∷ body-of 1 ∷ body-of 1 ∷ body-of 3 ∷ body-of 3 ∷ [])
+    ∷ (-1 ∷ -1 ∷ -1 ∷ -1 ∷ -1 ∷ -1 ∷ 7 ∷ -1 ∷ -1 ∷ -1 ∷ -1 ∷ -1 ∷ -1 ∷ []) ∷ (0 ∷ 1 ∷ 0 ∷ 0 ∷ 2 ∷ 0 ∷ 0 ∷ 0 ∷ 0 ∷ 3 ∷ 0 ∷ 0 ∷ 4 ∷ [])
+    ∷ (0 ∷ 6 ∷ 12 ∷ []) ∷ (0 ∷ 10 ∷ 20 ∷ [])
+    ∷ [])
     ((1 ∷ 1 ∷ []) ∷ (0 ∷ []) ∷ (1 ∷ []) ∷ (0 ∷ []) ∷ (0 ∷ []) ∷ [])
     (plays
     ((1 ∷ 11 ∷ 1 ∷ 0 ∷ 0 ∷ 0 ∷ 0 ∷ 0 ∷ 2 ∷ 0 ∷ 0 ∷ 0 ∷ 1 ∷ 3 ∷ 3 ∷ 0 ∷ 1 ∷ 0 ∷ 1 ∷ 3 ∷ 3 ∷ 0 ∷ 1 ∷ 0 ∷ 0 ∷ 1 ∷ 0 ∷ 0 ∷ 0 ∷ 4 ∷ 0 ∷ 0 ∷ 0 ∷ 3 ∷ 0 ∷ 3 ∷ 0 ∷ 0 ∷ 0 ∷ 2 ∷ 0 ∷ 0 ∷ 6 ∷ [])
@@ -248,14 +363,24 @@ rows =
     -- A Break (6) in the second run of an inner body ends the inner Loop (3) alone. That run goes on, with a Cycle (7) behind the Break, and counts; the inner Completed calls
     -- a Cycle (8); and the outer Loop (1) goes on, so that all of this comes twice.
     ∷ row
-    ((9 ∷ 4 ∷ 19 ∷ 6 ∷ []) ∷ (1 ∷ 1 ∷ 1 ∷ 1 ∷ []) ∷ (2 ∷ 1 ∷ 3 ∷ 100 ∷ []) ∷ (28 ∷ 29 ∷ 30 ∷ 29 ∷ 30 ∷ 20 ∷ 31 ∷ 23 ∷ 23 ∷ []) ∷ (0 ∷ 0 ∷ body-of 1 ∷ body-of 1 ∷ body-of 3 ∷ body-of 3 ∷ body-of 3 ∷ body-of 3 ∷ body-of 1 ∷ []) ∷ (-1 ∷ -1 ∷ -1 ∷ -1 ∷ -1 ∷ -1 ∷ -1 ∷ -1 ∷ -1 ∷ -1 ∷ -1 ∷ 13 ∷ -1 ∷ -1 ∷ -1 ∷ -1 ∷ -1 ∷ -1 ∷ -1 ∷ []) ∷ (0 ∷ 1 ∷ 0 ∷ 0 ∷ 2 ∷ 0 ∷ 3 ∷ 0 ∷ 0 ∷ 3 ∷ 0 ∷ 0 ∷ 0 ∷ 0 ∷ 0 ∷ 4 ∷ 0 ∷ 0 ∷ 4 ∷ []) ∷ (0 ∷ 6 ∷ 12 ∷ 14 ∷ 16 ∷ 8 ∷ []) ∷ (0 ∷ 10 ∷ 20 ∷ 24 ∷ 26 ∷ 32 ∷ []) ∷ [])
+    ((9 ∷ 4 ∷ 19 ∷ 6 ∷ [])
+    ∷ (1 ∷ 1 ∷ 1 ∷ 1 ∷ []) ∷ (2 ∷ 1 ∷ 3 ∷ 100 ∷ [])
+    ∷ (WorldEvent ∷ Loop ∷ LoopEntry ∷ Loop ∷ LoopEntry ∷ Branch ∷ Break ∷ Cycle ∷ Cycle ∷ []) ∷ (0 ∷ 0 ∷ body-of 1 ∷ body-of 1 ∷ body-of 3 ∷ body-of 3 ∷ body-of 3 ∷ body-of 3 ∷ body-of 1 ∷ [])
+    ∷ (-1 ∷ -1 ∷ -1 ∷ -1 ∷ -1 ∷ -1 ∷ -1 ∷ -1 ∷ -1 ∷ -1 ∷ -1 ∷ 13 ∷ -1 ∷ -1 ∷ -1 ∷ -1 ∷ -1 ∷ -1 ∷ -1 ∷ []) ∷ (0 ∷ 1 ∷ 0 ∷ 0 ∷ 2 ∷ 0 ∷ 3 ∷ 0 ∷ 0 ∷ 3 ∷ 0 ∷ 0 ∷ 0 ∷ 0 ∷ 0 ∷ 4 ∷ 0 ∷ 0 ∷ 4 ∷ [])
+    ∷ (0 ∷ 6 ∷ 12 ∷ 14 ∷ 16 ∷ 8 ∷ []) ∷ (0 ∷ 10 ∷ 20 ∷ 24 ∷ 26 ∷ 32 ∷ [])
+    ∷ [])
     ((1 ∷ 1 ∷ []) ∷ (0 ∷ []) ∷ (1 ∷ []) ∷ (0 ∷ []) ∷ (0 ∷ []) ∷ [])
     (plays
     ((1 ∷ 13 ∷ 1 ∷ 0 ∷ 0 ∷ 0 ∷ 0 ∷ 0 ∷ 2 ∷ 0 ∷ 0 ∷ 0 ∷ 1 ∷ 3 ∷ 3 ∷ 0 ∷ 1 ∷ 0 ∷ 1 ∷ 3 ∷ 3 ∷ 0 ∷ 1 ∷ 0 ∷ 0 ∷ 0 ∷ 0 ∷ 0 ∷ 1 ∷ 0 ∷ 0 ∷ 1 ∷ 0 ∷ 0 ∷ 0 ∷ 2 ∷ 0 ∷ 0 ∷ 0 ∷ 1 ∷ 0 ∷ 2 ∷ 0 ∷ 0 ∷ 0 ∷ 1 ∷ 0 ∷ 0 ∷ 0 ∷ 0 ∷ 0 ∷ 2 ∷ 0 ∷ 0 ∷ 2 ∷ [])
     ∷ []) 0 1)
     -- A Break (3) before an inner Loop (4) does not end that, and outlasts it: three runs of the inner body, one of the outer.
     ∷ row
-    ((7 ∷ 5 ∷ 14 ∷ 4 ∷ []) ∷ (1 ∷ 1 ∷ 1 ∷ 1 ∷ 1 ∷ []) ∷ (2 ∷ 1 ∷ 3 ∷ 4 ∷ 100 ∷ []) ∷ (28 ∷ 29 ∷ 30 ∷ 31 ∷ 29 ∷ 30 ∷ 23 ∷ []) ∷ (0 ∷ 0 ∷ body-of 1 ∷ body-of 1 ∷ body-of 1 ∷ body-of 4 ∷ body-of 4 ∷ []) ∷ (-1 ∷ -1 ∷ -1 ∷ -1 ∷ -1 ∷ -1 ∷ -1 ∷ -1 ∷ -1 ∷ -1 ∷ -1 ∷ -1 ∷ -1 ∷ -1 ∷ []) ∷ (0 ∷ 1 ∷ 0 ∷ 0 ∷ 2 ∷ 0 ∷ 0 ∷ 3 ∷ 0 ∷ 0 ∷ 4 ∷ 0 ∷ 0 ∷ 5 ∷ []) ∷ (0 ∷ 6 ∷ 8 ∷ 13 ∷ []) ∷ (0 ∷ 10 ∷ 12 ∷ 22 ∷ []) ∷ [])
+    ((7 ∷ 5 ∷ 14 ∷ 4 ∷ [])
+    ∷ (1 ∷ 1 ∷ 1 ∷ 1 ∷ 1 ∷ []) ∷ (2 ∷ 1 ∷ 3 ∷ 4 ∷ 100 ∷ [])
+    ∷ (WorldEvent ∷ Loop ∷ LoopEntry ∷ Break ∷ Loop ∷ LoopEntry ∷ Cycle ∷ []) ∷ (0 ∷ 0 ∷ body-of 1 ∷ body-of 1 ∷ body-of 1 ∷ body-of 4 ∷ body-of 4 ∷ [])
+    ∷ replicate 14 -1 ∷ (0 ∷ 1 ∷ 0 ∷ 0 ∷ 2 ∷ 0 ∷ 0 ∷ 3 ∷ 0 ∷ 0 ∷ 4 ∷ 0 ∷ 0 ∷ 5 ∷ [])
+    ∷ (0 ∷ 6 ∷ 8 ∷ 13 ∷ []) ∷ (0 ∷ 10 ∷ 12 ∷ 22 ∷ [])
+    ∷ [])
     ((1 ∷ 1 ∷ []) ∷ (0 ∷ []) ∷ (1 ∷ []) ∷ (0 ∷ []) ∷ (0 ∷ []) ∷ [])
     (plays
     ((1 ∷ 6 ∷ 1 ∷ 0 ∷ 0 ∷ 0 ∷ 0 ∷ 0 ∷ 2 ∷ 0 ∷ 0 ∷ 0 ∷ 1 ∷ 3 ∷ 3 ∷ 0 ∷ 1 ∷ 0 ∷ 0 ∷ 1 ∷ 3 ∷ 3 ∷ 0 ∷ 1 ∷ 0 ∷ 0 ∷ 1 ∷ 0 ∷ 0 ∷ 0 ∷ 1 ∷ 0 ∷ 0 ∷ 0 ∷ 0 ∷ 0 ∷ 0 ∷ 3 ∷ 0 ∷ 0 ∷ 0 ∷ 2 ∷ 0 ∷ 0 ∷ 3 ∷ [])
@@ -263,7 +388,12 @@ rows =
     -- A Union (4) in a body is called twice in each of two runs, and by a fork of each. It passes once in each run, also where a unit of its own (3) had it pass in this tick;
     -- and once a tick outside, also where it has passed in runs. A Cycle (5) behind it counts 1 + 2, and then 2 + 1 more.
     ∷ row
-    ((6 ∷ 3 ∷ 9 ∷ 6 ∷ []) ∷ (1 ∷ 1 ∷ 1 ∷ []) ∷ (2 ∷ 1 ∷ 100 ∷ []) ∷ (28 ∷ 29 ∷ 30 ∷ 28 ∷ 21 ∷ 23 ∷ []) ∷ (1 ∷ 0 ∷ body-of 1 ∷ body-of 1 ∷ body-of 1 ∷ body-of 1 ∷ []) ∷ (-1 ∷ -1 ∷ -1 ∷ -1 ∷ -1 ∷ -1 ∷ -1 ∷ -1 ∷ -1 ∷ []) ∷ (0 ∷ 1 ∷ 0 ∷ 0 ∷ 2 ∷ 0 ∷ 0 ∷ 0 ∷ 3 ∷ []) ∷ (0 ∷ 6 ∷ 6 ∷ 6 ∷ 8 ∷ 10 ∷ []) ∷ (0 ∷ 10 ∷ 10 ∷ 11 ∷ 10 ∷ 12 ∷ []) ∷ [])
+    ((6 ∷ 3 ∷ 9 ∷ 6 ∷ [])
+    ∷ (1 ∷ 1 ∷ 1 ∷ []) ∷ (2 ∷ 1 ∷ 100 ∷ [])
+    ∷ (WorldEvent ∷ Loop ∷ LoopEntry ∷ WorldEvent ∷ Union ∷ Cycle ∷ []) ∷ (1 ∷ 0 ∷ body-of 1 ∷ body-of 1 ∷ body-of 1 ∷ body-of 1 ∷ [])
+    ∷ replicate 9 -1 ∷ (0 ∷ 1 ∷ 0 ∷ 0 ∷ 2 ∷ 0 ∷ 0 ∷ 0 ∷ 3 ∷ [])
+    ∷ (0 ∷ 6 ∷ 6 ∷ 6 ∷ 8 ∷ 10 ∷ []) ∷ (0 ∷ 10 ∷ 10 ∷ 11 ∷ 10 ∷ 12 ∷ [])
+    ∷ [])
     ((2 ∷ 3 ∷ []) ∷ (0 ∷ 0 ∷ []) ∷ (2 ∷ 1 ∷ []) ∷ (0 ∷ 3 ∷ 0 ∷ []) ∷ (0 ∷ 0 ∷ 0 ∷ []) ∷ [])
     (plays
     ((1 ∷ 11 ∷ 2 ∷ 0 ∷ 0 ∷ 0 ∷ 0 ∷ 3 ∷ 0 ∷ 2 ∷ 2 ∷ 0 ∷ 0 ∷ 0 ∷ 1 ∷ 3 ∷ 3 ∷ 0 ∷ 1 ∷ 0 ∷ 0 ∷ 0 ∷ 0 ∷ 0 ∷ 1 ∷ 0 ∷ 0 ∷ 0 ∷ 2 ∷ 0 ∷ 0 ∷ 0 ∷ 1 ∷ 0 ∷ 0 ∷ 0 ∷ 0 ∷ 0 ∷ 3 ∷ [])
@@ -272,7 +402,12 @@ rows =
     -- Carrying's other case: in a main pass a Loop of rank 4 (2), by its pin, writes a Var (1) in its body. Of what watches the Var, all of rank 6, a ChangeDetector (5) and a
     -- Toggle's pin (7) are carried; an EdgeExec (6) begins in this tick, behind the ChangeDetector, whose first reading was a change too.
     ∷ row
-    ((8 ∷ 5 ∷ 13 ∷ 1 ∷ []) ∷ (3 ∷ 1 ∷ 1 ∷ 1 ∷ 1 ∷ []) ∷ (1 ∷ 0 ∷ 1 ∷ 2 ∷ 7 ∷ []) ∷ (5 ∷ 5 ∷ 29 ∷ 30 ∷ 19 ∷ 6 ∷ 9 ∷ 22 ∷ []) ∷ (0 ∷ 0 ∷ 4 ∷ body-of 2 ∷ body-of 2 ∷ 6 ∷ 6 ∷ 6 ∷ []) ∷ (-1 ∷ -1 ∷ 0 ∷ -1 ∷ -1 ∷ -1 ∷ -1 ∷ -1 ∷ -1 ∷ -1 ∷ 1 ∷ 1 ∷ 1 ∷ []) ∷ (1 ∷ 2 ∷ 0 ∷ 3 ∷ 0 ∷ 0 ∷ 4 ∷ 0 ∷ 3 ∷ 5 ∷ 0 ∷ 0 ∷ 0 ∷ []) ∷ (6 ∷ []) ∷ (14 ∷ []) ∷ [])
+    ((8 ∷ 5 ∷ 13 ∷ 1 ∷ [])
+    ∷ (3 ∷ 1 ∷ 1 ∷ 1 ∷ 1 ∷ []) ∷ (1 ∷ 0 ∷ 1 ∷ 2 ∷ 7 ∷ [])
+    ∷ (Var ∷ Var ∷ Loop ∷ LoopEntry ∷ VarSet ∷ ChangeDetector ∷ EdgeExec ∷ Toggle ∷ []) ∷ (0 ∷ 0 ∷ 4 ∷ body-of 2 ∷ body-of 2 ∷ 6 ∷ 6 ∷ 6 ∷ [])
+    ∷ (-1 ∷ -1 ∷ 0 ∷ -1 ∷ -1 ∷ -1 ∷ -1 ∷ -1 ∷ -1 ∷ -1 ∷ 1 ∷ 1 ∷ 1 ∷ []) ∷ (1 ∷ 2 ∷ 0 ∷ 3 ∷ 0 ∷ 0 ∷ 4 ∷ 0 ∷ 3 ∷ 5 ∷ 0 ∷ 0 ∷ 0 ∷ [])
+    ∷ (6 ∷ []) ∷ (14 ∷ [])
+    ∷ [])
     ((2 ∷ 0 ∷ []) ∷ (0 ∷ 0 ∷ []) ∷ (0 ∷ 0 ∷ []) ∷ [] ∷ [] ∷ [])
     (plays
     ((1 ∷ 2 ∷ 0 ∷ 3 ∷ 2 ∷ 0 ∷ 0 ∷ 2 ∷ 5 ∷ 6 ∷ 16 ∷ 0 ∷ 32 ∷ 5 ∷ 7 ∷ 0 ∷ 16 ∷ 3 ∷ 1 ∷ 0 ∷ 1 ∷ 3 ∷ 3 ∷ 0 ∷ 1 ∷ 0 ∷ 0 ∷ 0 ∷ 0 ∷ 0 ∷ 0 ∷ 1 ∷ 7 ∷ 0 ∷ 1 ∷ 0 ∷ 0 ∷ 0 ∷ 0 ∷ 0 ∷ 0 ∷ 0 ∷ 0 ∷ 0 ∷ 0 ∷ [])
@@ -281,21 +416,36 @@ rows =
     -- Each check has its own reason: a VarSet of rank 5 (5), by its pin, then writes the Var outside. The ChangeDetector (6) is carried for the first write, and for the second
     -- begins in this tick.
     ∷ row
-    ((7 ∷ 6 ∷ 14 ∷ 1 ∷ []) ∷ (3 ∷ 1 ∷ 1 ∷ 1 ∷ 1 ∷ 1 ∷ []) ∷ (1 ∷ 0 ∷ 1 ∷ 2 ∷ 7 ∷ 8 ∷ []) ∷ (5 ∷ 5 ∷ 29 ∷ 30 ∷ 19 ∷ 19 ∷ 6 ∷ []) ∷ (0 ∷ 0 ∷ 4 ∷ body-of 2 ∷ body-of 2 ∷ 5 ∷ 6 ∷ []) ∷ (-1 ∷ -1 ∷ 0 ∷ -1 ∷ -1 ∷ -1 ∷ -1 ∷ -1 ∷ -1 ∷ -1 ∷ 0 ∷ -1 ∷ -1 ∷ 1 ∷ []) ∷ (1 ∷ 2 ∷ 0 ∷ 3 ∷ 0 ∷ 0 ∷ 4 ∷ 0 ∷ 3 ∷ 5 ∷ 0 ∷ 3 ∷ 6 ∷ 0 ∷ []) ∷ (6 ∷ []) ∷ (14 ∷ []) ∷ [])
+    ((7 ∷ 6 ∷ 14 ∷ 1 ∷ [])
+    ∷ (3 ∷ 1 ∷ 1 ∷ 1 ∷ 1 ∷ 1 ∷ []) ∷ (1 ∷ 0 ∷ 1 ∷ 2 ∷ 7 ∷ 8 ∷ [])
+    ∷ (Var ∷ Var ∷ Loop ∷ LoopEntry ∷ VarSet ∷ VarSet ∷ ChangeDetector ∷ []) ∷ (0 ∷ 0 ∷ 4 ∷ body-of 2 ∷ body-of 2 ∷ 5 ∷ 6 ∷ [])
+    ∷ (-1 ∷ -1 ∷ 0 ∷ -1 ∷ -1 ∷ -1 ∷ -1 ∷ -1 ∷ -1 ∷ -1 ∷ 0 ∷ -1 ∷ -1 ∷ 1 ∷ []) ∷ (1 ∷ 2 ∷ 0 ∷ 3 ∷ 0 ∷ 0 ∷ 4 ∷ 0 ∷ 3 ∷ 5 ∷ 0 ∷ 3 ∷ 6 ∷ 0 ∷ [])
+    ∷ (6 ∷ []) ∷ (14 ∷ [])
+    ∷ [])
     ((1 ∷ 0 ∷ []) ∷ (0 ∷ []) ∷ (0 ∷ []) ∷ [] ∷ [] ∷ [])
     (plays
     ((1 ∷ 3 ∷ 0 ∷ 4 ∷ 1 ∷ 0 ∷ 0 ∷ 2 ∷ 5 ∷ 6 ∷ 6 ∷ 16 ∷ 16 ∷ 0 ∷ 0 ∷ 6 ∷ 0 ∷ 3 ∷ 1 ∷ 0 ∷ 1 ∷ 3 ∷ 3 ∷ 0 ∷ 1 ∷ 0 ∷ 0 ∷ 0 ∷ 1 ∷ 8 ∷ 0 ∷ 1 ∷ 0 ∷ 0 ∷ 0 ∷ 0 ∷ 0 ∷ 0 ∷ 0 ∷ [])
     ∷ []) 0 1)
     -- Where the same chain writes the Var outside too, here behind Completed (5), the ChangeDetector is not put off;
     ∷ row
-    ((7 ∷ 6 ∷ 14 ∷ 2 ∷ []) ∷ (3 ∷ 1 ∷ 1 ∷ 1 ∷ 1 ∷ 1 ∷ []) ∷ (1 ∷ 0 ∷ 1 ∷ 2 ∷ 7 ∷ 8 ∷ []) ∷ (5 ∷ 5 ∷ 29 ∷ 30 ∷ 19 ∷ 19 ∷ 6 ∷ []) ∷ (0 ∷ 0 ∷ 4 ∷ body-of 2 ∷ body-of 2 ∷ 0 ∷ 6 ∷ []) ∷ (-1 ∷ -1 ∷ 0 ∷ -1 ∷ -1 ∷ -1 ∷ -1 ∷ -1 ∷ -1 ∷ -1 ∷ -1 ∷ -1 ∷ -1 ∷ 1 ∷ []) ∷ (1 ∷ 2 ∷ 0 ∷ 3 ∷ 0 ∷ 0 ∷ 4 ∷ 0 ∷ 3 ∷ 5 ∷ 0 ∷ 3 ∷ 6 ∷ 0 ∷ []) ∷ (6 ∷ 2 ∷ []) ∷ (14 ∷ 20 ∷ []) ∷ [])
+    ((7 ∷ 6 ∷ 14 ∷ 2 ∷ [])
+    ∷ (3 ∷ 1 ∷ 1 ∷ 1 ∷ 1 ∷ 1 ∷ []) ∷ (1 ∷ 0 ∷ 1 ∷ 2 ∷ 7 ∷ 8 ∷ [])
+    ∷ (Var ∷ Var ∷ Loop ∷ LoopEntry ∷ VarSet ∷ VarSet ∷ ChangeDetector ∷ []) ∷ (0 ∷ 0 ∷ 4 ∷ body-of 2 ∷ body-of 2 ∷ 0 ∷ 6 ∷ [])
+    ∷ (-1 ∷ -1 ∷ 0 ∷ -1 ∷ -1 ∷ -1 ∷ -1 ∷ -1 ∷ -1 ∷ -1 ∷ -1 ∷ -1 ∷ -1 ∷ 1 ∷ []) ∷ (1 ∷ 2 ∷ 0 ∷ 3 ∷ 0 ∷ 0 ∷ 4 ∷ 0 ∷ 3 ∷ 5 ∷ 0 ∷ 3 ∷ 6 ∷ 0 ∷ [])
+    ∷ (6 ∷ 2 ∷ []) ∷ (14 ∷ 20 ∷ [])
+    ∷ [])
     ((1 ∷ 0 ∷ []) ∷ (0 ∷ []) ∷ (0 ∷ []) ∷ [] ∷ [] ∷ [])
     (plays
     ((1 ∷ 3 ∷ 0 ∷ 3 ∷ 0 ∷ 0 ∷ 0 ∷ 2 ∷ 6 ∷ 6 ∷ 16 ∷ 0 ∷ 0 ∷ 3 ∷ 1 ∷ 0 ∷ 1 ∷ 3 ∷ 3 ∷ 0 ∷ 1 ∷ 0 ∷ 0 ∷ 0 ∷ 1 ∷ 8 ∷ 0 ∷ 1 ∷ 0 ∷ 0 ∷ 0 ∷ 0 ∷ 0 ∷ 0 ∷ 0 ∷ [])
     ∷ []) 0 1)
     -- nor in the late pass, where a WorldEvent enters the Loop: it begins there, and for its first reading in the main pass.
     ∷ row
-    ((6 ∷ 4 ∷ 10 ∷ 2 ∷ []) ∷ (1 ∷ 1 ∷ 1 ∷ 1 ∷ []) ∷ (0 ∷ 1 ∷ 2 ∷ 7 ∷ []) ∷ (28 ∷ 5 ∷ 29 ∷ 30 ∷ 19 ∷ 6 ∷ []) ∷ (5 ∷ 0 ∷ 0 ∷ body-of 2 ∷ body-of 2 ∷ 6 ∷ []) ∷ (-1 ∷ -1 ∷ -1 ∷ -1 ∷ -1 ∷ -1 ∷ -1 ∷ -1 ∷ -1 ∷ 2 ∷ []) ∷ (1 ∷ 0 ∷ 2 ∷ 0 ∷ 0 ∷ 3 ∷ 0 ∷ 2 ∷ 4 ∷ 0 ∷ []) ∷ (0 ∷ 7 ∷ []) ∷ (2 ∷ 12 ∷ []) ∷ [])
+    ((6 ∷ 4 ∷ 10 ∷ 2 ∷ [])
+    ∷ (1 ∷ 1 ∷ 1 ∷ 1 ∷ []) ∷ (0 ∷ 1 ∷ 2 ∷ 7 ∷ [])
+    ∷ (WorldEvent ∷ Var ∷ Loop ∷ LoopEntry ∷ VarSet ∷ ChangeDetector ∷ []) ∷ (5 ∷ 0 ∷ 0 ∷ body-of 2 ∷ body-of 2 ∷ 6 ∷ [])
+    ∷ (-1 ∷ -1 ∷ -1 ∷ -1 ∷ -1 ∷ -1 ∷ -1 ∷ -1 ∷ -1 ∷ 2 ∷ []) ∷ (1 ∷ 0 ∷ 2 ∷ 0 ∷ 0 ∷ 3 ∷ 0 ∷ 2 ∷ 4 ∷ 0 ∷ [])
+    ∷ (0 ∷ 7 ∷ []) ∷ (2 ∷ 12 ∷ [])
+    ∷ [])
     ((1 ∷ 1 ∷ []) ∷ (0 ∷ []) ∷ (1 ∷ []) ∷ (0 ∷ []) ∷ (0 ∷ []) ∷ [])
     (plays
     ((1 ∷ 2 ∷ 2 ∷ 1 ∷ 0 ∷ 0 ∷ 0 ∷ 0 ∷ 5 ∷ 5 ∷ 2 ∷ 0 ∷ 0 ∷ 0 ∷ 0 ∷ 1 ∷ 0 ∷ 1 ∷ 3 ∷ 3 ∷ 0 ∷ 1 ∷ 0 ∷ 0 ∷ 0 ∷ 0 ∷ 7 ∷ 0 ∷ 1 ∷ 0 ∷ 0 ∷ 0 ∷ 0 ∷ 0 ∷ 0 ∷ [])
@@ -303,115 +453,160 @@ rows =
     -- Remote calls from a body wait for the end of the whole chain, and run outside. Each of three runs calls a Branch (4) so: all find a Toggle (6) behind Completed on, and
     -- write the last Index to the Var (1); the ChangeDetector (7) is not put off.
     ∷ row
-    ((8 ∷ 5 ∷ 14 ∷ 3 ∷ []) ∷ (3 ∷ 1 ∷ 1 ∷ 1 ∷ 1 ∷ []) ∷ (1 ∷ 0 ∷ 3 ∷ 2 ∷ 1 ∷ []) ∷ (5 ∷ 5 ∷ 29 ∷ 30 ∷ 20 ∷ 19 ∷ 22 ∷ 6 ∷ []) ∷ (0 ∷ 0 ∷ 4 ∷ body-of 2 ∷ body-of 2 ∷ body-of 2 ∷ 0 ∷ 6 ∷ []) ∷ (-1 ∷ -1 ∷ 0 ∷ -1 ∷ -1 ∷ -1 ∷ -1 ∷ -1 ∷ 12 ∷ -1 ∷ -1 ∷ 7 ∷ -1 ∷ 1 ∷ []) ∷ (1 ∷ 2 ∷ 0 ∷ 3 ∷ 0 ∷ 0 ∷ 4 ∷ 0 ∷ 0 ∷ 0 ∷ 5 ∷ 0 ∷ 0 ∷ 0 ∷ []) ∷ (6 ∷ 8 ∷ 2 ∷ []) ∷ (15 ∷ 18 ∷ 24 ∷ []) ∷ [])
+    ((8 ∷ 5 ∷ 14 ∷ 3 ∷ [])
+    ∷ (3 ∷ 1 ∷ 1 ∷ 1 ∷ 1 ∷ []) ∷ (1 ∷ 0 ∷ 3 ∷ 2 ∷ 1 ∷ [])
+    ∷ (Var ∷ Var ∷ Loop ∷ LoopEntry ∷ Branch ∷ VarSet ∷ Toggle ∷ ChangeDetector ∷ []) ∷ (0 ∷ 0 ∷ 4 ∷ body-of 2 ∷ body-of 2 ∷ body-of 2 ∷ 0 ∷ 6 ∷ [])
+    ∷ (-1 ∷ -1 ∷ 0 ∷ -1 ∷ -1 ∷ -1 ∷ -1 ∷ -1 ∷ 12 ∷ -1 ∷ -1 ∷ 7 ∷ -1 ∷ 1 ∷ []) ∷ (1 ∷ 2 ∷ 0 ∷ 3 ∷ 0 ∷ 0 ∷ 4 ∷ 0 ∷ 0 ∷ 0 ∷ 5 ∷ 0 ∷ 0 ∷ 0 ∷ [])
+    ∷ (6 ∷ 8 ∷ 2 ∷ []) ∷ (15 ∷ 18 ∷ 24 ∷ [])
+    ∷ [])
     ((1 ∷ 0 ∷ []) ∷ (0 ∷ []) ∷ (0 ∷ []) ∷ [] ∷ [] ∷ [])
     (plays
     ((1 ∷ 8 ∷ 0 ∷ 3 ∷ 0 ∷ 0 ∷ 0 ∷ 2 ∷ 7 ∷ 7 ∷ 16 ∷ 0 ∷ 0 ∷ 3 ∷ 1 ∷ 0 ∷ 1 ∷ 3 ∷ 3 ∷ 0 ∷ 1 ∷ 0 ∷ 0 ∷ 0 ∷ 0 ∷ 3 ∷ 0 ∷ 1 ∷ 2 ∷ 0 ∷ 3 ∷ 0 ∷ 0 ∷ 0 ∷ 2 ∷ 0 ∷ 0 ∷ 0 ∷ 0 ∷ 1 ∷ 0 ∷ [])
     ∷ []) 0 1)
     -- Question 1: a word is missing.
     ∷ row
-    ((2 ∷ 1 ∷ 1 ∷ 1 ∷ []) ∷ (1 ∷ []) ∷ (7 ∷ []) ∷ (28 ∷ 22 ∷ []) ∷ (0 ∷ 1 ∷ []) ∷ (-1 ∷ []) ∷ (0 ∷ []) ∷ (0 ∷ []) ∷ [] ∷ [])
-    ((1 ∷ 1 ∷ []) ∷ (4598175219545276416 ∷ []) ∷ (1 ∷ []) ∷ (0 ∷ []) ∷ (1 ∷ []) ∷ [])
+    ((2 ∷ 1 ∷ 1 ∷ 1 ∷ []) ∷ (1 ∷ []) ∷ (7 ∷ []) ∷ (WorldEvent ∷ Toggle ∷ []) ∷ (0 ∷ 1 ∷ []) ∷ (-1 ∷ []) ∷ (0 ∷ []) ∷ (0 ∷ []) ∷ [] ∷ [])
+    pressed-once
     (refused 1)
     -- Question 2: a constant of kind 4.
     ∷ row
-    ((2 ∷ 1 ∷ 1 ∷ 1 ∷ []) ∷ (4 ∷ []) ∷ (7 ∷ []) ∷ (28 ∷ 22 ∷ []) ∷ (0 ∷ 1 ∷ []) ∷ (-1 ∷ []) ∷ (0 ∷ []) ∷ (0 ∷ []) ∷ (0 ∷ []) ∷ [])
-    ((1 ∷ 1 ∷ []) ∷ (4598175219545276416 ∷ []) ∷ (1 ∷ []) ∷ (0 ∷ []) ∷ (1 ∷ []) ∷ [])
+    ((2 ∷ 1 ∷ 1 ∷ 1 ∷ []) ∷ (4 ∷ []) ∷ (7 ∷ []) ∷ (WorldEvent ∷ Toggle ∷ []) ∷ (0 ∷ 1 ∷ []) ∷ (-1 ∷ []) ∷ (0 ∷ []) ∷ (0 ∷ []) ∷ (0 ∷ []) ∷ [])
+    pressed-once
     (refused 2)
     -- Question 3: a gate of kind 32.
     ∷ row
-    ((2 ∷ 1 ∷ 1 ∷ 1 ∷ []) ∷ (1 ∷ []) ∷ (7 ∷ []) ∷ (32 ∷ 22 ∷ []) ∷ (0 ∷ 1 ∷ []) ∷ (-1 ∷ []) ∷ (0 ∷ []) ∷ (0 ∷ []) ∷ (0 ∷ []) ∷ [])
-    ((1 ∷ 1 ∷ []) ∷ (4598175219545276416 ∷ []) ∷ (1 ∷ []) ∷ (0 ∷ []) ∷ (1 ∷ []) ∷ [])
+    ((2 ∷ 1 ∷ 1 ∷ 1 ∷ []) ∷ (1 ∷ []) ∷ (7 ∷ []) ∷ (32 ∷ Toggle ∷ []) ∷ (0 ∷ 1 ∷ []) ∷ (-1 ∷ []) ∷ (0 ∷ []) ∷ (0 ∷ []) ∷ (0 ∷ []) ∷ [])
+    pressed-once
     (refused 3)
     -- The last body is 64, that of gate 63; the next is refused by question 3.
     ∷ row
-    ((1 ∷ 0 ∷ 1 ∷ 0 ∷ []) ∷ [] ∷ [] ∷ (22 ∷ []) ∷ (body-of 64 ∷ []) ∷ (-1 ∷ []) ∷ (0 ∷ []) ∷ [] ∷ [] ∷ [])
+    ((1 ∷ 0 ∷ 1 ∷ 0 ∷ []) ∷ [] ∷ [] ∷ (Toggle ∷ []) ∷ (body-of 64 ∷ []) ∷ (-1 ∷ []) ∷ (0 ∷ []) ∷ [] ∷ [] ∷ [])
     ((0 ∷ 0 ∷ []) ∷ [] ∷ [] ∷ [] ∷ [] ∷ [])
     (refused 3)
     -- Question 4: a source that is an exec output.
     ∷ row
-    ((2 ∷ 1 ∷ 1 ∷ 1 ∷ []) ∷ (1 ∷ []) ∷ (7 ∷ []) ∷ (28 ∷ 22 ∷ []) ∷ (0 ∷ 1 ∷ []) ∷ (0 ∷ []) ∷ (0 ∷ []) ∷ (0 ∷ []) ∷ (0 ∷ []) ∷ [])
-    ((1 ∷ 1 ∷ []) ∷ (4598175219545276416 ∷ []) ∷ (1 ∷ []) ∷ (0 ∷ []) ∷ (1 ∷ []) ∷ [])
+    ((2 ∷ 1 ∷ 1 ∷ 1 ∷ []) ∷ (1 ∷ []) ∷ (7 ∷ []) ∷ (WorldEvent ∷ Toggle ∷ []) ∷ (0 ∷ 1 ∷ []) ∷ (0 ∷ []) ∷ (0 ∷ []) ∷ (0 ∷ []) ∷ (0 ∷ []) ∷ [])
+    pressed-once
     (refused 4)
     -- An entry that names a Toggle.
     ∷ row
-    ((2 ∷ 1 ∷ 2 ∷ 0 ∷ []) ∷ (1 ∷ []) ∷ (0 ∷ []) ∷ (22 ∷ 30 ∷ []) ∷ (0 ∷ body-of 0 ∷ []) ∷ (-1 ∷ -1 ∷ []) ∷ (0 ∷ 1 ∷ []) ∷ [] ∷ [] ∷ [])
+    ((2 ∷ 1 ∷ 2 ∷ 0 ∷ [])
+    ∷ (1 ∷ []) ∷ (0 ∷ [])
+    ∷ (Toggle ∷ LoopEntry ∷ []) ∷ (0 ∷ body-of 0 ∷ [])
+    ∷ (-1 ∷ -1 ∷ []) ∷ (0 ∷ 1 ∷ [])
+    ∷ [] ∷ []
+    ∷ [])
     ((0 ∷ 0 ∷ []) ∷ [] ∷ [] ∷ [] ∷ [] ∷ [])
     (refused 4)
     -- Question 5: a call from a value output.
     ∷ row
-    ((2 ∷ 1 ∷ 1 ∷ 1 ∷ []) ∷ (1 ∷ []) ∷ (7 ∷ []) ∷ (28 ∷ 22 ∷ []) ∷ (0 ∷ 1 ∷ []) ∷ (-1 ∷ []) ∷ (0 ∷ []) ∷ (1 ∷ []) ∷ (0 ∷ []) ∷ [])
-    ((1 ∷ 1 ∷ []) ∷ (4598175219545276416 ∷ []) ∷ (1 ∷ []) ∷ (0 ∷ []) ∷ (1 ∷ []) ∷ [])
+    ((2 ∷ 1 ∷ 1 ∷ 1 ∷ []) ∷ (1 ∷ []) ∷ (7 ∷ []) ∷ (WorldEvent ∷ Toggle ∷ []) ∷ (0 ∷ 1 ∷ []) ∷ (-1 ∷ []) ∷ (0 ∷ []) ∷ (1 ∷ []) ∷ (0 ∷ []) ∷ [])
+    pressed-once
     (refused 5)
     -- Question 19: yes of a Loop (gate 2) in the body of another (0), each with its entry (1 and 3) in its own body.
     ∷ row
-    ((4 ∷ 2 ∷ 10 ∷ 0 ∷ []) ∷ (1 ∷ 1 ∷ []) ∷ (0 ∷ 2 ∷ []) ∷ (29 ∷ 30 ∷ 29 ∷ 30 ∷ []) ∷ (0 ∷ body-of 0 ∷ body-of 0 ∷ body-of 2 ∷ []) ∷ (-1 ∷ -1 ∷ -1 ∷ -1 ∷ -1 ∷ -1 ∷ -1 ∷ -1 ∷ -1 ∷ -1 ∷ []) ∷ (0 ∷ 0 ∷ 0 ∷ 0 ∷ 1 ∷ 0 ∷ 0 ∷ 0 ∷ 0 ∷ 2 ∷ []) ∷ [] ∷ [] ∷ [])
+    ((4 ∷ 2 ∷ 10 ∷ 0 ∷ [])
+    ∷ (1 ∷ 1 ∷ []) ∷ (0 ∷ 2 ∷ [])
+    ∷ (Loop ∷ LoopEntry ∷ Loop ∷ LoopEntry ∷ []) ∷ (0 ∷ body-of 0 ∷ body-of 0 ∷ body-of 2 ∷ [])
+    ∷ replicate 10 -1 ∷ (0 ∷ 0 ∷ 0 ∷ 0 ∷ 1 ∷ 0 ∷ 0 ∷ 0 ∷ 0 ∷ 2 ∷ [])
+    ∷ [] ∷ []
+    ∷ [])
     ((0 ∷ 0 ∷ []) ∷ [] ∷ [] ∷ [] ∷ [] ∷ [])
     (plays [] 0 0)
     -- It is no where a call leaves its body, here from an entry's Body to a Toggle outside;
     ∷ row
-    ((3 ∷ 1 ∷ 6 ∷ 1 ∷ []) ∷ (1 ∷ []) ∷ (0 ∷ []) ∷ (29 ∷ 30 ∷ 22 ∷ []) ∷ (0 ∷ body-of 0 ∷ 0 ∷ []) ∷ (-1 ∷ -1 ∷ -1 ∷ -1 ∷ -1 ∷ -1 ∷ []) ∷ (0 ∷ 0 ∷ 0 ∷ 0 ∷ 1 ∷ 0 ∷ []) ∷ (4 ∷ []) ∷ (10 ∷ []) ∷ [])
+    ((3 ∷ 1 ∷ 6 ∷ 1 ∷ [])
+    ∷ (1 ∷ []) ∷ (0 ∷ [])
+    ∷ (Loop ∷ LoopEntry ∷ Toggle ∷ []) ∷ (0 ∷ body-of 0 ∷ 0 ∷ [])
+    ∷ (-1 ∷ -1 ∷ -1 ∷ -1 ∷ -1 ∷ -1 ∷ []) ∷ (0 ∷ 0 ∷ 0 ∷ 0 ∷ 1 ∷ 0 ∷ [])
+    ∷ (4 ∷ []) ∷ (10 ∷ [])
+    ∷ [])
     ((0 ∷ 0 ∷ []) ∷ [] ∷ [] ∷ [] ∷ [] ∷ [])
     (refused 19)
     -- where a body is no Loop's;
     ∷ row
-    ((1 ∷ 0 ∷ 1 ∷ 0 ∷ []) ∷ [] ∷ [] ∷ (22 ∷ []) ∷ (body-of 63 ∷ []) ∷ (-1 ∷ []) ∷ (0 ∷ []) ∷ [] ∷ [] ∷ [])
+    ((1 ∷ 0 ∷ 1 ∷ 0 ∷ []) ∷ [] ∷ [] ∷ (Toggle ∷ []) ∷ (body-of 63 ∷ []) ∷ (-1 ∷ []) ∷ (0 ∷ []) ∷ [] ∷ [] ∷ [])
     ((0 ∷ 0 ∷ []) ∷ [] ∷ [] ∷ [] ∷ [] ∷ [])
     (refused 19)
     -- where a Loop has no entry,
     ∷ row
-    ((1 ∷ 0 ∷ 4 ∷ 0 ∷ []) ∷ [] ∷ [] ∷ (29 ∷ []) ∷ (0 ∷ []) ∷ (-1 ∷ -1 ∷ -1 ∷ -1 ∷ []) ∷ (0 ∷ 0 ∷ 0 ∷ 0 ∷ []) ∷ [] ∷ [] ∷ [])
+    ((1 ∷ 0 ∷ 4 ∷ 0 ∷ []) ∷ [] ∷ [] ∷ (Loop ∷ []) ∷ (0 ∷ []) ∷ (-1 ∷ -1 ∷ -1 ∷ -1 ∷ []) ∷ (0 ∷ 0 ∷ 0 ∷ 0 ∷ []) ∷ [] ∷ [] ∷ [])
     ((0 ∷ 0 ∷ []) ∷ [] ∷ [] ∷ [] ∷ [] ∷ [])
     (refused 19)
     -- or two,
     ∷ row
-    ((3 ∷ 1 ∷ 6 ∷ 0 ∷ []) ∷ (1 ∷ []) ∷ (0 ∷ []) ∷ (29 ∷ 30 ∷ 30 ∷ []) ∷ (0 ∷ body-of 0 ∷ body-of 0 ∷ []) ∷ (-1 ∷ -1 ∷ -1 ∷ -1 ∷ -1 ∷ -1 ∷ []) ∷ (0 ∷ 0 ∷ 0 ∷ 0 ∷ 1 ∷ 1 ∷ []) ∷ [] ∷ [] ∷ [])
+    ((3 ∷ 1 ∷ 6 ∷ 0 ∷ [])
+    ∷ (1 ∷ []) ∷ (0 ∷ [])
+    ∷ (Loop ∷ LoopEntry ∷ LoopEntry ∷ []) ∷ (0 ∷ body-of 0 ∷ body-of 0 ∷ [])
+    ∷ (-1 ∷ -1 ∷ -1 ∷ -1 ∷ -1 ∷ -1 ∷ []) ∷ (0 ∷ 0 ∷ 0 ∷ 0 ∷ 1 ∷ 1 ∷ [])
+    ∷ [] ∷ []
+    ∷ [])
     ((0 ∷ 0 ∷ []) ∷ [] ∷ [] ∷ [] ∷ [] ∷ [])
     (refused 19)
     -- or one that lies in another body;
     ∷ row
-    ((2 ∷ 1 ∷ 5 ∷ 0 ∷ []) ∷ (1 ∷ []) ∷ (0 ∷ []) ∷ (29 ∷ 30 ∷ []) ∷ (0 ∷ 0 ∷ []) ∷ (-1 ∷ -1 ∷ -1 ∷ -1 ∷ -1 ∷ []) ∷ (0 ∷ 0 ∷ 0 ∷ 0 ∷ 1 ∷ []) ∷ [] ∷ [] ∷ [])
+    ((2 ∷ 1 ∷ 5 ∷ 0 ∷ [])
+    ∷ (1 ∷ []) ∷ (0 ∷ [])
+    ∷ (Loop ∷ LoopEntry ∷ []) ∷ (0 ∷ 0 ∷ [])
+    ∷ (-1 ∷ -1 ∷ -1 ∷ -1 ∷ -1 ∷ []) ∷ (0 ∷ 0 ∷ 0 ∷ 0 ∷ 1 ∷ [])
+    ∷ [] ∷ []
+    ∷ [])
     ((0 ∷ 0 ∷ []) ∷ [] ∷ [] ∷ [] ∷ [] ∷ [])
     (refused 19)
     -- where two Loops lie each in the other's body,
     ∷ row
-    ((4 ∷ 2 ∷ 10 ∷ 0 ∷ []) ∷ (1 ∷ 1 ∷ []) ∷ (0 ∷ 2 ∷ []) ∷ (29 ∷ 30 ∷ 29 ∷ 30 ∷ []) ∷ (body-of 2 ∷ body-of 0 ∷ body-of 0 ∷ body-of 2 ∷ []) ∷ (-1 ∷ -1 ∷ -1 ∷ -1 ∷ -1 ∷ -1 ∷ -1 ∷ -1 ∷ -1 ∷ -1 ∷ []) ∷ (0 ∷ 0 ∷ 0 ∷ 0 ∷ 1 ∷ 0 ∷ 0 ∷ 0 ∷ 0 ∷ 2 ∷ []) ∷ [] ∷ [] ∷ [])
+    ((4 ∷ 2 ∷ 10 ∷ 0 ∷ [])
+    ∷ (1 ∷ 1 ∷ []) ∷ (0 ∷ 2 ∷ [])
+    ∷ (Loop ∷ LoopEntry ∷ Loop ∷ LoopEntry ∷ []) ∷ (body-of 2 ∷ body-of 0 ∷ body-of 0 ∷ body-of 2 ∷ [])
+    ∷ replicate 10 -1 ∷ (0 ∷ 0 ∷ 0 ∷ 0 ∷ 1 ∷ 0 ∷ 0 ∷ 0 ∷ 0 ∷ 2 ∷ [])
+    ∷ [] ∷ []
+    ∷ [])
     ((0 ∷ 0 ∷ []) ∷ [] ∷ [] ∷ [] ∷ [] ∷ [])
     (refused 19)
     -- or a Loop in its own.
     ∷ row
-    ((2 ∷ 1 ∷ 5 ∷ 0 ∷ []) ∷ (1 ∷ []) ∷ (0 ∷ []) ∷ (29 ∷ 30 ∷ []) ∷ (body-of 0 ∷ body-of 0 ∷ []) ∷ (-1 ∷ -1 ∷ -1 ∷ -1 ∷ -1 ∷ []) ∷ (0 ∷ 0 ∷ 0 ∷ 0 ∷ 1 ∷ []) ∷ [] ∷ [] ∷ [])
+    ((2 ∷ 1 ∷ 5 ∷ 0 ∷ [])
+    ∷ (1 ∷ []) ∷ (0 ∷ [])
+    ∷ (Loop ∷ LoopEntry ∷ []) ∷ (body-of 0 ∷ body-of 0 ∷ [])
+    ∷ (-1 ∷ -1 ∷ -1 ∷ -1 ∷ -1 ∷ []) ∷ (0 ∷ 0 ∷ 0 ∷ 0 ∷ 1 ∷ [])
+    ∷ [] ∷ []
+    ∷ [])
     ((0 ∷ 0 ∷ []) ∷ [] ∷ [] ∷ [] ∷ [] ∷ [])
     (refused 19)
     -- It is asked before question 6: two Reroutes read each other, and a Toggle's body is no Loop's.
     ∷ row
-    ((3 ∷ 0 ∷ 3 ∷ 0 ∷ []) ∷ [] ∷ [] ∷ (2 ∷ 2 ∷ 22 ∷ []) ∷ (0 ∷ 0 ∷ body-of 0 ∷ []) ∷ (1 ∷ 0 ∷ -1 ∷ []) ∷ (0 ∷ 0 ∷ 0 ∷ []) ∷ [] ∷ [] ∷ [])
+    ((3 ∷ 0 ∷ 3 ∷ 0 ∷ [])
+    ∷ [] ∷ []
+    ∷ (Reroute ∷ Reroute ∷ Toggle ∷ []) ∷ (0 ∷ 0 ∷ body-of 0 ∷ [])
+    ∷ (1 ∷ 0 ∷ -1 ∷ []) ∷ (0 ∷ 0 ∷ 0 ∷ [])
+    ∷ [] ∷ []
+    ∷ [])
     ((0 ∷ 0 ∷ []) ∷ [] ∷ [] ∷ [] ∷ [] ∷ [])
     (refused 19)
     -- Question 6: two Reroutes read each other.
     ∷ row
-    ((2 ∷ 0 ∷ 2 ∷ 0 ∷ []) ∷ [] ∷ [] ∷ (2 ∷ 2 ∷ []) ∷ (0 ∷ 0 ∷ []) ∷ (1 ∷ 0 ∷ []) ∷ (0 ∷ 0 ∷ []) ∷ [] ∷ [] ∷ [])
+    ((2 ∷ 0 ∷ 2 ∷ 0 ∷ []) ∷ [] ∷ [] ∷ (Reroute ∷ Reroute ∷ []) ∷ (0 ∷ 0 ∷ []) ∷ (1 ∷ 0 ∷ []) ∷ (0 ∷ 0 ∷ []) ∷ [] ∷ [] ∷ [])
     ((0 ∷ 0 ∷ []) ∷ [] ∷ [] ∷ [] ∷ [] ∷ [])
     (refused 6)
     -- Question 7: two Queues, and areas of 65,536 bytes.
     ∷ row
-    ((2 ∷ 0 ∷ 20 ∷ 0 ∷ []) ∷ [] ∷ [] ∷ (16 ∷ 17 ∷ []) ∷ (0 ∷ 0 ∷ []) ∷ (-1 ∷ -1 ∷ -1 ∷ -1 ∷ -1 ∷ -1 ∷ -1 ∷ -1 ∷ -1 ∷ -1 ∷ -1 ∷ -1 ∷ -1 ∷ -1 ∷ -1 ∷ -1 ∷ -1 ∷ -1 ∷ -1 ∷ -1 ∷ []) ∷ (0 ∷ 0 ∷ 0 ∷ 0 ∷ 0 ∷ 0 ∷ 0 ∷ 0 ∷ 0 ∷ 0 ∷ 0 ∷ 0 ∷ 0 ∷ 0 ∷ 0 ∷ 0 ∷ 0 ∷ 0 ∷ 0 ∷ 0 ∷ []) ∷ [] ∷ [] ∷ [])
+    ((2 ∷ 0 ∷ 20 ∷ 0 ∷ []) ∷ [] ∷ [] ∷ (QueueInTicks ∷ QueueInSeconds ∷ []) ∷ (0 ∷ 0 ∷ []) ∷ replicate 20 -1 ∷ replicate 20 0 ∷ [] ∷ [] ∷ [])
     ((0 ∷ 0 ∷ []) ∷ [] ∷ [] ∷ [] ∷ [] ∷ [])
     (refused 7)
     -- Question 8: a word of the script is missing.
     ∷ row
-    ((2 ∷ 1 ∷ 1 ∷ 1 ∷ []) ∷ (1 ∷ []) ∷ (7 ∷ []) ∷ (28 ∷ 22 ∷ []) ∷ (0 ∷ 1 ∷ []) ∷ (-1 ∷ []) ∷ (0 ∷ []) ∷ (0 ∷ []) ∷ (0 ∷ []) ∷ [])
-    ((1 ∷ 1 ∷ []) ∷ (4598175219545276416 ∷ []) ∷ (1 ∷ []) ∷ (0 ∷ []) ∷ [] ∷ [])
+    switch
+    ((1 ∷ 1 ∷ []) ∷ (quarter ∷ []) ∷ (1 ∷ []) ∷ (0 ∷ []) ∷ [] ∷ [])
     (refused 8)
     -- Question 9: a tick longer than 3,600 seconds.
     ∷ row
-    ((2 ∷ 1 ∷ 1 ∷ 1 ∷ []) ∷ (1 ∷ []) ∷ (7 ∷ []) ∷ (28 ∷ 22 ∷ []) ∷ (0 ∷ 1 ∷ []) ∷ (-1 ∷ []) ∷ (0 ∷ []) ∷ (0 ∷ []) ∷ (0 ∷ []) ∷ [])
-    ((1 ∷ 1 ∷ []) ∷ (4660134898793709569 ∷ []) ∷ (1 ∷ []) ∷ (0 ∷ []) ∷ (1 ∷ []) ∷ [])
+    switch
+    ((1 ∷ 1 ∷ []) ∷ (above-3600 ∷ []) ∷ (1 ∷ []) ∷ (0 ∷ []) ∷ (1 ∷ []) ∷ [])
     (refused 9)
     -- Question 10: a stimulus of a Toggle.
     ∷ row
-    ((2 ∷ 1 ∷ 1 ∷ 1 ∷ []) ∷ (1 ∷ []) ∷ (7 ∷ []) ∷ (28 ∷ 22 ∷ []) ∷ (0 ∷ 1 ∷ []) ∷ (-1 ∷ []) ∷ (0 ∷ []) ∷ (0 ∷ []) ∷ (0 ∷ []) ∷ [])
-    ((1 ∷ 1 ∷ []) ∷ (4598175219545276416 ∷ []) ∷ (1 ∷ []) ∷ (1 ∷ []) ∷ (1 ∷ []) ∷ [])
+    switch
+    ((1 ∷ 1 ∷ []) ∷ (quarter ∷ []) ∷ (1 ∷ []) ∷ (1 ∷ []) ∷ (1 ∷ []) ∷ [])
     (refused 10)
     ∷ []
 
@@ -455,7 +650,13 @@ played-examples = (refl, refl)
 -- In each tick a WorldEvent calls three Reroutes, one behind the other: three steps. The list says how many each tick may make.
 unfoldable pub three-steps : List ℕ → Played
 three-steps limits =
-    let c = circuit (4 ∷ 0 ∷ 3 ∷ 3 ∷ 28 ∷ 2 ∷ 2 ∷ 2 ∷ 0 ∷ 0 ∷ 0 ∷ 0 ∷ -1 ∷ -1 ∷ -1 ∷ 0 ∷ 0 ∷ 0 ∷ 0 ∷ 2 ∷ 3 ∷ 0 ∷ 2 ∷ 4 ∷ []) in
+    let c =
+    circuit (joined (
+    (4 ∷ 0 ∷ 3 ∷ 3 ∷ [])
+    ∷ (WorldEvent ∷ Reroute ∷ Reroute ∷ Reroute ∷ []) ∷ (0 ∷ 0 ∷ 0 ∷ 0 ∷ [])
+    ∷ (-1 ∷ -1 ∷ -1 ∷ []) ∷ (0 ∷ 0 ∷ 0 ∷ [])
+    ∷ (0 ∷ 2 ∷ 3 ∷ []) ∷ (0 ∷ 2 ∷ 4 ∷ [])
+    ∷ [])) in
     seen c (ticks-of c 65536 (joined (map (λ limit. allowed limit (script (c .constants) (1 ∷ 1 ∷ 0 ∷ 1 ∷ 0 ∷ 0 ∷ []))) limits)))
 
 -- Three steps pass where three may be made.
@@ -487,7 +688,7 @@ limits-differ = refl
 -- K4: where one step may be made, the unit of gate 5 stops the tick: its record lists what is carried, and not gate 6, which is pending.
 pub stopped-carries :
     (let c = circuit (joined carries) in
-    seen c (ticks-of c 65536 (allowed 1 (script (c .constants) (1 ∷ 0 ∷ 4598175219545276416 ∷ 0 ∷ [])))))
+    seen c (ticks-of c 65536 (allowed 1 (script (c .constants) (1 ∷ 0 ∷ quarter ∷ 0 ∷ [])))))
     ≡ record { log = 1 ∷ 2 ∷ 0 ∷ 3 ∷ 3 ∷ 11 ∷ 0 ∷ 3 ∷ 0 ∷ 5 ∷ 0 ∷ 0 ∷ 32 ∷ 2 ∷ 3 ∷ 4 ∷ 32 ∷ 0 ∷ 16 ∷ []; stop = 11; ticks = 0 }
 unfolding model-opened
 stopped-carries = refl
@@ -502,7 +703,7 @@ three-runs runs around =
     circuit (joined (
     (4 ∷ 2 ∷ 7 ∷ 3 ∷ [])
     ∷ (1 ∷ 1 ∷ []) ∷ (3 ∷ 0 ∷ [])
-    ∷ (29 ∷ 30 ∷ 22 ∷ 22 ∷ []) ∷ (0 ∷ body-of 0 ∷ body-of 0 ∷ 0 ∷ [])
+    ∷ (Loop ∷ LoopEntry ∷ Toggle ∷ Toggle ∷ []) ∷ (0 ∷ body-of 0 ∷ body-of 0 ∷ 0 ∷ [])
     ∷ (-1 ∷ -1 ∷ -1 ∷ -1 ∷ -1 ∷ -1 ∷ -1 ∷ []) ∷ (0 ∷ 1 ∷ 0 ∷ 0 ∷ 2 ∷ 0 ∷ 0 ∷ [])
     ∷ (4 ∷ 4 ∷ 0 ∷ []) ∷ (10 ∷ 10 ∷ 12 ∷ [])
     ∷ [])) in

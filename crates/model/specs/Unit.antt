@@ -6,8 +6,9 @@ use mathlib.Core.Option.{some}
 use lib.Dec.{leb, ltb, eqb}
 use Rattle.schedule.specs.Schedule.{Raise, When, Did}
 use Rattle.model.specs.Base.{if_then_else_}
+use Rattle.model.specs.Kinds.{Stopwatch}
 use Rattle.model.specs.Circuit.{Circuit, kind-of-gate, input, output}
-use Rattle.model.specs.State.{Act, State, wires≔}
+use Rattle.model.specs.State.{form-pin, form-output, Act, State, wires≔}
 use Rattle.model.specs.Wires.{set-outs}
 use Rattle.model.specs.Chain.{Calls, no-calls, Chained, push-calls}
 use Rattle.model.specs.Loops.{run-chain}
@@ -30,14 +31,14 @@ unfoldable pub raises-in : {P : Type 0} → World → ℕ → List (Raise State 
 raises-in w left rs = map (λ r. record { at = state≔ w left (r .at); act = r .act; place = r .place }) rs
 
 module _ (c : Circuit) where
-  -- the output that a unit fires: form 32 + output that output, a Stopwatch's Fire Expired, any other output 0
+  -- the output that a unit fires: form-output + output that output, a Stopwatch's Fire Expired, any other output 0
   unfoldable pub fired : ℕ → ℕ → ℕ
-  fired g form = if leb 32 form then output c g (form - 32) else if eqb (kind-of-gate c g) 15 then output c g 1 else output c g 0
+  fired g form = if leb form-output form then output c g (form - form-output) else if eqb (kind-of-gate c g) Stopwatch then output c g 1 else output c g 0
 
-  -- form 16 + pin enters its gate, which is a step; any other fires an output; a circuit has at most 256 calls (question 1), so the first ones always find room
+  -- form-pin + pin enters its gate, which is a step; any other fires an output; a circuit has at most 256 calls (question 1), so the first ones always find room
   unfoldable pub begin : Act → Calls
   begin a =
-      if leb 16 (a .form) && ltb (a .form) 32 then record { stack = input c (a .gate) (a .form - 16) ∷ []; forks = [] }
+      if leb form-pin (a .form) && ltb (a .form) form-output then record { stack = input c (a .gate) (a .form - form-pin) ∷ []; forks = [] }
       else push-calls c (some (fired (a .gate) (a .form))) no-calls
 
   -- the values that it brings are put on its outputs from 1 on

@@ -114,12 +114,21 @@ same (Truth x) (Truth y) = Bool·beq x y
 
 -- ---- as two words, kind and content: 0 0 is nothing, 1 Int, 2 Float, 3 Bool
 
+abbrev pub kind-Int : ℕ
+kind-Int = 1
+
+abbrev pub kind-Float : ℕ
+kind-Float = 2
+
+abbrev pub kind-Bool : ℕ
+kind-Bool = 3
+
 -- the kind of a value
 unfoldable pub kind-of : Value → ℕ
 kind-of Nothing = 0
-kind-of (Int b) = 1
-kind-of (Float b) = 2
-kind-of (Truth t) = 3
+kind-of (Int b) = kind-Int
+kind-of (Float b) = kind-Float
+kind-of (Truth t) = kind-Bool
 
 -- its content: the bits of an Int or a Float, 0 or 1 of a Bool
 unfoldable pub content-of : Value → ℕ

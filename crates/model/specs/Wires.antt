@@ -9,7 +9,7 @@ use Rattle.model.specs.declared.Value.{Value}
 use Rattle.model.specs.declared.Value.the-variants.{Nothing, Float}
 use Rattle.model.specs.Base.{if_then_else_, each, snoc}
 use Rattle.model.specs.Value.{truthy, same}
-use Rattle.model.specs.Kinds.{pure}
+use Rattle.model.specs.Kinds.{Select, Reroute, DeltaTime, pure}
 use Rattle.model.specs.Circuit.{Circuit, most-inputs, kind-of-gate, input, output, inputs-of, gate-at-input, source, stored-in, gate-at-output, readers-of, watching, gates}
 use Rattle.model.specs.State.{Wires, outs≔, dirty≔, to-check≔, late-checks≔}
 
@@ -65,9 +65,9 @@ module _ (c : Circuit) where
   -- what a pure gate gives
   unfoldable pub compute : Wires → ℕ → Value
   compute w g =
-      if eqb (kind-of-gate c g) 1 then (if truthy (look w (input c g 0)) then look w (input c g 2) else look w (input c g 1))
-      else if eqb (kind-of-gate c g) 2 then look w (input c g 0)
-      else if eqb (kind-of-gate c g) 3 then Float (w .dt)
+      if eqb (kind-of-gate c g) Select then (if truthy (look w (input c g 0)) then look w (input c g 2) else look w (input c g 1))
+      else if eqb (kind-of-gate c g) Reroute then look w (input c g 0)
+      else if eqb (kind-of-gate c g) DeltaTime then Float (w .dt)
       else Float (w .uptime)
 
   -- a pure gate shows what it gives, and is fresh
