@@ -9,7 +9,7 @@ use Rattle.model.specs.Base.{if_then_else_, keep, joined, from}
 use Rattle.model.specs.declared.Value.{Value}
 use Rattle.model.specs.declared.Value.the-variants.{Nothing, Int, Float, Bool as Truth}
 use Rattle.model.specs.Value.{bit, value-of}
-use Rattle.model.specs.Kinds.{value, kind-at}
+use Rattle.model.specs.Kinds.{value, kind-at, LoopEntry}
 use Rattle.model.specs.Circuit.{most-gates, rank-size, source-of, is-watched}
 use Rattle.model.specs.Questions.{within}
 use Rattle.links.specs.Links.{counts-at, gates-at, sources-at, stored-kinds-at, stored-contents-at, inputs-at, outputs-at, rows-at, readers-at, calls-at, constant-kinds-at, constant-contents-at, total, kind-size, input-size, listed, packed, paired}
@@ -141,7 +141,7 @@ gate-of (Truth t) = most-gates
 
 -- the gate that one of this kind names by its setting, if it is an entry
 unfoldable pub gate-named : ℕ → Value → ℕ
-gate-named kind v = if eqb kind 30 then gate-of v else most-gates
+gate-named kind v = if eqb kind LoopEntry then gate-of v else most-gates
 
 -- the gate that gate e names
 unfoldable pub named-by : List ℕ → ℕ → ℕ → ℕ → ℕ → ℕ

@@ -12,7 +12,7 @@ use Rattle.model.specs.declared.Value.{Value}
 use Rattle.model.specs.Base.{keep, joined, each, from}
 use Rattle.model.specs.Value.{same, truthy}
 use Rattle.model.specs.Circuit.{Circuit, kind-of-gate, setting}
-use Rattle.model.specs.State.{Act, Send, State, wires≔}
+use Rattle.model.specs.State.{form-Event, Act, Send, State, wires≔}
 use Rattle.model.specs.Delays.{advance-flight, advance-fires, advance-records}
 use Rattle.model.specs.Exec.{delay, countdown}
 use Rattle.model.specs.Opening.{Opened, raised-to, fire, delivered, lower, advanced, advance-buffer, advance-clock, advance-timer}
@@ -47,7 +47,7 @@ event u e = record { gate = getD (map (λ m. m .gate) (u .events)) e 0; row = ge
 -- what the gates gs, of those that receive what a gate of a kind sends on a channel, get of an event with this row
 unfoldable pub heard-by : Circuit → ℕ → Value → List Value → List ℕ → List Act
 heard-by c kind channel row gs =
-    map (λ r. record { gate = r; form = 1; row = row }) (keep (λ r. eqb (kind-of-gate c r) (kind + 2) && same channel (setting c r 0)) gs)
+    map (λ r. record { gate = r; form = form-Event; row = row }) (keep (λ r. eqb (kind-of-gate c r) (kind + 2) && same channel (setting c r 0)) gs)
 
 -- whether a list was full
 unfoldable pub is-full : Answer → Bool

@@ -9,6 +9,7 @@ use Rattle.words.specs.Words.{words, tail}
 use Rattle.words.specs.Slices.{Ref, Slice, before, after, was}
 use Rattle.schedule.specs.Schedule.{run, run-on}
 use Rattle.model.specs.Base.{all, sum}
+use Rattle.model.specs.Kinds.{WorldEvent}
 use Rattle.model.specs.Circuit.{Circuit, part, word-at, kind-of-gate}
 use Rattle.model.specs.Questions.{names-constant}
 use Rattle.model.specs.Opening.{start}
@@ -67,7 +68,7 @@ pub record Good-script (c : Circuit) (ws : List ℕ) : Type 0 where
   pub ticks : word-at ws 0 ≤ 100000
   pub words : length ws ≡ 2 + 2 * (word-at ws 0 + word-at ws 1)
   pub counts : sum (part ws (2 + word-at ws 0) (word-at ws 0)) ≡ word-at ws 1
-  pub gates : all (λ g. eqb (kind-of-gate c g) 28) (part ws (2 + 2 * word-at ws 0) (word-at ws 1)) ≡ true
+  pub gates : all (λ g. eqb (kind-of-gate c g) WorldEvent) (part ws (2 + 2 * word-at ws 0) (word-at ws 1)) ≡ true
   pub constants : all (names-constant c) (part ws (2 + 2 * word-at ws 0 + word-at ws 1) (word-at ws 1)) ≡ true
   pub few-gates : length (c .kinds) ≤ 64
   pub few-constants : length (c .constants) ≤ 65

@@ -13,6 +13,7 @@ use Rattle.words.specs.Tables.{marked}
 use Rattle.model.specs.declared.Value.{Value}
 use Rattle.model.specs.Base.{if_then_else_, keep}
 use Rattle.model.specs.Value.{value-of, as-int, as-float}
+use Rattle.model.specs.Kinds.{QueueInSeconds}
 use Rattle.model.specs.Circuit.{Circuit, part, kind-of-gate, gates}
 use Rattle.model.specs.Questions.{within, queues}
 use Rattle.model.specs.State.{Countdown, Flight, Queued, Delay, idle}
@@ -75,7 +76,7 @@ queue-countdown seconds v = if seconds then in-seconds (as-float 0 v) else in-ti
 module _ (c : Circuit) (ws : List ℕ) where
   -- the records of gate g
   unfoldable pub records-at : ℕ → List Queued
-  records-at g = if is-queue c g then records (eqb (kind-of-gate c g) 17) (part ws (queue-at (getD ws g 0)) 4354) else []
+  records-at g = if is-queue c g then records (eqb (kind-of-gate c g) QueueInSeconds) (part ws (queue-at (getD ws g 0)) 4354) else []
 
   -- the small state of gate g
   unfoldable pub delay-at : ℕ → Delay

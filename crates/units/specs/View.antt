@@ -12,7 +12,7 @@ use Rattle.model.specs.declared.Value.the-variants.{Nothing}
 use Rattle.model.specs.Base.{if_then_else_, both, from}
 use Rattle.model.specs.Value.{value-of}
 use Rattle.model.specs.Circuit.{Circuit, part}
-use Rattle.model.specs.State.{Act, Send}
+use Rattle.model.specs.State.{form-Event, form-World, Act, Send}
 use Rattle.model.specs.Chain.{Calls}
 use Rattle.model.specs.Record.{Listed, listed}
 
@@ -81,17 +81,17 @@ brings x = x % 2 ^ 16
 unfoldable pub entry-of : ℕ → ℕ → ℕ → ℕ
 entry-of g form k = g % 2 ^ 16 * 2 ^ 32 + form % 2 ^ 16 * 2 ^ 16 + k % 2 ^ 16
 
--- a stimulus (form 2) brings the constant of that name, and constant 0 nothing
+-- a stimulus brings the constant of that name, and constant 0 nothing
 unfoldable pub row-of : Circuit → ℕ → ℕ → List Value
-row-of c form k = if eqb form 2 then (if eqb k 0 then [] else getD (c .constants) k Nothing ∷ []) else []
+row-of c form k = if eqb form form-World then (if eqb k 0 then [] else getD (c .constants) k Nothing ∷ []) else []
 
 -- what waits
 unfoldable pub act-of : Circuit → ℕ → Act
 act-of c x = record { gate = gate-of x; form = form-of x; row = row-of c (form-of x) (brings x) }
 
--- a delivered event (form 1) brings the row of the event of that number
+-- a delivered event brings the row of the event of that number
 unfoldable pub event-of : List Send → ℕ → Act
-event-of es x = record { gate = gate-of x; form = 1; row = getD (map (λ e. e .row) es) (brings x) [] }
+event-of es x = record { gate = gate-of x; form = form-Event; row = getD (map (λ e. e .row) es) (brings x) [] }
 
 -- ---- events
 

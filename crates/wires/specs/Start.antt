@@ -7,7 +7,7 @@ use lib.Dec.{eqb}
 use lib.ListN.{length, replicate}
 use Rattle.model.specs.declared.Value.the-variants.{Nothing}
 use Rattle.model.specs.Base.{if_then_else_}
-use Rattle.model.specs.Kinds.{pure}
+use Rattle.model.specs.Kinds.{Var, pure}
 use Rattle.model.specs.Circuit.{Circuit, kind-of-gate, output, setting, watching}
 use Rattle.model.specs.State.{Wires}
 use Rattle.model.specs.Wires.{show, soil, watch}
@@ -38,7 +38,7 @@ module _ (c : Circuit) where
   unfoldable pub prepared : Wires → ℕ → Wires
   prepared w g =
       if pure (kind-of-gate c g) then soil w g
-      else if eqb (kind-of-gate c g) 5 then show w (output c g 0) (setting c g 0)
+      else if eqb (kind-of-gate c g) Var then show w (output c g 0) (setting c g 0)
       else w
 
   -- a watched input waits for its first check
