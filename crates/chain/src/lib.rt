@@ -1,8 +1,10 @@
 // One call of a chain: the gate makes its step, and what it fires is called.
 ghost use Rattle.model.specs.Chain.{chained, fire-output, make-call};
+ghost use Rattle.links.specs.Links.{net};
 ghost use Rattle.links.specs.Lent.{Linked, Room};
 ghost use Rattle.states.specs.Lent.{Slots-stay};
 ghost use Rattle.areas.specs.Lent.{Over-all, Over-units, All-lent};
+ghost use Rattle.steps.specs.Steps.{Entered};
 ghost use Rattle.chain.specs.Chain.{Runs, started};
 use crate::pushing::push_calls;
 use lists::Filed;
@@ -35,7 +37,7 @@ pub fn fire_output(links: &[usize], units: &mut [u8], left: u64, o: usize) -> Ra
     }
 }
 
-// The gate that has input i, which is no Loop, makes its step, and what it fires is called.
+// Gate g, of kind k, which is no Loop, is entered through its input i: it makes its step, and what it fires is called.
 pub fn make_call(
     links: &[usize],
     values: &mut [u8],
@@ -43,13 +45,16 @@ pub fn make_call(
     delays: &mut [u8],
     left: u64,
     i: usize,
+    g: usize,
+    k: u64,
     inside: bool,
 ) -> Ran
     requires { ⌜ All-lent links values units delays ⌝ }
+    requires { ⌜ Entered (net (now links)) i g k ⌝ }
     ensures { λ r. ⌜ Over-all links values units delays (λ c old new. Runs old new r (make-call c inside i (started old left))) ⌝ }
     ensures { λ _. ⌜ Slots-stay links delays ⌝ }
 {
-    let step = exec(links, values, units, delays, i, inside);
+    let step = exec(links, values, units, delays, i, g, k, inside);
     match step {
         Step::Fires(o) => fire_output(links, units, left, o),
         Step::Ends => Ran {

@@ -2,11 +2,11 @@
 use Prim.Native.Nat.{ℕ, zero, suc, _+_, _-_, _≤_, _<_}
 use mathlib.Core.Path.{_≡_, refl, sym, ap, ap₂, _∙_, subst}
 use mathlib.Core.Bool.{Bool, true, false, not, _&&_, true≢false}
-use mathlib.Core.List.{List}
+use mathlib.Core.List.{List, []}
 use mathlib.Core.Option.{Option, none, some}
 use native.Mathlib.Omega.{arith}
 use lib.Dec.{ltb, eqb}
-use lib.ListN.{length}
+use lib.ListN.{length, drop-of-length-le}
 use borrow.Author.Tests.{eqb-true, eqb-false, eq-eqb, ne-eqb, ltb-true, ltb-false}
 use Rattle.lists.specs.declared.Taken.{Taken}
 use Rattle.lists.specs.declared.Taken.the-variants.{Empty, Entry}
@@ -16,7 +16,7 @@ use Rattle.model.specs.Base.{if_then_else_}
 use Rattle.model.specs.Circuit.{Circuit, kind-of-gate, output, gate-at-input}
 use Rattle.model.specs.State.{State, unions-passed≔, runs-left≔, wires≔}
 use Rattle.model.specs.Exec.{read}
-use Rattle.model.specs.Chain.{Calls, no-calls, Popped, pop, Chained, chained, unless-stopped, fire-output, make-call, runaway}
+use Rattle.model.specs.Chain.{Calls, no-calls, Popped, pop-fork, pop, Chained, chained, unless-stopped, fire-output, make-call, runaway}
 use Rattle.model.specs.Loops as model
 use Rattle.model.specs.Loops.{index, unions-of, runs-left-to, break-set, goes-on, begin-body, loop-on, show-loop, loop-over, run-loop, operate, run-nested, run-body, run-chain}
 use Rattle.model.proofs.Lists.{both-true}
@@ -438,3 +438,13 @@ pub chain-ran : (c : Circuit) (n left : ℕ) (a b : Contents) (r : Ran) → n �
     Runs a b r (run-nested c (run-body c n) false 0 (going-on a (record { left = left; stop = 0 }))) → Runs a b r (run-chain c left (a .calls) (a .state))
 unfolding run-chain
 chain-ran c n left a b r e m = subst (λ (k : ℕ). Runs a b r (run-nested c (run-body c k) false 0 (started a left))) e m
+
+pub chain-idle : (c : Circuit) (left n m : ℕ) (a : Contents) → n ≡ length (a .calls .stack) → n ≡ 0 → m ≡ length (a .calls .forks) → m ≡ 0 →
+    Runs a a (record { left = left; stop = 0 }) (run-chain c left (a .calls) (a .state))
+unfolding run-chain pop pop-fork chained
+chain-idle c left n m a en zn em zm =
+    let st : a .calls .stack ≡ [] = drop-of-length-le (a .calls .stack) {i = 0} (omega (arith, en, zn)) in
+    let fs : a .calls .forks ≡ [] = drop-of-length-le (a .calls .forks) {i = 0} (omega (arith, em, zm)) in
+    let p : pop false 0 (a .calls .stack) (a .calls .forks) ≡ none = rw (st, fs) in
+    subst (Runs a a (record { left = left; stop = 0 })) (sym (nested-none c (length (c .kinds)) false 0 (a .state) (a .calls) left p))
+    record { state = refl; calls = λ _. refl; left = refl; stop = refl }

@@ -24,6 +24,7 @@ use lists::Taken;
 use stops::LIST_FULL;
 use stops::RUNAWAY;
 use units::calls::calls_waiting;
+use units::calls::forks_waiting;
 use units::calls::pop_call;
 use wires::bodies::set_unions_passed;
 use wires::bodies::unions_passed;
@@ -164,8 +165,9 @@ fn operate(
     ensures { λ _. ⌜ Slots-stay links delays ⌝ }
 {
     let g = gate_at_input(links, i);
-    if kind_of_gate(links, g) != LOOP {
-        return make_call(links, values, units, delays, left, i, inside);
+    let k = kind_of_gate(links, g);
+    if k != LOOP {
+        return make_call(links, values, units, delays, left, i, g, k, inside);
     }
     let ran = run_loop(links, values, units, delays, left, g, nesting);
     if ran.stop != 0 {
@@ -243,5 +245,10 @@ pub fn run_chain(
         left: left,
         stop: 0,
     };
+    if calls_waiting(units) == 0 {
+        if forks_waiting(units) == 0 {
+            return begun;
+        }
+    }
     run_nested(links, values, units, delays, begun, 0, gates(links), false)
 }

@@ -19,12 +19,14 @@ use crate::moving::advance_clocks;
 use crate::moving::advance_timers;
 use floats::narrowing::narrow;
 use lists::Filed;
-use settling::settle;
+use settling::check_waiting;
 use states::counting::begin_count;
 use units::Place;
 use wires;
+use wires::checks::checks_waiting;
 use wires::marking::invalidate_all;
 use wires::pulses::lower_all;
+use wires::refreshing::refresh_all;
 
 mod filing;
 mod moving;
@@ -102,7 +104,11 @@ fn finish(links: &[usize], values: &mut [u8], units: &mut [u8], delays: &mut [u8
         return Filed::Full;
     }
     invalidate_all(links, values);
-    settle(links, values, units, delays, Place::Pending)
+    refresh_all(links, values);
+    if checks_waiting(links, values) == 0 {
+        return Filed::Done;
+    }
+    check_waiting(links, values, units, delays, Place::Pending)
 }
 
 // A tick of the length dt, with n stimuli: their gates and constants stand in the script from these words on. It stops at the first list that is full.

@@ -7,7 +7,7 @@ use mathlib.Core.Option.{Option, none, some}
 use native.Mathlib.Nat.{mul-le-mul}
 use native.Mathlib.Omega.{arith}
 use native.Mathlib.Numerals.{add-one}
-use lib.ListN.{length, getD}
+use lib.ListN.{length, getD, drop-of-length-le}
 use Rattle.schedule.specs.Schedule.{When, by-rank, put-off}
 use Rattle.lists.specs.declared.Filed.{Filed as Answer}
 use Rattle.lists.specs.declared.Filed.the-variants.{Full as NoRoom, Done as Room}
@@ -315,19 +315,48 @@ left-none c to a z (suc k) n h i = absurd (omega (arith, h))
 pub rounds-few : (i o : ℕ) → i ≤ 640 → o ≤ 576 → (i + 1) * (o + 1) ≤ 641 * 577
 rounds-few i o h k = let a : i + 1 ≤ 641 = omega arith in let b : o + 1 ≤ 577 = omega arith in mul-le-mul a b
 
-pub settled-all :
-    (c : Circuit) (to : Place) (v v₁ : Values) (u : Units) (d : Delays) (b : Contents) (r : Answer) (i o : ℕ) → v₁ ≡ with-wires v (refresh-all c (v .wires)) →
-    (i ≡ length (c .pins)) × (i ≤ 640) → (o ≡ length (c .outputs)) × (o ≤ 576) →
-    (b ≡ with-went (together v₁ u d) (goes-on c to ((i + 1) * (o + 1)) (together v₁ u d .state) (u .lists)))
-    × (r ≡ goes-on c to ((i + 1) * (o + 1)) (together v₁ u d .state) (u .lists) .answer) →
-    (b ≡ with-went (together v u d) (filed-into c to (settle c (together v u d .state)) (u .lists))) × (r ≡ filed-into c to (settle c (together v u d .state)) (u .lists) .answer)
-unfolding settle goes-on wires≔
-settled-all c to v v₁ u d b r i o ev ei eo h =
+-- all of them, by the counts of inputs and outputs
+pub all-checked :
+    (c : Circuit) (to : Place) (a b : Contents) (r : Answer) (i o : ℕ) → (i ≡ length (c .pins)) × (i ≤ 640) → (o ≡ length (c .outputs)) × (o ≤ 576) →
+    (b ≡ with-went a (goes-on c to ((i + 1) * (o + 1)) (a .state) (a .lists))) × (r ≡ goes-on c to ((i + 1) * (o + 1)) (a .state) (a .lists) .answer) →
+    (b ≡ with-went a (goes-on c to (most-checks c) (a .state) (a .lists))) × (r ≡ goes-on c to (most-checks c) (a .state) (a .lists) .answer)
+all-checked c to a b r i o ei eo h =
     let q : (i + 1) * (o + 1) ≡ most-checks c = ap₂ (λ (x y : ℕ). x * y) (add-one i ∙ ap suc (ei .0)) (add-one o ∙ ap suc (eo .0)) in (
-      h .0
-          ∙ ap (λ (y : Values). with-went (together y u d) (goes-on c to ((i + 1) * (o + 1)) (together y u d .state) (u .lists))) ev
-          ∙ ap (λ (k : ℕ). with-went (together v u d) (goes-on c to k (wires≔ (together v u d .state) (refresh-all c (v .wires))) (u .lists))) q,
-      h .1
-          ∙ ap (λ (y : Values). goes-on c to ((i + 1) * (o + 1)) (together y u d .state) (u .lists) .answer) ev
-          ∙ ap (λ (k : ℕ). goes-on c to k (wires≔ (together v u d .state) (refresh-all c (v .wires))) (u .lists) .answer) q,
+      h .0 ∙ ap (λ (k : ℕ). with-went a (goes-on c to k (a .state) (a .lists))) q,
+      h .1 ∙ ap (λ (k : ℕ). goes-on c to k (a .state) (a .lists) .answer) q,
     )
+
+-- a round where nothing waits
+none-waits :
+    (c : Circuit) (to : Place) (a : Contents) → a .state .wires .to-check ≡ [] →
+    (Idle ≡ round-answer (round-of c to (a .state) (a .lists))) × (a ≡ after-round a (round-of c to (a .state) (a .lists)))
+unfolding round-of round-answer after-round oldest
+none-waits c to a e =
+    let p : round-of c to (a .state) (a .lists) ≡ none = rw (e, round-of) in (ap round-answer (sym p), ap (after-round a) (sym p))
+
+-- settling, by what is refreshed first
+module _ (c : Circuit) (to : Place) (v v₁ : Values) (u : Units) (d : Delays) (ev : v₁ ≡ with-wires v (refresh-all c (v .wires))) where
+  -- and all that waits is checked
+  pub settled-all :
+      (b : Contents) (r : Answer) →
+      (b ≡ with-went (together v₁ u d) (goes-on c to (most-checks c) (together v₁ u d .state) (u .lists)))
+      × (r ≡ goes-on c to (most-checks c) (together v₁ u d .state) (u .lists) .answer) →
+      (b ≡ with-went (together v u d) (filed-into c to (settle c (together v u d .state)) (u .lists))) × (r ≡ filed-into c to (settle c (together v u d .state)) (u .lists) .answer)
+  unfolding settle goes-on wires≔
+  settled-all b r h = (
+    h .0 ∙ ap (λ (y : Values). with-went (together y u d) (goes-on c to (most-checks c) (together y u d .state) (u .lists))) ev,
+    h .1 ∙ ap (λ (y : Values). goes-on c to (most-checks c) (together y u d .state) (u .lists) .answer) ev,
+  )
+
+  -- or nothing waits
+  pub settled-none :
+      (n : ℕ) → n ≡ length (v₁ .wires .to-check) → n ≡ 0 →
+      (together v₁ u d ≡ with-went (together v u d) (filed-into c to (settle c (together v u d .state)) (u .lists)))
+      × (Room ≡ filed-into c to (settle c (together v u d .state)) (u .lists) .answer)
+  settled-none n en z =
+      let e : v₁ .wires .to-check ≡ [] = drop-of-length-le (v₁ .wires .to-check) {i = 0} (omega (arith, en, z)) in
+      let i : 1 ≤ suc (length (c .pins)) = omega arith in
+      let o : 1 ≤ suc (length (c .outputs)) = omega arith in
+      let k : 1 * 1 ≤ most-checks c = mul-le-mul i o in
+      settled-all (together v₁ u d) Room
+      (turn-idle c to (together v₁ u d) (together v₁ u d) Idle (none-waits c to (together v₁ u d) e) (most-checks c) (omega (arith, k)) refl)

@@ -8,7 +8,7 @@ ghost use Rattle.model.specs.Base.{if_then_else_};
 ghost use Rattle.model.specs.Value.{truthy};
 ghost use Rattle.model.specs.Circuit.{Circuit, input, output, most-inputs};
 ghost use Rattle.model.specs.State.{State, wires≔};
-ghost use Rattle.model.specs.Settle.{Settled, calm, raise, pulse, edge, check, settle};
+ghost use Rattle.model.specs.Settle.{Settled, calm, raise, pulse, edge, check, most-checks};
 ghost use Rattle.links.specs.Lent.{Linked, net-of, Room, Short};
 ghost use Rattle.states.specs.Lent.{Slots, Slots-stay};
 ghost use Rattle.units.specs.View.{act-of};
@@ -16,7 +16,7 @@ ghost use Rattle.units.specs.Raising.{activate, place-for};
 ghost use Rattle.units.specs.Lent.{Units-change};
 ghost use Rattle.areas.specs.Lent.{Over-all, Over-values-delays, Goes, All-lent};
 ghost use Rattle.settling.specs.declared.Raised.the-variants.{Nothing};
-ghost use Rattle.settling.specs.Settling.{settled, filed-into};
+ghost use Rattle.settling.specs.Settling.{settled};
 ghost use Rattle.settling.specs.Rounds.{acted, hit-by, goes-on, round-of};
 ghost use Rattle.settling.specs.Lent.{Acts-in-values, Acts-in-both, Settles, Files-in-round, Goes-round};
 use floats::lt64;
@@ -47,7 +47,6 @@ use wires::checks::take_check;
 use wires::pulses::pulse;
 use wires::reading::look;
 use wires::refreshing::ready;
-use wires::refreshing::refresh_all;
 use words::counting::less;
 
 // No rank is above this.
@@ -269,8 +268,9 @@ fn settle_on(
     Filed::Done
 }
 
-// What is stale is refreshed, then each input that waits is checked; what this raises goes where `to` says, up to the first that finds its list full.
-pub fn settle(
+// Each input that waits is checked; what this raises goes where `to` says, up to the first that finds its list full. Once what is stale is refreshed, this settles;
+// callers ask first whether any input waits, since most often none does.
+pub fn check_waiting(
     links: &[usize],
     values: &mut [u8],
     units: &mut [u8],
@@ -278,10 +278,9 @@ pub fn settle(
     to: Place,
 ) -> Filed
     requires { ⌜ All-lent links values units delays ⌝ }
-    ensures { λ r. ⌜ Over-all links values units delays (λ c old new. Goes old new r (filed-into c to (settle c (old .state)) (old .lists))) ⌝ }
+    ensures { λ r. ⌜ Over-all links values units delays (λ c old new. Goes old new r (goes-on c to (most-checks c) (old .state) (old .lists))) ⌝ }
     ensures { λ _. ⌜ Slots-stay links delays ⌝ }
 {
-    refresh_all(links, values);
     let rounds = (inputs(links) + 1) * (outputs(links) + 1);
     settle_on(links, values, units, delays, to, rounds)
 }

@@ -10,7 +10,7 @@ use lib.Dec.{leb, eqb}
 use lib.ListN.{length, getD}
 use types.Run.{OneOf}
 use Rattle.model.specs.Base.{if_then_else_}
-use Rattle.model.specs.Circuit.{Circuit, kind-of-gate, input, output, gate-at-input}
+use Rattle.model.specs.Circuit.{Circuit, kind-of-gate, input, output}
 use Rattle.model.specs.Questions.{within}
 use Rattle.model.specs.State.{State}
 use Rattle.model.specs.Exec.{Stepped, exec-Buffer, exec-Stopwatch, exec-Queue, exec-VarGet, exec-VarSet, exec-Branch, exec-Union, exec-Toggle, exec-Cycle, exec-SendEvent, exec-Break, exec-kind, exec-gate}
@@ -18,7 +18,7 @@ use Rattle.states.specs.View.{is-queue, queue-countdown, Lent}
 use Rattle.areas.specs.Areas.{Contents, areas, with-state}
 use Rattle.steps.specs.declared.Step.{Step}
 use Rattle.steps.specs.declared.Step.the-variants.{Fires, Ends}
-use Rattle.steps.specs.Steps.{Makes}
+use Rattle.steps.specs.Steps.{Entered, Makes}
 use Rattle.steps.proofs.Making.{makes-as, makes-passes, makes-ends}
 
 -- ---- kinds in a row
@@ -67,22 +67,22 @@ pub queue-kind : (c : Circuit) (g k : ℕ) → k ≡ kind-of-gate c g → OneOf 
 unfolding is-queue within
 queue-kind c g k e h = rw (← e) (⊎-elim (λ (z : k ≡ 16). rw z) (λ (z : k ≡ 17). rw z) h)
 
-module _ (c : Circuit) (inside : Bool) (i g k p : ℕ) (a b : Contents) (r : Step) (eg : g ≡ gate-at-input c i) (ep : p ≡ i - input c g 0) (ek : k ≡ kind-of-gate c g) where
-  by-kind : (d : Stepped) → exec-kind c inside k (a .state) g p ≡ d → Makes a b r d → Makes a b r (exec-gate c inside (a .state) i)
+module _ (c : Circuit) (inside : Bool) (i g k : ℕ) (a b : Contents) (r : Step) (e : Entered c i g k) where
+  by-kind : (d : Stepped) → exec-kind c inside k (a .state) g (i - input c g 0) ≡ d → Makes a b r d → Makes a b r (exec-gate c inside (a .state) i)
   unfolding exec-gate
-  by-kind d h m = makes-as a b r d _ (rw (← eg, ← ek, ← ep) h) m
+  by-kind d h m = makes-as a b r d _ (rw (← (e .gate), ← (e .kind)) h) m
 
   pub on-buffer : OneOf (11 ∷ 13 ∷ []) k → Makes a b r (exec-Buffer c (a .state) g) → Makes a b r (exec-gate c inside (a .state) i)
   unfolding exec-kind if_then_else_
   on-buffer h m = by-kind _ (⊎-elim (λ (z : k ≡ 11). rw z) (λ (z : k ≡ 13). rw z) h) m
 
-  pub on-stopwatch : k ≡ 15 → Makes a b r (exec-Stopwatch c (a .state) g p) → Makes a b r (exec-gate c inside (a .state) i)
+  pub on-stopwatch : (p : ℕ) → k ≡ 15 → p ≡ i - input c g 0 → Makes a b r (exec-Stopwatch c (a .state) g p) → Makes a b r (exec-gate c inside (a .state) i)
   unfolding exec-kind if_then_else_
-  on-stopwatch h m = by-kind _ (rw h) m
+  on-stopwatch p h ep m = by-kind _ (rw (h, ← ep)) m
 
   pub on-queue : OneOf (16 ∷ 17 ∷ []) k → Makes a b r (exec-Queue c (a .state) g (queue-countdown (eqb (kind-of-gate c g) 17))) → Makes a b r (exec-gate c inside (a .state) i)
   unfolding exec-kind if_then_else_ queue-countdown
-  on-queue h m = by-kind _ (rw (← ek) (⊎-elim (λ (z : k ≡ 16). rw z) (λ (z : k ≡ 17). rw z) h)) m
+  on-queue h m = by-kind _ (rw (← (e .kind)) (⊎-elim (λ (z : k ≡ 16). rw z) (λ (z : k ≡ 17). rw z) h)) m
 
   pub on-var-get : k ≡ 18 → Makes a b r (exec-VarGet c (a .state) g) → Makes a b r (exec-gate c inside (a .state) i)
   unfolding exec-kind if_then_else_
@@ -104,9 +104,9 @@ module _ (c : Circuit) (inside : Bool) (i g k p : ℕ) (a b : Contents) (r : Ste
   unfolding exec-kind if_then_else_
   on-toggle h m = by-kind _ (rw h) m
 
-  pub on-cycle : k ≡ 23 → Makes a b r (exec-Cycle c (a .state) g p) → Makes a b r (exec-gate c inside (a .state) i)
+  pub on-cycle : (p : ℕ) → k ≡ 23 → p ≡ i - input c g 0 → Makes a b r (exec-Cycle c (a .state) g p) → Makes a b r (exec-gate c inside (a .state) i)
   unfolding exec-kind if_then_else_
-  on-cycle h m = by-kind _ (rw h) m
+  on-cycle p h ep m = by-kind _ (rw (h, ← ep)) m
 
   pub on-break : k ≡ 31 → Makes a b r (exec-Break c (a .state) g) → Makes a b r (exec-gate c inside (a .state) i)
   unfolding exec-kind if_then_else_
@@ -116,17 +116,17 @@ module _ (c : Circuit) (inside : Bool) (i g k p : ℕ) (a b : Contents) (r : Ste
   unfolding exec-kind if_then_else_
   on-send h m = by-kind _ (⊎-elim (λ (z : k ≡ 24). rw z) (λ (z : k ≡ 25). rw z) h) m
 
-module _ (c : Circuit) (inside : Bool) (i g k p : ℕ) (a : Contents) (eg : g ≡ gate-at-input c i) (ep : p ≡ i - input c g 0) (ek : k ≡ kind-of-gate c g) where
+module _ (c : Circuit) (inside : Bool) (i g k : ℕ) (a : Contents) (e : Entered c i g k) where
   pub on-reroute : (o : ℕ) → k ≡ 2 → (o ≡ output c g 0) × (o < 131072) → Makes a a (Fires o) (exec-gate c inside (a .state) i)
   unfolding exec-kind if_then_else_
-  on-reroute o h e = by-kind c inside i g k p a a (Fires o) eg ep ek _ (rw h) (makes-passes a o (output c g 0) (e .0))
+  on-reroute o h f = by-kind c inside i g k a a (Fires o) e _ (rw h) (makes-passes a o (output c g 0) (f .0))
 
   on-others :
       (k ≡ 2 → ⊥) → (k ≡ 11 → ⊥) → (k ≡ 13 → ⊥) → (k ≡ 15 → ⊥) → (k ≡ 16 → ⊥) → (k ≡ 17 → ⊥) → (k ≡ 18 → ⊥) → (k ≡ 19 → ⊥) → (k ≡ 20 → ⊥) → (k ≡ 21 → ⊥) → (k ≡ 22 → ⊥) → (k ≡ 23 → ⊥) → (k ≡ 24 → ⊥) → (k ≡ 25 → ⊥) → (k ≡ 31 → ⊥) →
       Makes a a Ends (exec-gate c inside (a .state) i)
   unfolding exec-kind if_then_else_
   on-others h₂ h₁₁ h₁₃ h₁₅ h₁₆ h₁₇ h₁₈ h₁₉ h₂₀ h₂₁ h₂₂ h₂₃ h₂₄ h₂₅ h₃₁ =
-      by-kind c inside i g k p a a Ends eg ep ek _
+      by-kind c inside i g k a a Ends e _
       (rw (
         ne-eqb k 2 h₂,
         ne-eqb k 11 h₁₁,

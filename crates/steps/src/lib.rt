@@ -10,11 +10,9 @@ ghost use Rattle.links.specs.Lent.{Linked, net-of, Room};
 ghost use Rattle.states.specs.View.{is-queue, queue-countdown};
 ghost use Rattle.states.specs.Lent.{Slots, Slots-stay};
 ghost use Rattle.areas.specs.Lent.{Over-all, Over-values, Over-delays, Over-values-delays, Over-values-units, All-lent};
-ghost use Rattle.steps.specs.Steps.{Makes};
+ghost use Rattle.steps.specs.Steps.{Entered, Makes};
 use cycle::cycle_next;
-use links::gate_at_input;
 use links::input;
-use links::kind_of_gate;
 use links::output;
 use links::setting;
 use lists::Filed;
@@ -222,32 +220,33 @@ fn pin(links: &[usize], g: usize, i: usize) -> usize
     less(i, input(links, g, 0))
 }
 
-// The gate that has input i, entered through it; `inside` says whether a body is running.
+// Gate g, of kind k, entered through its input i; `inside` says whether a body is running.
 pub fn exec(
     links: &[usize],
     values: &mut [u8],
     units: &mut [u8],
     delays: &mut [u8],
     i: usize,
+    g: usize,
+    k: u64,
     inside: bool,
 ) -> Step
     requires { ⌜ All-lent links values units delays ⌝ }
+    requires { ⌜ Entered (net (now links)) i g k ⌝ }
     ensures { λ r. ⌜ Over-all links values units delays (λ c old new. Makes old new r (exec-gate c inside (old .state) i)) ⌝ }
     ensures { λ _. ⌜ Slots-stay links delays ⌝ }
 {
-    let g = gate_at_input(links, i);
-    let p = pin(links, g, i);
-    match kind_of_gate(links, g) {
+    match k {
         2 => Step::Fires(output(links, g, 0)),
         11 | 13 => exec_buffer(links, delays, g),
-        15 => exec_stopwatch(links, values, delays, g, p),
+        15 => exec_stopwatch(links, values, delays, g, pin(links, g, i)),
         16..=17 => exec_queue(links, values, delays, g),
         18 => exec_var_get(links, values, g),
         19 => exec_var_set(links, values, g, inside),
         20 => exec_branch(links, values, g),
         21 => exec_union(links, values, g),
         22 => exec_toggle(links, values, g),
-        23 => exec_cycle(links, values, g, p),
+        23 => exec_cycle(links, values, g, pin(links, g, i)),
         24..=25 => exec_send(links, values, units, g),
         31 => exec_break(links, values, g),
         _ => Step::Ends,

@@ -27,7 +27,7 @@ use links::kind_of_gate;
 use links::output;
 use lists::Filed;
 use loops::run_chain;
-use settling::settle;
+use settling::check_waiting;
 use stops::LIST_FULL;
 use units::Place;
 use units::calls::clear_calls;
@@ -38,7 +38,9 @@ use units::entries::gate_of;
 use units::events::event_value;
 use units::events::events;
 use units::forms::STIMULUS;
+use wires::checks::checks_waiting;
 use wires::marking::set_out;
+use wires::refreshing::refresh_all;
 use wires::written::publish_writes;
 
 // The entry that a unit begins with: one that waited, or a delivered event.
@@ -184,7 +186,11 @@ fn finish(
         return stop;
     }
     publish_writes(links, values);
-    stop_of(settle(links, values, units, delays, to))
+    refresh_all(links, values);
+    if checks_waiting(links, values) == 0 {
+        return 0;
+    }
+    stop_of(check_waiting(links, values, units, delays, to))
 }
 
 // A unit, whose tick may still make `left` steps; what it raises goes where `to` says.

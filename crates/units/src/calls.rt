@@ -42,6 +42,14 @@ pub fn calls_waiting(units: &[u8]) -> usize
     count(&units[STACK..FORKS], MOST_CALLS)
 }
 
+// How many forks wait.
+pub fn forks_waiting(units: &[u8]) -> usize
+    requires { ⌜ Room units ⌝ }
+    ensures { λ r. ⌜ Reads units (λ _ u. r ≡ length (u .calls .forks)) ⌝ }
+{
+    count(&units[FORKS..PENDING], MOST_CALLS)
+}
+
 // The next call to make is taken off: from the stack, as long as more than `under` wait there, else from the forks, which wait while a body is running.
 pub fn pop_call(units: &mut [u8], under: usize, inside: bool) -> Taken
     requires { ⌜ Room units ⌝ }

@@ -9,7 +9,7 @@ use lib.ListN.{length, getD}
 use lib.Seq.{set-out, getD-set-same}
 use Rattle.words.specs.Words.{words, Stored}
 use Rattle.words.specs.Tables.{marked, ring}
-use Rattle.words.proofs.Tables.{take-set, map-marked-set, ring-pop}
+use Rattle.words.proofs.Tables.{take-set, map-marked-set, ring-length, ring-pop}
 use Rattle.model.specs.Circuit.{Circuit}
 use Rattle.model.specs.State.{Wires, to-check≔, late-checks≔}
 use Rattle.model.specs.Settle.{taken}
@@ -59,6 +59,10 @@ module _ (c : Circuit) (bs : List ℕ) (i n : ℕ) (en : Counts 640 n (length (c
       )
 
 module _ (c : Circuit) (bs : List ℕ) (n : ℕ) (l : 65536 ≤ length bs) (en : n ≡ getD (words bs) 6 0) where
+  pub so-many-wait : n ≡ length (values c bs .wires .to-check)
+  unfolding values
+  so-many-wait = en ∙ cut-peek (words bs) 6 0 (omega arith) ∙ sym (ring-length _ _ (cut (words bs) .slots))
+
   pub take-none : n ≡ 0 → ((waiting NoInput ≡ oldest (values c bs .wires)) × (values c bs ≡ with-wires (values c bs) (oldest-taken (values c bs .wires)))) × (for-late NoInput ≡ oldest-late (values c bs .wires))
   unfolding values ring oldest oldest-taken oldest-late waiting for-late
   take-none z =
@@ -93,7 +97,7 @@ module _ (c : Circuit) (bs : List ℕ) (n : ℕ) (l : 65536 ≤ length bs) (en :
           )
 
       pub take-some :
-          (v : Values) (b : Bool) → b ≡ getD (values c bs .wires .late-checks) i false →
+          (v : Values) (b : Bool) → b ≡ getD (values c bs₂ .wires .late-checks) i false →
           v ≡ with-wires (values c bs₂) (taken (values c bs₂ .wires) i (values c bs₂ .wires .to-check)) →
           ((waiting (Input i b) ≡ oldest (values c bs .wires)) × (v ≡ with-wires (values c bs) (oldest-taken (values c bs .wires)))) × (for-late (Input i b) ≡ oldest-late (values c bs .wires))
       unfolding taken to-check≔ late-checks≔ waiting for-late
@@ -102,5 +106,5 @@ module _ (c : Circuit) (bs : List ℕ) (n : ℕ) (l : 65536 ≤ length bs) (en :
           took-oldest (values c bs .wires) i _ waits,
           e ∙ ap (λ (u : Values). with-wires u (taken (u .wires) i (u .wires .to-check))) moved ∙ ap (with-wires (values c bs)) (took-rest (values c bs .wires) i _ waits),
         ),
-        eb ∙ took-late (values c bs .wires) i _ waits,
+        eb ∙ ap (λ (u : Values). getD (u .wires .late-checks) i false) moved ∙ took-late (values c bs .wires) i _ waits,
       )

@@ -2,7 +2,7 @@
 ghost use mathlib.Core.Path.{_≡_};
 ghost use mathlib.Core.Bool.{false};
 ghost use mathlib.Core.Option.{none, some};
-ghost use lib.ListN.{getD, set};
+ghost use lib.ListN.{length, getD, set};
 ghost use Rattle.model.specs.State.{last≔};
 ghost use Rattle.model.specs.Wires.{watch};
 ghost use Rattle.model.specs.Settle.{taken};
@@ -46,27 +46,27 @@ pub fn watch(links: &[usize], values: &mut [u8], i: usize)
     }
 }
 
-// Whether input i is marked for a late check.
-pub fn is_late(links: &[usize], values: &[u8], i: usize) -> bool
+// How many inputs wait to be checked.
+pub fn checks_waiting(links: &[usize], values: &[u8]) -> u64
     requires { ⌜ Linked links × Room values ⌝ }
-    ensures { λ r. ⌜ r ≡ getD (wires-in links values .late-checks) i false ⌝ }
+    ensures { λ r. ⌜ r ≡ length (wires-in links values .to-check) ⌝ }
 {
-    if i < inputs(links) {
-        get(values, LATE_CHECKS + i) != 0
-    } else {
-        false
-    }
+    get(values, COUNT)
 }
 
-// Input i may be queued again, and its mark for a late check is gone.
-fn unqueue(links: &[usize], values: &mut [u8], i: usize)
+// Input i may be queued again, and its mark for a late check is gone: whether it had one.
+fn unqueue(links: &[usize], values: &mut [u8], i: usize) -> bool
     requires { ⌜ Linked links × Room values ⌝ }
+    ensures { λ r. ⌜ r ≡ getD (wires-in links values .late-checks) i false ⌝ }
     ensures { λ _. ⌜ Turns links values (λ _ w. taken w i (w .to-check)) ⌝ }
 {
     if i < inputs(links) {
+        let late = get(values, LATE_CHECKS + i) != 0;
         put(values, QUEUED + i, 0);
         put(values, LATE_CHECKS + i, 0);
+        return late;
     }
+    false
 }
 
 // The input that waits longest is taken, and may be queued again.
@@ -81,10 +81,9 @@ pub fn take_check(links: &[usize], values: &mut [u8]) -> Waiting
     }
     let h = get(values, HEAD) as usize % PLACES;
     let i = get(values, SLOTS + h) as usize;
-    let late = is_late(links, values, i);
     put(values, HEAD, h as u64 + 1);
     put(values, COUNT, n - 1);
-    unqueue(links, values, i);
+    let late = unqueue(links, values, i);
     Waiting::Input(i, late)
 }
 

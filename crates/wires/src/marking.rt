@@ -183,5 +183,7 @@ pub fn set_out(links: &[usize], values: &mut [u8], o: usize, v: Value)
         return;
     }
     show(links, values, o, v);
-    mark_readers(links, values, o);
+    // as mark_readers does, without a slice handed on once more
+    set_marking(links, values, false);
+    mark_from(links, values, o);
 }

@@ -21,9 +21,6 @@ add-get c = search needs
 get-requires-3 : tie.Need-get-requires-3
 get-requires-3 c κs = search needs
 
-is-late-requires : tie.Need-is-late-requires
-is-late-requires c κs = search needs
-
 add-put : tie.Need-add-put
 add-put c = search needs
 
@@ -43,7 +40,7 @@ same-length-2 : tie.Need-same-length-2
 same-length-2 c = search needs
 
 returns-2 : tie.Need-returns-2
-returns-2 c = take-some _ _ _ (search needs) (c .before .before .before .before .before .before .before .before .before .before .before .before .before .before .before .before .before .before .before .get .ensures) _ _ (c .before .before .before .before .before .before .before .before .before .before .before .before .before .before .before .before .before .before .if1 .left) (c .before .before .before .before .before .before .before .before .before .before .before .before .before .before .before .before .get2 .ensures) (c .before .before .before .before .before .before .before .before .before .before .before .before .before .before .get3 .ensures) _ _ (c .before .before .before .before .before .before .before .before .before .before .put .ensures) (c .before .before .before .before .before .before .put2 .ensures) _ _ (c .before .before .before .before .before .before .before .before .before .before .before .before .is-late .ensures) (c .before .before .unqueue .ensures)
+returns-2 c = take-some _ _ _ (search needs) (c .before .before .before .before .before .before .before .before .before .before .before .before .before .before .before .before .before .get .ensures) _ _ (c .before .before .before .before .before .before .before .before .before .before .before .before .before .before .before .before .if1 .left) (c .before .before .before .before .before .before .before .before .before .before .before .before .before .before .get2 .ensures) (c .before .before .before .before .before .before .before .before .before .before .before .before .get3 .ensures) _ _ (c .before .before .before .before .before .before .before .before .before .before .put .ensures) (c .before .before .before .before .before .before .put2 .ensures) _ _ (c .before .before .unqueue .ensures .0) (c .before .before .unqueue .ensures .1)
 
 pub take-check-spec : {M : Type 1} → statement M
 take-check-spec =
@@ -55,7 +52,6 @@ take-check-spec =
     get-requires-2
     add-get
     get-requires-3
-    is-late-requires
     add-put
     put-requires
     sub-put

@@ -1,11 +1,8 @@
-use Rattle.settling.proofs.Turns.{rounds-few, settled-all}
 use native.Mathlib.Omega.{arith}
+use Rattle.settling.proofs.Turns.{rounds-few, all-checked}
 use borrow.Author.Needs.{needs}
-use Rattle.settling.proofs.settle.Statement.{statement}
-use Rattle.settling.proofs.settle.Tie as tie
-
-refresh-all-requires : tie.Need-refresh-all-requires
-refresh-all-requires c κs = search needs
+use Rattle.settling.proofs.check_waiting.Statement.{statement}
+use Rattle.settling.proofs.check_waiting.Tie as tie
 
 inputs-requires : tie.Need-inputs-requires
 inputs-requires c κs = search needs
@@ -35,13 +32,12 @@ same-length-3 : tie.Need-same-length-3
 same-length-3 c = search needs
 
 returns : tie.Need-returns
-returns c = (settled-all _ _ _ _ _ _ _ _ _ _ (c .before .before .before .before .before .before .before .before .before .before .before .before .before .before .refresh-all .ensures) (c .before .before .before .before .before .before .before .before .before .before .before .inputs .ensures) (c .before .before .before .before .before .before .before .before .before .before .outputs .ensures) (c .before .before .before .before .before .before .settle-on .ensures .0), c .before .before .before .before .before .before .settle-on .ensures .1)
+returns c = (all-checked _ _ _ _ _ _ _ (c .before .before .before .before .before .before .before .before .before .before .before .inputs .ensures) (c .before .before .before .before .before .before .before .before .before .before .outputs .ensures) (c .before .before .before .before .before .before .settle-on .ensures .0), c .before .before .before .before .before .before .settle-on .ensures .1)
 
-pub settle-spec : {M : Type 1} → statement M
-settle-spec =
+pub check-waiting-spec : {M : Type 1} → statement M
+check-waiting-spec =
     tie.close
     (tie.spec
-    refresh-all-requires
     inputs-requires
     add-rounds
     outputs-requires
