@@ -1,11 +1,15 @@
 -- What contracts say of settling, over the circuit of the links.
+use Prim.Native.Nat.{ℕ, _+_, _-_}
 use mathlib.Core.Path.{_≡_}
 use mathlib.Core.Option.{Option}
 use Rattle.words.specs.Slices.{Slice, before, after}
 use Rattle.schedule.specs.Schedule.{When, Filed}
-use Rattle.model.specs.Circuit.{Circuit}
-use Rattle.model.specs.State.{State}
-use Rattle.model.specs.Settle.{Settled}
+use Rattle.model.specs.declared.Value.{Value}
+use Rattle.model.specs.Base.{if_then_else_}
+use Rattle.model.specs.Value.{truthy}
+use Rattle.model.specs.Circuit.{Circuit, input}
+use Rattle.model.specs.State.{form-pin, State}
+use Rattle.model.specs.Settle.{Settled, calm, raise}
 use Rattle.links.specs.Lent.{net-of}
 use Rattle.wires.specs.Lent.{values-in, values-out}
 use Rattle.states.specs.View.{Delays, delays}
@@ -31,6 +35,10 @@ Acts-in-both links vs ds f r =
     (delays (net-of links) (after ds))
     (f (net-of links))
     r
+
+-- r is what pin i of gate g raises by what it reads: the gate, where that is true
+abbrev pub Pin-raises : Circuit → ℕ → ℕ → Value → Raised → Type 0
+Pin-raises c g i v r = (when : When) (s : State) → settled c when s r ≡ (if truthy v then raise when s g (form-pin + (i - input c g 0)) else calm s)
 
 -- a became b, and r is what z raises, however what may wait is raised
 abbrev pub Settles : Circuit → Contents → Contents → Raised → (When → Settled) → Type 0

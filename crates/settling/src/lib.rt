@@ -1,13 +1,12 @@
 // Settling: each watched input that a change reached is read again and acted on.
 ghost use mathlib.Core.Path.{_≡_};
 ghost use mathlib.Core.Bool.{true};
-ghost use Prim.Native.Nat.{ℕ, _+_, _-_, _<_};
+ghost use Prim.Native.Nat.{ℕ, _+_, _<_};
 ghost use Rattle.words.specs.Slices.{was};
 ghost use Rattle.schedule.specs.Schedule.{When, by-rank, put-off};
-ghost use Rattle.model.specs.Base.{if_then_else_};
 ghost use Rattle.model.specs.Value.{truthy};
-ghost use Rattle.model.specs.Circuit.{Circuit, input, output, most-inputs};
-ghost use Rattle.model.specs.State.{State, wires≔};
+ghost use Rattle.model.specs.Circuit.{Circuit, output, most-inputs};
+ghost use Rattle.model.specs.State.{form-output, State, wires≔};
 ghost use Rattle.model.specs.Settle.{Settled, calm, raise, pulse, edge, check, most-checks};
 ghost use Rattle.links.specs.Lent.{Linked, net-of, Room, Short};
 ghost use Rattle.states.specs.Lent.{Slots, Slots-stay};
@@ -18,7 +17,7 @@ ghost use Rattle.areas.specs.Lent.{Over-all, Over-values-delays, Goes, All-lent
 ghost use Rattle.settling.specs.declared.Raised.the-variants.{Nothing};
 ghost use Rattle.settling.specs.Settling.{settled};
 ghost use Rattle.settling.specs.Rounds.{acted, hit-by, goes-on, round-of};
-ghost use Rattle.settling.specs.Lent.{Acts-in-values, Acts-in-both, Settles, Files-in-round, Goes-round};
+ghost use Rattle.settling.specs.Lent.{Acts-in-values, Acts-in-both, Pin-raises, Settles, Files-in-round, Goes-round};
 use floats::lt64;
 use links::gate_at_input;
 use links::input;
@@ -107,7 +106,7 @@ fn edge_pulse(links: &[usize], values: &mut [u8], g: usize, was: Value, v: Value
 
 // An EdgeExec: it is raised, by its output for the direction.
 fn edge_raised(g: usize, was: Value, v: Value) -> Raised
-    ensures { λ r. ⌜ (Short g → (c : Circuit) (when : When) (s : State) → settled c when s r ≡ edge c s was v (λ t o. raise by-rank t g (32 + o))) ⌝ }
+    ensures { λ r. ⌜ (Short g → (c : Circuit) (when : When) (s : State) → settled c when s r ≡ edge c s was v (λ t o. raise by-rank t g (form-output + o))) ⌝ }
 {
     let e = edge_of(was, v);
     match e {
@@ -120,7 +119,7 @@ fn edge_raised(g: usize, was: Value, v: Value) -> Raised
 // Input i of gate g, an exec pin: the gate is raised where the value is true.
 fn pin_raised(links: &[usize], g: usize, i: usize, v: Value) -> Raised
     requires { ⌜ Linked links ⌝ }
-    ensures { λ r. ⌜ (Short g → (truthy v ≡ true → i < most-inputs) → (when : When) (s : State) → settled (net-of links) when s r ≡ (if truthy v then raise when s g (16 + (i - input (net-of links) g 0)) else calm s)) ⌝ }
+    ensures { λ r. ⌜ (Short g → (truthy v ≡ true → i < most-inputs) → Pin-raises (net-of links) g i v r) ⌝ }
 {
     if truthy(v) {
         let p = less(i, input(links, g, 0));
