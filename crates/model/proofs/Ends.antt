@@ -120,6 +120,12 @@ module _ (Q : ℕ → Type 0) (z : Q 0) (r : Q runaway) (f : Q list-full) (l : Q
     unfolding seen ticks-of
     run-stop room is = last-of _ (every S (λ t. Q (t .stop)) tick-stop is _)
 
+-- so of the run of a script
+pub stop-as :
+    (Q : ℕ → Type 0) → Q 0 → Q runaway → Q list-full → Q log-full → (room : ℕ) (c : Circuit) (ws : List ℕ) → Q (play room c ws .stop)
+unfolding play
+stop-as Q z r f l room c ws = run-stop Q z r f l c room (ticks-get c ws)
+
 -- ---- a refusal
 
 -- 0 for none, 1 to 10, or 19
@@ -153,9 +159,9 @@ refusal-number areas cb sb = or-number _ _ (circuit-number areas cb) (script-num
 
 -- every answer has one of these numbers
 pub numbers : (areas : Areas) (room : ℕ) (cb sb : List ℕ) → Answers (answer areas room cb sb)
-unfolding answer answer-to play among
+unfolding answer answer-to among
 numbers areas room cb sb = go (refusal (some areas) cb sb) (refusal-number (some areas) cb sb)
   where
     go : (n : ℕ) → Asks n → Answers (answer-to n room cb sb)
-    go zero h = is-played (run-stop (λ s. among s (0 ∷ 11 ∷ 12 ∷ 13 ∷ []) ≡ true) refl refl refl refl (circuit (words cb)) room (ticks-get (circuit (words cb)) (words sb)))
+    go zero h = is-played (stop-as (λ s. among s (0 ∷ 11 ∷ 12 ∷ 13 ∷ []) ≡ true) refl refl refl refl room (circuit (words cb)) (words sb))
     go (suc n) h = let one : 1 ≤ suc n = omega arith in is-refused one h

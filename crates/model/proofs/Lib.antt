@@ -90,3 +90,7 @@ pub mod Unread
 pub mod Visiting
 -- the start is noticed in tick 1: `noticed`, `as-change`, `begins-first`
 pub mod Noticing
+-- all that is promised of a call: `promised`
+pub mod Promises
+-- a class: `leaves-refused`
+pub mod Classes

@@ -54,6 +54,16 @@ unfoldable pub number : Answer → ℕ
 number (refused n) = n
 number (played p) = p .stop
 
+-- how many ticks were done
+unfoldable pub ticks-done : Answer → ℕ
+ticks-done (refused n) = 0
+ticks-done (played p) = p .ticks
+
+-- how many bytes of the log hold records
+unfoldable pub log-bytes : Answer → ℕ
+log-bytes (refused n) = 0
+log-bytes (played p) = 8 * length (p .log)
+
 -- What a call can answer: it is refused with 1 to 10 or 19, or played to the script's end, 0, or to a stop, 11, 12 or 13.
 pub data Answers : Answer → Type 0 where
   is-refused : {n : ℕ} → 1 ≤ n → (n ≤ 10) ⊎ (n ≡ 19) → Answers (refused n)
@@ -71,5 +81,5 @@ area-after (played p) area = replicate (length area) 0
 
 -- opens the whole definition, for proofs by computation
 unfoldable pub model-opened : ℕ
-unfolding words bytes schedule-opened base-opened value-opened kinds-opened circuit-opened script-opened state-opened wires-opened delays-opened exec-opened chain-opened loops-opened settle-opened opening-opened unit-opened record-opened closing-opened run-opened questions-opened play answer-to answer checked number log-after area-after
+unfolding words bytes schedule-opened base-opened value-opened kinds-opened circuit-opened script-opened state-opened wires-opened delays-opened exec-opened chain-opened loops-opened settle-opened opening-opened unit-opened record-opened closing-opened run-opened questions-opened play answer-to answer checked number ticks-done log-bytes log-after area-after
 model-opened = 0

@@ -17,6 +17,9 @@ pub mod Closing
 pub mod Run
 pub mod Questions
 pub mod Answer
+pub mod Book
+pub mod Several
+pub mod Class
 pub mod Table
 pub mod Order
 pub mod PutOff
@@ -25,3 +28,5 @@ pub mod Noticed
 pub mod Fresh
 pub mod Unread
 pub mod Seen
+pub mod Promises
+pub mod Classes
