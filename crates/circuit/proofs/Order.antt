@@ -4,7 +4,7 @@ use mathlib.Core.Path.{_≡_, refl, sym, ap, _∙_}
 use native.Mathlib.Omega.{arith}
 use mathlib.Core.Bool.{Bool, true, false, not, _&&_}
 use mathlib.Core.List.{List}
-use mathlib.Core.Option.{none, some}
+use mathlib.Core.Option.{Option, none, some}
 use lib.Dec.{leb}
 use Rattle.words.specs.Words.{words}
 use Rattle.model.specs.Base.{if_then_else_}
@@ -191,36 +191,40 @@ module _ (A : Areas) (c : Circuit) (n : ℕ) (q : n ≡ queues c) (t : Bool)
   unfolding areas-refusal if_then_else_
   areas-short h = rw (← lent, h)
 
-module _ (A : Areas) (s p : List ℕ) (x : ℕ) (e : x ≡ circuit-refusal none s) where
+module _ (A : Areas) (s : List ℕ) (x : ℕ) (e : x ≡ circuit-refusal none s) where
   -- refused whatever is lent
-  pub refused-before : (x ≡ 0 → ⊥) → x ≡ refusal (some A) s p
+  pub lent-early : (x ≡ 0 → ⊥) → x ≡ circuit-refusal (some A) s
+  lent-early n = first-number x _ _ e n ∙ sym (areas-later A s)
+
+  -- else by the areas
+  pub lent-late : (y : ℕ) → x ≡ 0 → y ≡ areas-refusal A (circuit (words s)) → y ≡ circuit-refusal (some A) s
+  lent-late y z f = later-number x y _ _ e z f ∙ sym (areas-later A s)
+
+module _ (A : Option Areas) (s p : List ℕ) (x : ℕ) (e : x ≡ circuit-refusal A s) where
+  -- the circuit refuses the call
+  pub asked-early : (x ≡ 0 → ⊥) → x ≡ refusal A s p
   unfolding refusal
-  refused-before n = first-number x _ _ (first-number x _ _ e n ∙ sym (areas-later A s)) n
+  asked-early n = first-number x _ _ e n
 
-  -- then the areas, and then the script
-  pub asked-later :
-      (z : x ≡ 0) (m n y : ℕ) → m ≡ areas-refusal A (circuit (words s)) → n ≡ script-refusal (circuit (words s)) p → y ≡ or-else m n → y ≡ refusal (some A) s p
-  unfolding refusal or-else
-  asked-later z m n y f g h = rw (h, f, g, areas-later A s, ← e, z)
+  -- else the script may
+  pub asked-late : (y : ℕ) → x ≡ 0 → y ≡ script-refusal (circuit (words s)) p → y ≡ refusal A s p
+  unfolding refusal
+  asked-late y z f = later-number x y _ _ e z f
 
--- with no areas
-pub checked-early : (s p : List ℕ) (x : ℕ) → x ≡ circuit-refusal none s → (x ≡ 0 → ⊥) → x ≡ refusal none s p
-unfolding refusal
-checked-early s p x e n = first-number x _ _ e n
-
-pub checked-late :
-    (s p : List ℕ) (x y : ℕ) → x ≡ circuit-refusal none s → x ≡ 0 → y ≡ script-refusal (circuit (words s)) p → y ≡ refusal none s p
-unfolding refusal
-checked-late s p x y e z f = later-number x y _ _ e z f
-
--- a circuit that is not refused has good sizes
-pub words-good : (s : List ℕ) → circuit-refusal none s ≡ 0 → words-refusal s ≡ 0
+-- where the first of two numbers decides
+none-first : (n m : ℕ) → or-else n m ≡ 0 → n ≡ 0
 unfolding or-else
-words-good s h = go (words-refusal s) (links-refusal (words s) (circuit (words s))) (sym (two-groups s) ∙ h)
-  where
-    go : (n m : ℕ) → or-else n m ≡ 0 → n ≡ 0
-    go zero m h = refl
-    go (suc n) m h = h
+none-first zero m h = refl
+none-first (suc n) m h = h
 
-pub sizes-good : (s : List ℕ) (x : ℕ) → x ≡ circuit-refusal none s → x ≡ 0 → question-1 s (words s) ≡ true
-sizes-good s x e z = words-passed s (words-good s (sym e ∙ z)) .sizes
+-- a circuit that is not refused with areas is not refused without
+pub none-lent : (A : Option Areas) (s : List ℕ) → circuit-refusal A s ≡ 0 → circuit-refusal none s ≡ 0
+none-lent none s h = h
+none-lent (some A) s h = none-first (circuit-refusal none s) (areas-refusal A (circuit (words s))) (sym (areas-later A s) ∙ h)
+
+-- and has good sizes
+pub words-good : (s : List ℕ) → circuit-refusal none s ≡ 0 → words-refusal s ≡ 0
+words-good s h = none-first (words-refusal s) (links-refusal (words s) (circuit (words s))) (sym (two-groups s) ∙ h)
+
+pub sizes-good : (A : Option Areas) (s : List ℕ) (x : ℕ) → x ≡ circuit-refusal A s → x ≡ 0 → question-1 s (words s) ≡ true
+sizes-good A s x e z = words-passed s (words-good s (none-lent A s (sym e ∙ z))) .sizes

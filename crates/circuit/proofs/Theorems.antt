@@ -4,14 +4,14 @@ use mathlib.Core.Path.{_≡_, sym, ap, _∙_}
 use mathlib.Core.Bool.{Bool, true}
 use mathlib.Core.List.{List}
 use Prim.Native.Nat.{ℕ}
-use mathlib.Core.Option.{none}
+use mathlib.Core.Option.{Option}
 use Rattle.words.specs.Words.{words}
 use Rattle.model.specs.Circuit.{circuit}
-use Rattle.model.specs.Questions.{question-6, circuit-refusal}
+use Rattle.model.specs.Questions.{Areas, question-6, circuit-refusal}
 use Rattle.model.proofs.Placing.{Ordered, ordered, order-suffices}
 use Rattle.links.specs.Links.{net}
 use Rattle.circuit.specs.Refusals.{made-by, links-after}
-use Rattle.circuit.proofs.Order.{words-good, links-show}
+use Rattle.circuit.proofs.Order.{none-lent, words-good, links-show}
 
 -- r is what `ordered` answers of these links, as its contract says
 module _ (links : List ℕ) (r : Bool) (answered : r ≡ question-6 (net links)) where
@@ -23,8 +23,8 @@ module _ (links : List ℕ) (r : Bool) (answered : r ≡ question-6 (net links))
 
 -- links are what the questions about the circuit `bytes` leave of `before`
 pub links-are-circuit :
-    (bytes before links : List ℕ) → circuit-refusal none bytes ≡ 0 → links ≡ links-after bytes before → net links ≡ circuit (words bytes)
+    (A : Option Areas) (bytes before links : List ℕ) → circuit-refusal A bytes ≡ 0 → links ≡ links-after bytes before → net links ≡ circuit (words bytes)
 unfolding links-after made-by
-links-are-circuit bytes before links h e =
-    let w = words-good bytes h in
+links-are-circuit A bytes before links h e =
+    let w = words-good bytes (none-lent A bytes h) in
     links-show bytes links w (e ∙ ap (λ (n : ℕ). made-by n bytes before) w)

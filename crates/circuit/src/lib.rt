@@ -5,7 +5,7 @@ ghost use mathlib.Core.Option.{none, some};
 ghost use Rattle.words.specs.Words.{words};
 ghost use Rattle.words.specs.Slices.{before, after, was};
 ghost use Rattle.model.specs.Circuit.{circuit as circuit-of};
-ghost use Rattle.model.specs.Questions.{question-1, circuit-refusal, script-refusal, or-else, refusal};
+ghost use Rattle.model.specs.Questions.{question-1, circuit-refusal, script-refusal, refusal};
 ghost use Rattle.links.specs.Links.{cells};
 ghost use Rattle.links.specs.Lent.{Linked};
 ghost use Rattle.circuit.specs.Refusals.{words-refusal, links-refusal, areas-refusal, links-after};
@@ -106,32 +106,23 @@ fn areas_refusal(circuit: &[u8], values: usize, units: usize, delays: usize) -> 
     }
 }
 
-// The number of an earlier question that was answered no, else that of a later one.
-fn earlier(number: u64, later: u64) -> u64
-    ensures { λ r. ⌜ r ≡ or-else number later ⌝ }
-{
-    if number != 0 { number } else { later }
-}
-
-// The number that a call with this circuit and script is refused with, or 0, where areas of these lengths are lent; and the links, for the call's run.
-pub fn refusal_and_links(
+// The number of the first question about a circuit whose answer is no, where areas of these lengths are lent; 0 where all are yes. The links are made where its words
+// pass, for the runs of the call.
+pub fn refusal_lent(
     circuit: &[u8],
-    script: &[u8],
     links: &mut [usize],
     values: usize,
     units: usize,
     delays: usize,
 ) -> u64
     requires { ⌜ Linked links ⌝ }
-    ensures { λ r. ⌜ (r ≡ refusal (some (record { values = values; units = units; delays = delays })) (before circuit) (before script)) × (after links ≡ links-after (before circuit) (before links)) ⌝ }
+    ensures { λ r. ⌜ (r ≡ circuit-refusal (some (record { values = values; units = units; delays = delays })) (before circuit)) × (after links ≡ links-after (before circuit) (before links)) ⌝ }
 {
     let first = circuit_refusal(circuit, links);
     if first != 0 {
         return first;
     }
-    let lent = areas_refusal(circuit, values, units, delays);
-    let asked = script_refusal(circuit, script);
-    earlier(lent, asked)
+    areas_refusal(circuit, values, units, delays)
 }
 
 // The number that a call with this circuit and script is refused with, or 0, where areas of these lengths are lent.
@@ -139,7 +130,11 @@ pub fn refusal(circuit: &[u8], script: &[u8], values: usize, units: usize, delay
     ensures { λ r. ⌜ r ≡ refusal (some (record { values = values; units = units; delays = delays })) (before circuit) (before script) ⌝ }
 {
     let mut links = [0usize; CELLS];
-    refusal_and_links(circuit, script, &mut links, values, units, delays)
+    let first = refusal_lent(circuit, &mut links, values, units, delays);
+    if first != 0 {
+        return first;
+    }
+    script_refusal(circuit, script)
 }
 
 // The number that a call with this circuit and script is refused with, or 0, where no areas are lent: it only checks.

@@ -7,20 +7,15 @@ use native.Mathlib.Omega.{arith}
 use lib.ListN.{length, replicate}
 use Rattle.words.specs.Words.{words}
 use Rattle.words.proofs.Laws.{Below}
-use Rattle.model.specs.Base.{if_then_else_}
 use Rattle.model.specs.Circuit.{Circuit, circuit}
-use Rattle.model.specs.Questions.{queues, refusal}
+use Rattle.model.specs.Questions.{queues, circuit-refusal, script-refusal, refusal}
 use Rattle.model.specs.Run.{Played, most-steps, ticks-of}
 use Rattle.model.specs.Answer.{refused, played, play, answer-to, answer, log-after, area-after}
 use Rattle.model.proofs.Asked.{Accepted, accepted}
-use Rattle.model.proofs.Ends.{numbers}
-use Rattle.model.proofs.InOrder.{in-order}
-use Rattle.model.proofs.Fresh.{begins-fresh}
-use Rattle.model.proofs.Noticing.{noticed}
+use Rattle.model.proofs.Promises.{promised}
 use Rattle.links.specs.Links.{net}
 use Rattle.links.specs.Lent.{least-area}
-use Rattle.circuit.specs.Refusals.{words-refusal, made-by, links-after}
-use Rattle.circuit.proofs.Order.{links-show}
+use Rattle.circuit.proofs.Order.{asked-early, asked-late}
 use Rattle.states.specs.View.{queue-at}
 use Rattle.unit.specs.Unit.{Few-calls}
 use Rattle.run.specs.declared.Answer.the-variants.{Refused, Played as Finished}
@@ -31,8 +26,6 @@ use Rattle.run.proofs.Fewer.{few-calls, good-script, large}
 use Rattle.run.proofs.Bytes.{logged-bytes}
 
 module _ (k : Call) (n : ℕ) (e : n ≡ refusal (some (lent k)) (k .circuit) (k .script)) where
-  -- ---- refused
-
   refused-answer : (n ≡ 0 → ⊥) → call-answer k ≡ refused n
   unfolding answer answer-to
   refused-answer f = ap (λ (m : ℕ). answer-to m (length (k .log)) (k .circuit) (k .script)) (sym e) ∙ go n f
@@ -42,41 +35,45 @@ module _ (k : Call) (n : ℕ) (e : n ≡ refusal (some (lent k)) (k .circuit) (k
       go (suc m) f = refl
 
   -- a call that is refused leaves all as it was
-  pub call-refused : (n ≡ 0 → ⊥) → Right k (record { log = k .log; values = k .values; units = k .units; delays = k .delays }) (λ a. Refused n ≡ told a)
+  call-refused : (n ≡ 0 → ⊥) → Right k (record { log = k .log; values = k .values; units = k .units; delays = k .delays }) (λ a. Refused n ≡ told a)
   unfolding told log-after area-after
   call-refused f =
       let x = refused-answer f in
       record {
         answer = rw x refl;
-        numbers = numbers _ _ _ _;
         log = rw x refl;
         values = rw x refl;
         units = rw x refl;
         delays = rw x refl;
-        order = in-order _ _ _ _;
-        begins-fresh = begins-fresh _ _ _ _;
-        notices = noticed _ _ _;
+        promised = promised _ _ _ _;
       }
+
+-- by its circuit
+pub circuit-refused :
+    (k : Call) (n : ℕ) → n ≡ circuit-refusal (some (lent k)) (k .circuit) → (n ≡ 0 → ⊥) →
+    Right k (record { log = k .log; values = k .values; units = k .units; delays = k .delays }) (λ a. Refused n ≡ told a)
+circuit-refused k n e f = call-refused k n (asked-early _ _ _ n e f) f
+
+-- ---- a circuit that is not refused
+module _ (k : Call) (good : circuit-refusal (some (lent k)) (k .circuit) ≡ 0) (n : ℕ) (e : n ≡ script-refusal (circuit (words (k .circuit))) (k .script)) where
+  asked : n ≡ refusal (some (lent k)) (k .circuit) (k .script)
+  asked = asked-late _ _ _ 0 (sym good) n refl e
+
+  -- refused by its script
+  pub script-refused : (n ≡ 0 → ⊥) → Right k (record { log = k .log; values = k .values; units = k .units; delays = k .delays }) (λ a. Refused n ≡ told a)
+  script-refused f = call-refused k n asked f
 
   -- ---- not refused
   module _ (none : n ≡ 0) where
     passed : Accepted (some (lent k)) (k .circuit) (k .script)
-    passed = accepted (some (lent k)) (k .circuit) (k .script) (sym e ∙ none)
+    passed = accepted (some (lent k)) (k .circuit) (k .script) (sym asked ∙ none)
 
     played-answer : call-answer k ≡ played (play (length (k .log)) (circuit (words (k .circuit))) (words (k .script)))
     unfolding answer answer-to
-    played-answer = ap (λ (m : ℕ). answer-to m (length (k .log)) (k .circuit) (k .script)) (sym e ∙ none)
-
-    words-passed : words-refusal (k .circuit) ≡ 0
-    unfolding words-refusal if_then_else_
-    words-passed = rw (passed .sizes, passed .constants, passed .gates) refl
+    played-answer = ap (λ (m : ℕ). answer-to m (length (k .log)) (k .circuit) (k .script)) (sym asked ∙ none)
 
     -- the links show the circuit
-    module _ (before links : List ℕ) (l : links ≡ links-after (k .circuit) before) where
-      shows : net links ≡ circuit (words (k .circuit))
-      unfolding links-after made-by
-      shows = links-show (k .circuit) links words-passed (l ∙ ap (λ (m : ℕ). made-by m (k .circuit) before) words-passed)
-
+    module _ (links : List ℕ) (shows : net links ≡ circuit (words (k .circuit))) where
       -- what a run needs
       pub few-called : Few-calls (net links)
       few-called = subst Few-calls (sym shows) (few-calls (some (lent k)) (k .circuit) (k .script) passed)
@@ -118,14 +115,11 @@ module _ (k : Call) (n : ℕ) (e : n ≡ refusal (some (lent k)) (k .circuit) (k
           let y : Logged p (k .log) (left .log) size stop t = logged-circuit (left .log) size stop t g in
           record {
             answer = rw x (alike stop (p .stop) t (p .ticks) size (length (p .log)) (y .stop) (y .ticks) (y .size));
-            numbers = numbers _ _ _ _;
             log = rw x (logged-bytes p (k .log) (left .log) size stop t b b₁ h y);
             values = rw x ev;
             units = rw x eu;
             delays = rw x ed;
-            order = in-order _ _ _ _;
-            begins-fresh = begins-fresh _ _ _ _;
-            notices = noticed _ _ _;
+            promised = promised _ _ _ _;
           }
         where
           alike : (s s₁ t t₁ a b : ℕ) → s₁ ≡ s → t₁ ≡ t → b ≡ a → Finished s t (a * 8) ≡ Finished s₁ t₁ (8 * b)

@@ -14,9 +14,10 @@ ghost use Rattle.areas.specs.Lent.{Over-all};
 ghost use Rattle.unit.specs.Unit.{Few-calls};
 ghost use Rattle.run.specs.Running.{Good-script, Logs, Started, Zeroed};
 ghost use Rattle.run.specs.Told.{told};
-ghost use Rattle.run.specs.Call.{Right-call};
+ghost use Rattle.run.specs.Call.{Right-call, Ready};
 use crate::clearing::clear;
-use circuit::refusal_and_links;
+use circuit::refusal_lent;
+use circuit::script_refusal;
 use links::layout::CELLS;
 use ticks::tick;
 use words::get;
@@ -129,6 +130,31 @@ fn perform(
     played
 }
 
+// One script of a call whose circuit is not refused: the questions about the script, and where none of them refuses it its run.
+pub fn script_answer(
+    circuit: &[u8],
+    links: &[usize],
+    script: &[u8],
+    log: &mut [u8],
+    values: &mut [u8],
+    units: &mut [u8],
+    delays: &mut [u8],
+) -> Answer
+    requires { ⌜ Linked links × Ready links circuit values units delays ⌝ }
+    ensures { λ r. ⌜ Right-call circuit script log values units delays (λ a. r ≡ told a) ⌝ }
+{
+    let number = script_refusal(circuit, script);
+    if number != 0 {
+        return Answer::Refused(number);
+    }
+    let played = perform(links, script, log, values, units, delays);
+    Answer::Played {
+        stop: played.stop,
+        ticks: played.ticks,
+        bytes: (played.size * 8) as u64,
+    }
+}
+
 // The whole call: the questions, and where none of them refuses it the run of the script over the circuit.
 pub fn run(
     circuit: &[u8],
@@ -141,21 +167,9 @@ pub fn run(
     ensures { λ r. ⌜ Right-call circuit script log values units delays (λ a. r ≡ told a) ⌝ }
 {
     let mut links = [0usize; CELLS];
-    let number = refusal_and_links(
-        circuit,
-        script,
-        &mut links,
-        values.len(),
-        units.len(),
-        delays.len(),
-    );
+    let number = refusal_lent(circuit, &mut links, values.len(), units.len(), delays.len());
     if number != 0 {
         return Answer::Refused(number);
     }
-    let played = perform(&links, script, log, values, units, delays);
-    Answer::Played {
-        stop: played.stop,
-        ticks: played.ticks,
-        bytes: (played.size * 8) as u64,
-    }
+    script_answer(circuit, &links, script, log, values, units, delays)
 }

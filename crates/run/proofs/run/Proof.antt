@@ -1,26 +1,39 @@
-use Rattle.run.proofs.Calls.{call-refused, few-called, fitting, large-values, large-units, large-delays, call-played}
-use native.Mathlib.Omega.{arith}
+use mathlib.Core.Path.{sym, _∙_}
+use Rattle.run.proofs.Calls.{circuit-refused}
+use Rattle.run.specs.Call.{Call}
+use Rattle.circuit.proofs.Theorems.{links-are-circuit}
 use borrow.Author.Needs.{needs}
 use Rattle.run.proofs.run.Statement.{statement}
 use Rattle.run.proofs.run.Tie as tie
+use Rattle.run.proofs.run.Reads as reads
+use Rattle.run.proofs.run.Lts as lts
 
-slice-aggregate-refusal-and-links : tie.Need-slice-aggregate-refusal-and-links
-slice-aggregate-refusal-and-links c = search needs
+-- the bytes that it is lent
+abbrev call : {claims : lts.Claims} → lts.Start claims reads.Pre reads.Post → Call
+call c =
+    record {
+      circuit = c .args .circuit .now;
+      script = c .args .script .now;
+      log = c .args .log .now;
+      values = c .args .values .now;
+      units = c .args .units .now;
+      delays = c .args .delays .now;
+    }
 
-refusal-and-links-requires : tie.Need-refusal-and-links-requires
-refusal-and-links-requires c κs = search needs
+slice-aggregate-refusal-lent : tie.Need-slice-aggregate-refusal-lent
+slice-aggregate-refusal-lent c = search needs
+
+refusal-lent-requires : tie.Need-refusal-lent-requires
+refusal-lent-requires c κs = search needs
 
 returns : tie.Need-returns
-returns c = call-refused (record { circuit = c .before .before .before .before .before .before .before .before .before .before .args .circuit .now; script = c .before .before .before .before .before .before .before .before .before .before .args .script .now; log = c .before .before .before .before .before .before .before .before .before .before .args .log .now; values = c .before .before .before .before .before .before .before .before .before .before .args .values .now; units = c .before .before .before .before .before .before .before .before .before .before .args .units .now; delays = c .before .before .before .before .before .before .before .before .before .before .args .delays .now }) _ (c .before .before .refusal-and-links .ensures .0) (c .if1 .taken)
+returns c = circuit-refused (call (c .before .before .before .before .before .before .before .before .before .before)) _ (c .before .before .refusal-lent .ensures .0) (c .if1 .taken)
 
-slice-aggregate-perform : tie.Need-slice-aggregate-perform
-slice-aggregate-perform c = search needs
+slice-aggregate-script-answer : tie.Need-slice-aggregate-script-answer
+slice-aggregate-script-answer c = search needs
 
-perform-requires : tie.Need-perform-requires
-perform-requires c κs = ((search needs, large-values (record { circuit = c .before .before .before .before .before .before .before .before .before .before .before .before .before .before .before .args .circuit .now; script = c .before .before .before .before .before .before .before .before .before .before .before .before .before .before .before .args .script .now; log = c .before .before .before .before .before .before .before .before .before .before .before .before .before .before .before .args .log .now; values = c .before .before .before .before .before .before .before .before .before .before .before .before .before .before .before .args .values .now; units = c .before .before .before .before .before .before .before .before .before .before .before .before .before .before .before .args .units .now; delays = c .before .before .before .before .before .before .before .before .before .before .before .before .before .before .before .args .delays .now }) _ (c .before .before .before .before .before .before .before .refusal-and-links .ensures .0) (c .before .before .before .before .before .if1 .left) _ _ (c .before .before .before .before .before .before .before .refusal-and-links .ensures .1), large-units (record { circuit = c .before .before .before .before .before .before .before .before .before .before .before .before .before .before .before .args .circuit .now; script = c .before .before .before .before .before .before .before .before .before .before .before .before .before .before .before .args .script .now; log = c .before .before .before .before .before .before .before .before .before .before .before .before .before .before .before .args .log .now; values = c .before .before .before .before .before .before .before .before .before .before .before .before .before .before .before .args .values .now; units = c .before .before .before .before .before .before .before .before .before .before .before .before .before .before .before .args .units .now; delays = c .before .before .before .before .before .before .before .before .before .before .before .before .before .before .before .args .delays .now }) _ (c .before .before .before .before .before .before .before .refusal-and-links .ensures .0) (c .before .before .before .before .before .if1 .left) _ _ (c .before .before .before .before .before .before .before .refusal-and-links .ensures .1), large-delays (record { circuit = c .before .before .before .before .before .before .before .before .before .before .before .before .before .before .before .args .circuit .now; script = c .before .before .before .before .before .before .before .before .before .before .before .before .before .before .before .args .script .now; log = c .before .before .before .before .before .before .before .before .before .before .before .before .before .before .before .args .log .now; values = c .before .before .before .before .before .before .before .before .before .before .before .before .before .before .before .args .values .now; units = c .before .before .before .before .before .before .before .before .before .before .before .before .before .before .before .args .units .now; delays = c .before .before .before .before .before .before .before .before .before .before .before .before .before .before .before .args .delays .now }) _ (c .before .before .before .before .before .before .before .refusal-and-links .ensures .0) (c .before .before .before .before .before .if1 .left) _ _ (c .before .before .before .before .before .before .before .refusal-and-links .ensures .1)), (few-called (record { circuit = c .before .before .before .before .before .before .before .before .before .before .before .before .before .before .before .args .circuit .now; script = c .before .before .before .before .before .before .before .before .before .before .before .before .before .before .before .args .script .now; log = c .before .before .before .before .before .before .before .before .before .before .before .before .before .before .before .args .log .now; values = c .before .before .before .before .before .before .before .before .before .before .before .before .before .before .before .args .values .now; units = c .before .before .before .before .before .before .before .before .before .before .before .before .before .before .before .args .units .now; delays = c .before .before .before .before .before .before .before .before .before .before .before .before .before .before .before .args .delays .now }) _ (c .before .before .before .before .before .before .before .refusal-and-links .ensures .0) (c .before .before .before .before .before .if1 .left) _ _ (c .before .before .before .before .before .before .before .refusal-and-links .ensures .1), fitting (record { circuit = c .before .before .before .before .before .before .before .before .before .before .before .before .before .before .before .args .circuit .now; script = c .before .before .before .before .before .before .before .before .before .before .before .before .before .before .before .args .script .now; log = c .before .before .before .before .before .before .before .before .before .before .before .before .before .before .before .args .log .now; values = c .before .before .before .before .before .before .before .before .before .before .before .before .before .before .before .args .values .now; units = c .before .before .before .before .before .before .before .before .before .before .before .before .before .before .before .args .units .now; delays = c .before .before .before .before .before .before .before .before .before .before .before .before .before .before .before .args .delays .now }) _ (c .before .before .before .before .before .before .before .refusal-and-links .ensures .0) (c .before .before .before .before .before .if1 .left) _ _ (c .before .before .before .before .before .before .before .refusal-and-links .ensures .1)))
-
-mul-t12 : tie.Need-mul-t12
-mul-t12 c = let x = c .before .before .before .before .before .before .before .before .before .perform .ensures .1 .0 in omega (arith, c .before .before .before .before .before .before .before .before .before .before .before .before .before .before .before .before .before .before .before .before .before .before .before .before .before .good)
+script-answer-requires : tie.Need-script-answer-requires
+script-answer-requires c κs = let z = sym (c .before .before .before .before .before .before .before .refusal-lent .ensures .0) ∙ c .before .before .before .before .before .if1 .left in (search needs, (links-are-circuit _ _ _ _ z (c .before .before .before .before .before .before .before .refusal-lent .ensures .1), z))
 
 same-length : tie.Need-same-length
 same-length c = search needs
@@ -35,18 +48,17 @@ same-length-4 : tie.Need-same-length-4
 same-length-4 c = search needs
 
 returns-2 : tie.Need-returns-2
-returns-2 c = call-played (record { circuit = c .before .before .before .before .before .before .before .before .before .before .before .before .before .before .before .before .before .before .before .before .before .before .before .before .before .args .circuit .now; script = c .before .before .before .before .before .before .before .before .before .before .before .before .before .before .before .before .before .before .before .before .before .before .before .before .before .args .script .now; log = c .before .before .before .before .before .before .before .before .before .before .before .before .before .before .before .before .before .before .before .before .before .before .before .before .before .args .log .now; values = c .before .before .before .before .before .before .before .before .before .before .before .before .before .before .before .before .before .before .before .before .before .before .before .before .before .args .values .now; units = c .before .before .before .before .before .before .before .before .before .before .before .before .before .before .before .before .before .before .before .before .before .before .before .before .before .args .units .now; delays = c .before .before .before .before .before .before .before .before .before .before .before .before .before .before .before .before .before .before .before .before .before .before .before .before .before .args .delays .now }) _ (c .before .before .before .before .before .before .before .before .before .before .before .before .before .before .before .before .before .refusal-and-links .ensures .0) (c .before .before .before .before .before .before .before .before .before .before .before .before .before .before .before .if1 .left) _ _ (c .before .before .before .before .before .before .before .before .before .before .before .before .before .before .before .before .before .refusal-and-links .ensures .1) (record { log = _; values = _; units = _; delays = _ }) _ _ _ (λ i. c .before .before .before .before .before .before .before .before .before .before .before .before .before .before .before .before .before .before .before .before .before .before .slice-known .given i .fits) (λ i. c .before .before .before .before .before .before .before .slice-known5 .given i .fits) (c .before .before .before .before .before .before .before .before .before .perform .ensures .0) (c .before .before .before .before .before .before .before .before .before .perform .ensures .1 .0) (c .before .before .before .before .before .before .before .before .before .perform .ensures .1 .1 .0) (c .before .before .before .before .before .before .before .before .before .perform .ensures .1 .1 .1) (c .before .before .before .before .before .before .before .before .before .perform .ensures .1 .1 .2)
+returns-2 c = search needs
 
 pub run-spec : {M : Type 1} → statement M
 run-spec =
     tie.close
     (tie.spec
-    slice-aggregate-refusal-and-links
-    refusal-and-links-requires
+    slice-aggregate-refusal-lent
+    refusal-lent-requires
     returns
-    slice-aggregate-perform
-    perform-requires
-    mul-t12
+    slice-aggregate-script-answer
+    script-answer-requires
     same-length
     same-length-2
     same-length-3

@@ -1,7 +1,7 @@
-use Rattle.player.proofs.Numbers.{ticks-refused, ticks-played}
+use Rattle.telling.proofs.Numbers.{ticks-refused, ticks-played}
 use borrow.Author.Needs.{needs}
-use Rattle.player.proofs.ticks_of.Statement.{statement}
-use Rattle.player.proofs.ticks_of.Tie as tie
+use Rattle.telling.proofs.ticks_of.Statement.{statement}
+use Rattle.telling.proofs.ticks_of.Tie as tie
 
 enum-told : tie.Need-enum-told
 enum-told c = search needs

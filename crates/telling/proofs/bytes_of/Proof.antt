@@ -1,7 +1,7 @@
-use Rattle.player.proofs.Numbers.{bytes-refused, bytes-played}
+use Rattle.telling.proofs.Numbers.{bytes-refused, bytes-played}
 use borrow.Author.Needs.{needs}
-use Rattle.player.proofs.bytes_of.Statement.{statement}
-use Rattle.player.proofs.bytes_of.Tie as tie
+use Rattle.telling.proofs.bytes_of.Statement.{statement}
+use Rattle.telling.proofs.bytes_of.Tie as tie
 
 enum-told : tie.Need-enum-told
 enum-told c = search needs

@@ -1,7 +1,7 @@
-use Rattle.player.proofs.Numbers.{number-refused, number-played}
+use Rattle.telling.proofs.Numbers.{number-refused, number-played}
 use borrow.Author.Needs.{needs}
-use Rattle.player.proofs.number_of.Statement.{statement}
-use Rattle.player.proofs.number_of.Tie as tie
+use Rattle.telling.proofs.number_of.Statement.{statement}
+use Rattle.telling.proofs.number_of.Tie as tie
 
 enum-known-a : tie.Need-enum-known-a
 enum-known-a c = search needs

@@ -1,7 +1,7 @@
-use Rattle.player.proofs.Numbers.{set-past}
+use Rattle.telling.proofs.Numbers.{set-past}
 use borrow.Author.Needs.{needs}
-use Rattle.player.proofs.put_at.Statement.{statement}
-use Rattle.player.proofs.put_at.Tie as tie
+use Rattle.telling.proofs.put_at.Statement.{statement}
+use Rattle.telling.proofs.put_at.Tie as tie
 
 mul-told : tie.Need-mul-told
 mul-told c = search needs
