@@ -143,9 +143,9 @@ pub fn script_answer(
     requires { ⌜ Linked links × Ready links circuit values units delays ⌝ }
     ensures { λ r. ⌜ Right-call circuit script log values units delays (λ a. r ≡ told a) ⌝ }
 {
-    let number = script_refusal(circuit, script);
-    if number != 0 {
-        return Answer::Refused(number);
+    let question = script_refusal(circuit, script);
+    if question != 0 {
+        return Answer::Refused(question);
     }
     let played = perform(links, script, log, values, units, delays);
     Answer::Played {
