@@ -19,6 +19,12 @@ use Rattle.circuit.proofs.Order.{first-number, later-number}
 use Rattle.class.specs.Call.{Call, Left, lent, part-size, class-answer, Right}
 use Rattle.class.specs.Scripts.{answer-of, first-answers, So-far}
 
+-- each script's answer
+pub each-answer :
+    (k : Call) (size : ℕ) (xs : List ℕ) → map (answer-of k size) xs ≡ map (answer (lent k) size (k .circuit)) (map (entry (k .book)) xs)
+each-answer k size [] = refl
+each-answer k size (x ∷ xs) = ap (λ (l : List Answer). answer-of k size x ∷ l) (each-answer k size xs)
+
 module _ (k : Call) where
   away : (m : ℕ) → m ≡ class-refusal (lent k) (k .circuit) (k .book) → (m ≡ 0 → ⊥) → class-answer k ≡ turned-away m
   unfolding class class-to
@@ -64,14 +70,10 @@ module _ (k : Call) where
         size-is : size ≡ part-size k
         size-is = s ∙ ap (λ (x : ℕ). part-of x (length (k .log))) c
 
-        twice : (xs : List ℕ) → map (answer-of k (part-size k)) xs ≡ map (answer (lent k) (part-size k) (k .circuit)) (map (entry (k .book)) xs)
-        twice [] = refl
-        twice (x ∷ xs) = ap (λ (l : List Answer). answer-of k (part-size k) x ∷ l) (twice xs)
-
         all-answers : answered (first-answers k size m) ≡ class-answer k
         unfolding first-answers entries class class-to
         all-answers =
-            (λ j. answered (map (answer-of k (size-is j)) (from 0 (c j)))) ∙ ap answered (twice (from 0 (count (k .book))))
+            (λ j. answered (map (answer-of k (size-is j)) (from 0 (c j)))) ∙ ap answered (each-answer k (part-size k) (from 0 (count (k .book))))
             ∙ ap (λ (x : ℕ). class-to x (lent k) (length (k .log)) (k .circuit) (k .book)) (sym accepted)
 
         pub class-answered : (l : Left) → So-far k size m l → Right k l 0

@@ -60,7 +60,7 @@ module _ (k : Call) (size : ℕ) where
   going-first = record { told = sym (over-none (k .told)); log = refl; values = area-first (k .values); units = area-first (k .units); delays = area-first (k .delays) }
 
   -- no answer changes how long a part is
-  keeps : (i : ℕ) (b : List ℕ) → length b ≡ size → length (log-after (answer-of k size i) b) ≡ size
+  pub keeps : (i : ℕ) (b : List ℕ) → length b ≡ size → length (log-after (answer-of k size i) b) ≡ size
   keeps i b e = subst (λ (n : ℕ). length (log-after (answer (lent k) n (k .circuit) (entry (k .book) i)) b) ≡ n) e (log-keeps-length (lent k) b (k .circuit) (entry (k .book) i))
 
   module _ (n : ℕ) where

@@ -6,3 +6,5 @@ pub mod Lending
 pub mod Going
 -- a whole call: `class-refused`, `class-no-book`, `class-answered`
 pub mod Calls
+-- each script as alone: `answers-alone`, `part-alone`, `behind-stays`
+pub mod Theorems

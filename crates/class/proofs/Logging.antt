@@ -17,11 +17,15 @@ use Rattle.model.specs.Class.{was-played, any-played, class-area}
 
 -- ---- a part that is lent and comes back
 
-times-none : (n : ℕ) → 0 * n ≡ 0
+pub times-none : (n : ℕ) → 0 * n ≡ 0
 times-none n = omega arith
 
 times-more : (n k : ℕ) → suc k * n ≡ n + k * n
 times-more n k = omega (arith, suc-mul k n)
+
+-- past one part more
+pub past : (size k : ℕ) (bs : List ℕ) → drop (suc k * size) bs ≡ drop (k * size) (drop size bs)
+past size k bs = ap (λ (n : ℕ). drop n bs) (times-more size k) ∙ sym (drop-drop (k * size) size bs)
 
 -- part 0
 put-first : (size : ℕ) (bs p : List ℕ) → putMid (0 * size) size bs p ≡ p ++ drop size bs
@@ -63,7 +67,7 @@ parts-next f size keeps (suc k) a log h =
     e = keeps a (take size log) (length-take-le size log (omega (arith, h, suc-mul (suc k) size)))
 
     behind : drop (suc k * size) (p ++ later) ≡ drop (k * size) later
-    behind = ap (λ (n : ℕ). drop n (p ++ later)) (times-more size k) ∙ sym (drop-drop (k * size) size (p ++ later)) ∙ ap (drop (k * size)) (drop-at p later size e)
+    behind = past size k (p ++ later) ∙ ap (drop (k * size)) (drop-at p later size e)
 
     place : (a k : ℕ) → a + suc k ≡ suc a + k
     place a k = omega arith
