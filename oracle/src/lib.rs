@@ -9,8 +9,9 @@ mod load;
 mod semantics;
 pub use source::{Dt, SimError, SimOptions, graph, machine, value, world};
 
-// Document 01: its bytes, its questions, its run.
+// Document 01: its bytes, its questions, its run. Document 02: its class.
 pub mod circuit;
+pub mod class;
 pub mod graph_of;
 pub mod kinds;
 pub mod play;
