@@ -644,7 +644,7 @@ impl Script {
 }
 
 /// A book of scripts (document 02, K1) under construction.
-#[derive(Clone, Debug, Default)]
+#[derive(Clone, Debug)]
 pub struct Book {
     /// Starts and lengths.
     pub spans: Vec<(i64, i64)>,
@@ -653,9 +653,14 @@ pub struct Book {
 }
 
 impl Book {
+    /// A book of so many scripts, none of which has a byte yet.
+    pub fn new(scripts: usize) -> Self {
+        Self { spans: vec![(0, 0); scripts], rest: Vec::new() }
+    }
+
     /// A book of these scripts, one behind the other.
-    pub fn of(scripts: &[&[u8]]) -> Self {
-        let mut book = Self { spans: vec![(0, 0); scripts.len()], rest: Vec::new() };
+    pub fn of(scripts: &[Vec<u8>]) -> Self {
+        let mut book = Self::new(scripts.len());
         for (k, script) in scripts.iter().enumerate() {
             book.put(k, script);
         }

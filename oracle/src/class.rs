@@ -61,7 +61,7 @@ fn script(book: &[u8], (start, length): (u64, u64)) -> Option<&[u8]> {
 }
 
 /// The bytes of each part: the log in equal parts, rounded down to whole words.
-fn part(log: usize, scripts: usize) -> usize {
+pub fn part(log: usize, scripts: usize) -> usize {
     log / (8 * scripts) * 8
 }
 

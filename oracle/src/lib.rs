@@ -20,10 +20,12 @@ pub mod questions;
 pub mod script;
 pub mod words;
 
-// The stated circuits (build, case, generate, circuits, vectors, pack, runs):
+// The stated circuits (build, case, generate, circuits, vectors, pack, runs,
+// classes):
 pub mod build;
 pub mod case;
 pub mod circuits;
+pub mod classes;
 pub mod generate;
 pub mod pack;
 pub mod runs;

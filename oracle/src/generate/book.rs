@@ -79,7 +79,7 @@ fn other(r: &mut Random, family: Family, own: &Case) -> Vec<u8> {
 fn lay(r: &mut Random, scripts: &[Vec<u8>]) -> Book {
     let mut order: Vec<usize> = (0..scripts.len()).collect();
     r.shuffle(&mut order);
-    let mut book = Book::of(&vec![&[][..]; scripts.len()]);
+    let mut book = Book::new(scripts.len());
     let most = r.pick(&[0, 0, 1, 8, 20]);
     for k in order {
         pad(r, &mut book, most);
