@@ -185,6 +185,8 @@ fn logs() -> Vec<(String, Whole)> {
         ("1000-bytes-for-7", 136, flips(1), 7),
         ("2175-bytes-for-16", 128, full(0), 16),
         ("2176-bytes-for-16", 136, flips(1), 16),
+        // What is left over would do for another record of the last one.
+        ("4351-bytes-for-16", 264, full(1), 16),
         ("0-bytes-for-16", 0, full(0), 16),
         ("0-bytes-no-ticks", 0, flips(0), 1),
         ("0-bytes-alone", 0, full(0), 1),

@@ -40,7 +40,7 @@ fn small(bytes: usize) -> Class {
 }
 
 /// Scripts, ticks of each, and bytes of the log, where a record is of 136 bytes.
-const EDGES: [(usize, usize, usize); 19] = [
+const EDGES: [(usize, usize, usize); 20] = [
     (1, 1, 135),
     (1, 1, 136),
     (1, 1, 143),
@@ -60,6 +60,7 @@ const EDGES: [(usize, usize, usize); 19] = [
     (7, 1, 1_000),
     (16, 1, 2_175),
     (16, 1, 2_176),
+    (16, 2, 4_351),
 ];
 
 fn edge((scripts, ticks, bytes): (usize, usize, usize)) -> Class {
