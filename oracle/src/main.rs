@@ -51,23 +51,32 @@ fn run(words: &[&str]) -> Option<()> {
         ["vectors", dir, first, last] => {
             oracle::vectors::write_random(dir.as_ref(), first.parse().ok()?, last.parse().ok()?).ok()?;
         }
-        ["pack", file] => {
+        ["pack", what @ ..] => pack(what)?,
+        ["mutants", names @ ..] => mutants::try_mutants(names),
+        _ => return None,
+    }
+    Some(())
+}
+
+/// Writes a file of a program, and prints what the program has to print.
+fn pack(words: &[&str]) -> Option<()> {
+    match words {
+        [file] => {
             std::fs::write(file, oracle::pack::pack()).ok()?;
             print!("{}", oracle::pack::printed());
         }
-        ["pack", "runs", file] => {
+        ["runs", file] => {
             let runs = oracle::runs::runs();
             std::fs::write(file, oracle::runs::pack(&runs)).ok()?;
             print!("{}", oracle::runs::printed(&runs));
             eprintln!("left out: {}", runs.left_out.join(", "));
         }
-        ["pack", "classes", file] => {
+        ["classes", file] => {
             let classes = oracle::classes::classes();
             std::fs::write(file, oracle::classes::pack(&classes)).ok()?;
             print!("{}", oracle::classes::printed(&classes));
             eprintln!("left out: {}", classes.left_out.join(", "));
         }
-        ["mutants", names @ ..] => mutants::try_mutants(names),
         _ => return None,
     }
     Some(())

@@ -7,31 +7,10 @@ use crate::circuits::vehicles;
 use crate::words::words;
 
 pub fn classes() -> Vec<Class> {
-    let mut classes = vec![];
-    for number in [8, 9, 10] {
-        let shows = format!("A script refused {number} between two that are played.");
-        classes.push(toggles(
-            &format!("refused-{number}-between"),
-            &shows,
-            &[flips(1), refused(number), flips(2)],
-        ));
-        let shows = format!("One script, refused {number}: the areas stay as they were.");
-        classes.push(toggles(&format!("refused-{number}-alone"), &shows, &[refused(number)]));
-    }
+    let mut classes: Vec<Class> = [8, 9, 10].into_iter().flat_map(refusal).collect();
     classes.extend([stopped(11), stopped(12), stopped_alone(), full_between()]);
-    let sixteen =
-        |k: usize| (0..16).map(|n| if n == k { flips(2) } else { refused(8 + n as u8 % 3) }).collect();
-    let (first, last): (Vec<_>, Vec<_>) = (sixteen(0), sixteen(15));
+    classes.extend(some_refused());
     classes.extend([
-        toggles(
-            "all-refused",
-            "All three are refused: log and areas stay as they were.",
-            &[refused(8), refused(9), refused(10)],
-        ),
-        toggles("first-refused", "The first is refused, the second played.", &[refused(9), flips(1)]),
-        toggles("last-refused", "The last is refused, the first played.", &[flips(1), refused(9)]),
-        toggles("first-of-16", "Of sixteen the first alone is played.", &first),
-        toggles("last-of-16", "Of sixteen the last alone is played.", &last),
         toggles("no-ticks-alone", "One script of no ticks is played: the areas are zero.", &[flips(0)]),
         toggles(
             "no-ticks-between",
@@ -46,6 +25,32 @@ pub fn classes() -> Vec<Class> {
         vans(),
     ]);
     classes
+}
+
+/// A script that is refused with this number, between others and alone.
+fn refusal(number: u8) -> [Class; 2] {
+    let (between, alone) = (format!("refused-{number}-between"), format!("refused-{number}-alone"));
+    let shows = format!("A script refused {number} between two that are played.");
+    let between = toggles(&between, &shows, &[flips(1), refused(number), flips(2)]);
+    let shows = format!("One script, refused {number}: the areas stay as they were.");
+    [between, toggles(&alone, &shows, &[refused(number)])]
+}
+
+fn some_refused() -> [Class; 5] {
+    let sixteen = |k: usize| -> Vec<Vec<u8>> {
+        (0..16).map(|n| if n == k { flips(2) } else { refused(8 + n as u8 % 3) }).collect()
+    };
+    [
+        toggles(
+            "all-refused",
+            "All three are refused: log and areas stay as they were.",
+            &[refused(8), refused(9), refused(10)],
+        ),
+        toggles("first-refused", "The first is refused, the second played.", &[refused(9), flips(1)]),
+        toggles("last-refused", "The last is refused, the first played.", &[flips(1), refused(9)]),
+        toggles("first-of-16", "Of sixteen the first alone is played.", &sixteen(0)),
+        toggles("last-of-16", "Of sixteen the last alone is played.", &sixteen(15)),
+    ]
 }
 
 fn toggles(name: &str, shows: &str, scripts: &[Vec<u8>]) -> Class {
