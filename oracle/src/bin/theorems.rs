@@ -67,7 +67,8 @@ fn write(vectors: &Path, target: &Path) -> std::io::Result<String> {
     Ok(format!("{runs} runs and {refusals} refusals as theorems, {left_out} left out as too long"))
 }
 
-/// A case of a vector file: its name, and its lines, each a word and the rest.
+/// A case of a vector file: its name, and its lines, each a word and the rest. The
+/// file of the classes has none.
 struct Case<'a> {
     name: &'a str,
     lines: Vec<(&'a str, &'a str)>,
