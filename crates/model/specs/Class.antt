@@ -19,7 +19,7 @@ most-scripts = 16
 abbrev pub no-book : ℕ
 no-book = 15
 
--- the number that the whole call is refused with, or 0: the questions about the circuit, 1 to 7, then 15
+-- the number that the whole call is refused with, or 0: the questions about the circuit, 1 to 7 and 19 among them, then 15
 unfoldable pub class-refusal : Areas → List ℕ → List ℕ → ℕ
 class-refusal areas circuit-bytes book = or-else (circuit-refusal (some areas) circuit-bytes) (if good-book most-scripts book then 0 else no-book)
 

@@ -91,14 +91,11 @@ spans-anywhere : classed 272 anywhere ≡ answered (lamp-on ∷ refused 8 ∷ []
 unfolding classes-opened anywhere
 spans-anywhere = refl
 
--- A span that would be a script if it were cut at the book's end leaves it, and so does one whose start and length come to 24 in 64 bits. One of no bytes at the book's
--- end does not, and is refused like any script of no bytes.
-abbrev wraps : ℕ
-wraps = 2 ^ 64 - 48
-
+-- A span that would be a script if it were cut at the book's end leaves it, and so do two whose start and length, added in 64 bits, would come to 8 and to 24. One of no
+-- bytes at the book's end does not leave it, and is refused like any script of no bytes.
 leave-the-book :
-    map (classed 428) (bytes (1 ∷ 24 ∷ 56 ∷ switched) ∷ bytes (1 ∷ wraps ∷ 72 ∷ switched) ∷ bytes (1 ∷ 72 ∷ 0 ∷ switched) ∷ [])
-    ≡ replicate 3 (answered (refused 8 ∷ []))
+    map (λ s. classed 428 (bytes (1 ∷ s ++ switched))) ((24 ∷ 56 ∷ []) ∷ (24 ∷ (2 ^ 64 - 16) ∷ []) ∷ ((2 ^ 64 - 48) ∷ 72 ∷ []) ∷ (72 ∷ 0 ∷ []) ∷ [])
+    ≡ replicate 4 (answered (refused 8 ∷ []))
 unfolding classes-opened
 leave-the-book = refl
 
