@@ -643,6 +643,48 @@ impl Script {
     }
 }
 
+/// A book of scripts (document 02, K1) under construction.
+#[derive(Clone, Debug)]
+pub struct Book {
+    /// Starts and lengths.
+    pub spans: Vec<(i64, i64)>,
+    /// What stands behind both arrays.
+    pub rest: Vec<u8>,
+}
+
+impl Book {
+    /// A book of so many scripts, none of which has a byte yet.
+    pub fn new(scripts: usize) -> Self {
+        Self { spans: vec![(0, 0); scripts], rest: Vec::new() }
+    }
+
+    /// A book of these scripts, one behind the other.
+    pub fn of(scripts: &[Vec<u8>]) -> Self {
+        let mut book = Self::new(scripts.len());
+        for (k, script) in scripts.iter().enumerate() {
+            book.put(k, script);
+        }
+        book
+    }
+
+    /// Script `k` is written behind what stands there.
+    pub fn put(&mut self, k: usize, script: &[u8]) {
+        self.spans[k] = (self.length(), script.len() as i64);
+        self.rest.extend(script);
+    }
+
+    /// The bytes of the book so far.
+    pub fn length(&self) -> i64 {
+        (8 * (1 + 2 * self.spans.len()) + self.rest.len()) as i64
+    }
+
+    pub fn bytes(&self) -> Vec<u8> {
+        let mut words = vec![self.spans.len() as i64];
+        push_parallel(&mut words, &self.spans);
+        [bytes_of(&words), self.rest.clone()].concat()
+    }
+}
+
 /// Pairs as two parallel arrays.
 fn push_parallel(words: &mut Vec<i64>, pairs: &[(i64, i64)]) {
     words.extend(pairs.iter().map(|p| p.0));

@@ -2,6 +2,7 @@
 
 use crate::Lent;
 use crate::build::{Circuit, Script, bytes_of};
+use crate::class::{ClassAnswer, Held, call, class};
 
 /// A circuit with its script and the bytes lent for it.
 #[derive(Clone, Debug)]
@@ -61,5 +62,35 @@ impl Case {
     pub fn delays(mut self, bytes: usize) -> Self {
         self.lent.delays = bytes;
         self
+    }
+}
+
+/// A circuit with a book of scripts and what is lent for both.
+#[derive(Clone, Debug)]
+pub struct Class {
+    pub name: String,
+    pub shows: String,
+    pub circuit: Vec<u8>,
+    pub book: Vec<u8>,
+    pub lent: Lent,
+    /// Words lent for what is told.
+    pub told: usize,
+}
+
+impl Class {
+    /// A class with what each of 16 scripts is told.
+    pub fn new(name: impl Into<String>, shows: impl Into<String>, circuit: Vec<u8>, book: Vec<u8>) -> Self {
+        let (name, shows) = (name.into(), shows.into());
+        Class { name, shows, circuit, book, lent: Lent::default(), told: 48 }
+    }
+
+    pub fn answer(&self) -> ClassAnswer {
+        class(&self.circuit, &self.book, &self.lent)
+    }
+
+    /// The number answered, and what is left of what was lent with this byte
+    /// everywhere.
+    pub fn call(&self, byte: u8) -> (u8, Held) {
+        call(&self.circuit, &self.book, Held::filled(&self.lent, self.told, byte))
     }
 }

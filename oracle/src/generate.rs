@@ -1,12 +1,14 @@
 //! Circuits and scripts from a seed: valid ones of several families, and
-//! damaged ones for every question.
+//! damaged ones for every question. Books of scripts.
 
+mod book;
 mod damaged;
 mod family;
 mod looped;
 mod random;
 mod valid;
 
+pub use book::book;
 pub use damaged::{ASKED, Damaged, damaged, damaged_loops};
 pub use family::{FAMILIES, Family, WITH_LOOPS, stated_families};
 pub use random::Random;

@@ -9,8 +9,9 @@ mod load;
 mod semantics;
 pub use source::{Dt, SimError, SimOptions, graph, machine, value, world};
 
-// Document 01: its bytes, its questions, its run.
+// Document 01: its bytes, its questions, its run. Document 02: its class.
 pub mod circuit;
+pub mod class;
 pub mod graph_of;
 pub mod kinds;
 pub mod play;
@@ -19,10 +20,12 @@ pub mod questions;
 pub mod script;
 pub mod words;
 
-// The stated circuits (build, case, generate, circuits, vectors, pack, runs):
+// The stated circuits (build, case, generate, circuits, vectors, pack, runs,
+// classes):
 pub mod build;
 pub mod case;
 pub mod circuits;
+pub mod classes;
 pub mod generate;
 pub mod pack;
 pub mod runs;

@@ -17,6 +17,7 @@ oracle generate FAMILY SEED DIR
 oracle vectors DIR [FIRST LAST]
 oracle pack FILE
 oracle pack runs FILE
+oracle pack classes FILE
 oracle mutants [NAME..]";
 
 fn main() -> ExitCode {
@@ -39,7 +40,10 @@ fn run(words: &[&str]) -> Option<()> {
         }
         ["bench", dir] => println!("{}", bench::bench(dir.as_ref())),
         ["circuits"] => print!("{}", oracle::circuits::document()),
-        ["circuits", name, dir] => println!("{}", stated::write(&stated::stated(name)?, dir.as_ref())?),
+        ["circuits", name, dir] => match stated::stated(name) {
+            Some(case) => println!("{}", stated::write(&case, dir.as_ref())?),
+            None => println!("{}", stated::write_class(&stated::stated_class(name)?, dir.as_ref())?),
+        },
         ["generate", family, seed, dir] => {
             println!("{}", stated::write(&stated::generated(family, seed)?, dir.as_ref())?);
         }
@@ -56,6 +60,12 @@ fn run(words: &[&str]) -> Option<()> {
             std::fs::write(file, oracle::runs::pack(&runs)).ok()?;
             print!("{}", oracle::runs::printed(&runs));
             eprintln!("left out: {}", runs.left_out.join(", "));
+        }
+        ["pack", "classes", file] => {
+            let classes = oracle::classes::classes();
+            std::fs::write(file, oracle::classes::pack(&classes)).ok()?;
+            print!("{}", oracle::classes::printed(&classes));
+            eprintln!("left out: {}", classes.left_out.join(", "));
         }
         ["mutants", names @ ..] => mutants::try_mutants(names),
         _ => return None,

@@ -1,5 +1,5 @@
 //! Breaks the oracle in one place at a time (mutants.txt) and says which
-//! stated circuits tell it: whose answer is not the unbroken oracle's.
+//! stated circuits and classes tell it: whose answer is not the unbroken oracle's.
 
 use std::fmt::Write;
 use std::io::{BufRead, BufReader};
@@ -8,7 +8,8 @@ use std::process::{Child, Command, Stdio};
 use std::sync::mpsc;
 use std::time::Duration;
 
-use oracle::circuits::{self, Case};
+use oracle::Lent;
+use oracle::circuits::{self, Case, Class};
 
 /// The longest a broken oracle may take over a circuit.
 const PATIENCE: Duration = Duration::from_secs(60);
@@ -122,10 +123,11 @@ impl Mutant {
 struct Scratch(PathBuf);
 
 /// What goes from the copy: modules of lib.rs.
-const STATED: [&str; 7] = [
+const STATED: [&str; 8] = [
     "pub mod build;",
     "pub mod case;",
     "pub mod circuits;",
+    "pub mod classes;",
     "pub mod generate;",
     "pub mod pack;",
     "pub mod runs;",
@@ -173,7 +175,8 @@ impl Scratch {
     /// ones and one for the slow ones.
     fn known(&self) -> Known {
         let program = self.build(&Mutant::default()).expect("the unbroken oracle builds");
-        let cases: Vec<String> = circuits::all().iter().map(line_of).collect();
+        let mut cases: Vec<String> = circuits::all().iter().map(line_of).collect();
+        cases.extend(circuits::classes().iter().map(line_of_class));
         let all = self.write_cases("all.txt", &cases);
         let lines: Vec<String> = answers(&mut start(&program, &all)).into_iter().collect();
         assert_eq!(lines.len(), cases.len());
@@ -202,9 +205,17 @@ fn whole(file: &str) -> String {
 
 /// A case as the program answers.rs reads it.
 fn line_of(case: &Case) -> String {
-    let lent = &case.lent;
-    let mut line = format!("{}\t{}\t{}\t{}\t{}", case.name, lent.log, lent.values, lent.units, lent.delays);
-    for bytes in [&case.circuit, &case.script] {
+    line(&case.name, &case.lent, [&case.circuit, &case.script])
+}
+
+/// A class as the program answers.rs reads it.
+fn line_of_class(class: &Class) -> String {
+    format!("{}\t{}", line(&class.name, &class.lent, [&class.circuit, &class.book]), class.told)
+}
+
+fn line(name: &str, lent: &Lent, parts: [&[u8]; 2]) -> String {
+    let mut line = format!("{name}\t{}\t{}\t{}\t{}", lent.log, lent.values, lent.units, lent.delays);
+    for bytes in parts {
         line.push('\t');
         bytes.iter().for_each(|b| write!(line, "{b:02x}").expect("room"));
     }
@@ -237,7 +248,7 @@ struct Known {
 }
 
 impl Known {
-    /// The circuits that tell `program` from the unbroken oracle.
+    /// The circuits and classes that tell `program` from the unbroken oracle.
     fn tellers(&self, program: &Path) -> Vec<String> {
         let quick = self.quick.tellers(program);
         if quick.is_empty() { self.slow.tellers(program) } else { quick }
@@ -245,7 +256,7 @@ impl Known {
 }
 
 impl Cases {
-    /// Of these circuits, those whose answer differs or does not come.
+    /// Of these, those whose answer differs or does not come.
     fn tellers(&self, program: &Path) -> Vec<String> {
         let mut child = start(program, &self.file);
         let lines = answers(&mut child);

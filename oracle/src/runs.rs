@@ -89,7 +89,7 @@ fn fits(run: &Run) -> bool {
     lengths.all(|length| length <= ROOM) && lent.delays <= DELAYS
 }
 
-fn word(number: u64) -> Vec<u8> {
+pub(crate) fn word(number: u64) -> Vec<u8> {
     let bytes = number.to_le_bytes();
     let count = 8 - number.leading_zeros() as usize / 8;
     [&[count as u8], &bytes[..count]].concat()

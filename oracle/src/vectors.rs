@@ -4,19 +4,23 @@
 use std::fmt::Write as _;
 use std::path::Path;
 
-use crate::circuits::{Case, Group, groups};
+use crate::circuits::{Case, Class, Group, classes, groups};
+use crate::class::{ClassAnswer, part, told};
 use crate::generate::{FAMILIES, damaged, damaged_loops, valid};
 use crate::{Answer, Lent, run};
 
 /// Words above this many are not written but summed up.
 const WHOLE: usize = 4_000;
 
-/// Writes the vectors of each group to a folder.
+/// The file of the stated classes.
+pub const CLASSES: &str = "classes.txt";
+
+/// Writes the vectors of each group, and of the classes, to a folder.
 pub fn write(dir: &Path) -> std::io::Result<()> {
     for group in groups() {
         std::fs::write(dir.join(file_name(&group)), text(&group))?;
     }
-    Ok(())
+    std::fs::write(dir.join(CLASSES), text_of_classes())
 }
 
 /// Writes the vectors of every family and of damaged cases, for the seeds from
@@ -54,12 +58,41 @@ fn vector(case: &Case) -> String {
 }
 
 fn answer(case: &Case) -> String {
-    match run(&case.circuit, &case.script, &case.lent) {
+    in_lines(&run(&case.circuit, &case.script, &case.lent))
+}
+
+fn in_lines(answer: &Answer) -> String {
+    match answer {
         Answer::Refused(number) => format!("refused {number}\n"),
         Answer::Played { log, stop, ticks } => {
-            format!("{}end {stop} {ticks}\n", words("log", &log))
+            format!("{}end {stop} {ticks}\n", words("log", log))
         }
     }
+}
+
+/// The text of [`CLASSES`].
+pub fn text_of_classes() -> String {
+    classes().iter().map(class_vector).collect()
+}
+
+fn class_vector(class: &Class) -> String {
+    let Lent { log, values, units, delays } = class.lent;
+    let mut text = format!("class {}\nlent {log} {values} {units} {delays} {}\n", class.name, class.told);
+    text += &bytes("circuit", &class.circuit);
+    text += &bytes("book", &class.book);
+    match class.answer() {
+        ClassAnswer::Refused(number) => text + &format!("refused {number}\n"),
+        ClassAnswer::Answered(answers) => text + &class_answer(class, &answers),
+    }
+}
+
+fn class_answer(class: &Class, answers: &[Answer]) -> String {
+    let mut text = format!("parts {} {}\n", answers.len(), part(class.lent.log, answers.len()));
+    text.extend(answers.iter().map(in_lines));
+    let played = answers.iter().any(|answer| matches!(answer, Answer::Played { .. }));
+    text += if played { "areas zero\n" } else { "areas untouched\n" };
+    let told = answers.iter().flat_map(told).take(class.told);
+    text + &words("told", &told.map(|word| word as i64).collect::<Vec<_>>())
 }
 
 /// Whether a vector gives these bytes, and not their sum.

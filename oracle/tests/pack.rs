@@ -1,11 +1,12 @@
-//! The packed questions and runs: crates/asked and crates/replay hold what
-//! `oracle pack` writes and prints now, and what is packed can be read back.
+//! The packed questions, runs and classes: crates/asked and crates/replay hold
+//! what `oracle pack` writes and prints now, and what is packed can be read back.
 
 use oracle::circuits::{self, Case};
+use oracle::class::Held;
 use oracle::generate::ASKED;
 use oracle::pack::{cases, pack, printed};
 use oracle::questions::ask;
-use oracle::runs;
+use oracle::{Lent, classes, runs};
 
 const FILE: &str = concat!(env!("CARGO_MANIFEST_DIR"), "/../crates/asked/data/questions.bin");
 const PRINTED: &str = concat!(env!("CARGO_MANIFEST_DIR"), "/../crates/asked/stdout");
@@ -16,12 +17,18 @@ const RUNS: &str = concat!(env!("CARGO_MANIFEST_DIR"), "/../crates/replay/data/r
 const RUNS_PRINTED: &str = concat!(env!("CARGO_MANIFEST_DIR"), "/../crates/replay/stdout");
 const RUNS_AGAIN: &str = "oracle pack runs crates/replay/data/runs.bin > crates/replay/stdout";
 
+const CLASSES: &str = concat!(env!("CARGO_MANIFEST_DIR"), "/../crates/replay/data/classes.bin");
+const CLASSES_AGAIN: &str = "oracle pack classes crates/replay/data/classes.bin";
+
 /// What a program has room for: a circuit, a script.
 const ROOM: usize = 65_536;
 
 /// What a file may hold. A program reads it case by case, so this is for who
 /// keeps the files alone; runs with Loops come to a tenth of it.
 const WHOLE: usize = 1_750_000;
+
+/// What the file of the classes may hold.
+const WHOLE_OF_CLASSES: usize = 500_000;
 
 #[test]
 fn the_packed_questions_are_up_to_date() {
@@ -139,6 +146,62 @@ fn every_run_can_be_read_back() {
                 (0..length / 8).flat_map(|_| packed_word(&mut rest).to_le_bytes()).collect();
             assert!(bytes == part && length <= runs::ROOM, "{name}");
         }
+    }
+    assert!(rest.is_empty());
+}
+
+#[test]
+fn the_packed_classes_are_up_to_date() {
+    let classes = classes::classes();
+    let file = std::fs::read(CLASSES).expect("the packed classes");
+    assert!(file == classes::pack(&classes), "write them again: {CLASSES_AGAIN}");
+    assert!(file.len() < WHOLE_OF_CLASSES, "{}", file.len());
+    assert_eq!(classes::printed(&classes), "259 classes, 0 differ\n");
+    assert_eq!(classes.left_out, [""; 0]);
+}
+
+/// Takes so many bytes from the front, packed as words; the last one may have
+/// zeros behind them.
+fn packed_bytes(rest: &mut &[u8], length: usize) -> Vec<u8> {
+    let words = length.div_ceil(8);
+    let mut bytes: Vec<u8> = (0..words).flat_map(|_| packed_word(rest).to_le_bytes()).collect();
+    assert!(bytes.split_off(length).iter().all(|&byte| byte == 0));
+    bytes
+}
+
+/// What is packed of a class says what the call answers and leaves, byte by byte.
+#[test]
+fn every_class_can_be_read_back() {
+    let classes = classes::classes();
+    let packed = classes::pack(&classes);
+    let mut rest = &packed[..];
+    assert_eq!(packed_word(&mut rest) as usize, classes.packed.len());
+    for class in &classes.packed {
+        let name = &class.name;
+        let lent = [(); 5].map(|()| packed_word(&mut rest) as usize);
+        assert_eq!(lent, classes::lent(class), "{name}");
+        assert!(lent[..3].iter().all(|&length| length <= runs::ROOM), "{name}");
+        assert!(lent[3] <= runs::DELAYS && lent[4] <= classes::TOLD, "{name}");
+        let [log, values, units, delays, told] = lent;
+        let mut due = Held::filled(&Lent { log, values, units, delays }, told, 165);
+        let [number, zero] = [(); 2].map(|()| packed_word(&mut rest));
+        let [circuit, book, told, part, parts, all] = [(); 6].map(|()| packed_word(&mut rest) as usize);
+        assert!(circuit <= runs::ROOM && book <= runs::ROOM, "{name}");
+        assert_eq!(packed_bytes(&mut rest, circuit), class.circuit, "{name}");
+        assert_eq!(packed_bytes(&mut rest, book), class.book, "{name}");
+        due.told[..told].iter_mut().for_each(|word| *word = packed_word(&mut rest));
+        let mut of_all = 0;
+        for k in 0..parts {
+            let records = packed_word(&mut rest) as usize;
+            of_all += records;
+            due.log[part * k..][..records].copy_from_slice(&packed_bytes(&mut rest, records));
+        }
+        if zero == 1 {
+            [&mut due.values, &mut due.units, &mut due.delays].into_iter().for_each(|area| area.fill(0));
+        }
+        let (answered, left) = class.call(165);
+        assert!(u64::from(answered) == number && left == due && of_all == all && zero <= 1, "{name}");
+        assert!(number == 0 || [told, part, parts, all, zero as usize] == [0; 5], "{name}");
     }
     assert!(rest.is_empty());
 }

@@ -4,10 +4,14 @@
 //! delays, and the bytes of circuit and script in hexadecimal, with tabs
 //! between. Its answer is a line too: the name, quick or slow, the answers of
 //! `check` and `run`, and of a log its length and a number made of its words.
+//! A class has a book in place of the script, and one thing more, the words lent
+//! for what is told; its answer has the number of the call and one made of all
+//! that it leaves.
 
 use std::io::{BufRead, BufReader, Write};
 use std::panic::catch_unwind;
 
+use oracle::class::{Held, call};
 use oracle::{Answer, Lent, check, run};
 
 /// An answer of more words, or with more steps in its first tick, is slow.
@@ -35,9 +39,17 @@ fn main() {
 fn in_short(case: &str) -> String {
     let parts: Vec<&str> = case.split('\t').collect();
     let [log, values, units, delays] = [0, 1, 2, 3].map(|at| parts[at].parse().expect("a size"));
+    let lent = Lent { log, values, units, delays };
     let (circuit, script) = (bytes(parts[4]), bytes(parts[5]));
-    let checked = check(&circuit, &script);
-    match run(&circuit, &script, &Lent { log, values, units, delays }) {
+    match parts.get(6) {
+        None => case_in_short(&circuit, &script, &lent),
+        Some(told) => class_in_short(&circuit, &script, &lent, told.parse().expect("a size")),
+    }
+}
+
+fn case_in_short(circuit: &[u8], script: &[u8], lent: &Lent) -> String {
+    let checked = check(circuit, script);
+    match run(circuit, script, lent) {
         Answer::Refused(number) => format!("quick\t{checked} refused {number}"),
         Answer::Played { log, stop, ticks } => {
             let steps = log.get(1).copied().unwrap_or(0);
@@ -48,6 +60,16 @@ fn in_short(case: &str) -> String {
     }
 }
 
+/// What is lent holds 165 in each byte. A script that stops by 11 is slow.
+fn class_in_short(circuit: &[u8], book: &[u8], lent: &Lent, told: usize) -> String {
+    let (number, left) = call(circuit, book, Held::filled(lent, told, 165));
+    let speed = if left.told.contains(&11) { "slow" } else { "quick" };
+    let told: Vec<u8> = left.told.iter().flat_map(|word| word.to_le_bytes()).collect();
+    let parts = [left.log, left.values, left.units, left.delays, told];
+    let hashes = parts.map(|bytes| format!("{:016x}", hash_of_bytes(bytes.into_iter())));
+    format!("{speed}\t{number} {}", hashes.join(" "))
+}
+
 fn bytes(hexadecimal: &str) -> Vec<u8> {
     let (pairs, _) = hexadecimal.as_bytes().as_chunks::<2>();
     let byte = |pair: &[u8; 2]| u8::from_str_radix(str::from_utf8(pair).ok()?, 16).ok();
@@ -55,6 +77,9 @@ fn bytes(hexadecimal: &str) -> Vec<u8> {
 }
 
 fn hash(words: &[i64]) -> u64 {
-    let bytes = words.iter().flat_map(|w| w.to_le_bytes());
+    hash_of_bytes(words.iter().flat_map(|w| w.to_le_bytes()))
+}
+
+fn hash_of_bytes(bytes: impl Iterator<Item = u8>) -> u64 {
     bytes.fold(OFFSET, |h, b| (h ^ u64::from(b)).wrapping_mul(PRIME))
 }

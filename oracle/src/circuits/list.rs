@@ -1,7 +1,7 @@
 //! docs/CIRCUITS.md, written from the list of the stated circuits.
 
 use super::places::{HELD_OTHERWISE, PLACES};
-use super::{Case, Group, groups};
+use super::{Case, Group, classes, groups};
 use crate::generate::stated_families;
 
 /// The text of docs/CIRCUITS.md.
@@ -12,6 +12,7 @@ pub fn document() -> String {
         text += &format!("\n## {}\n\n{}\n\n", capital(group.name), group.about);
         text += &if group.name == "families" { families(group) } else { table(&group.cases) };
     }
+    text += &format!("{CLASSES_INTRODUCTION}{}", class_table());
     text += PLACES_INTRODUCTION;
     for (place, number) in PLACES.into_iter().zip(1..) {
         text += &format!("{number}. {place} {}\n", told(&groups, number));
@@ -23,8 +24,16 @@ const INTRODUCTION: &str = "# The stated circuits
 
 Every circuit and script that the player and the source are compared on, with what each shows. This page is
 written from the list in `oracle/src/circuits` (`oracle circuits > docs/CIRCUITS.md`), and a test holds it to
-that list. `oracle circuits NAME DIR` writes one as `circuit.bin` and `script.bin`; `vectors/` holds the
-answers.
+that list. `oracle circuits NAME DIR` writes one as `circuit.bin` and `script.bin`, or a class as `circuit.bin`
+and `book.bin`; `vectors/` holds the answers.
+";
+
+const CLASSES_INTRODUCTION: &str = "\n## Classes
+
+Books of scripts, each over one circuit in one call: their counts and arrays, the order of the questions, spans,
+parts of the log, what is refused or stopped, what is left, and what is told (document 02, K1). Most are over
+the circuit of `toggle`.
+
 ";
 
 const PLACES_INTRODUCTION: &str = "\n## Places where a port goes wrong
@@ -45,6 +54,21 @@ fn table(cases: &[Case]) -> String {
     }
     text
 }
+
+/// The random ones have one row.
+fn class_table() -> String {
+    let mut text = String::from("| class | shows |\n|---|---|\n");
+    let (random, stated): (Vec<_>, Vec<_>) =
+        classes().into_iter().partition(|class| class.name.starts_with("random-"));
+    for class in stated {
+        text += &format!("| {} | {} |\n", class.name, class.shows);
+    }
+    let [first, .., last] = &random[..] else { panic!("random classes") };
+    text + &format!("| {} to {} | {RANDOM_CLASSES} |\n", first.name, last.name)
+}
+
+const RANDOM_CLASSES: &str = "Circuits of every family with books of 0 to 17 scripts, made for them, cut short, damaged or \
+     another circuit's, at any byte, with spans that stray and logs of any length";
 
 /// One row a family: its circuits differ in their seeds alone.
 fn families(group: &Group) -> String {

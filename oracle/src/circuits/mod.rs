@@ -2,6 +2,7 @@
 //! on, each with what it shows. docs/CIRCUITS.md is written from this list.
 
 mod carried;
+mod classes;
 mod families;
 mod kinds;
 mod limits;
@@ -15,7 +16,8 @@ mod start;
 mod traps;
 mod vehicles;
 
-pub use crate::case::Case;
+pub use crate::case::{Case, Class};
+pub use classes::classes;
 pub use list::document;
 pub use places::{HELD_OTHERWISE, PLACES};
 
