@@ -1,4 +1,6 @@
 -- What the proofs of several functions use.
+mod ClassEnding
+mod ClassMeeting
 mod Comparing
 mod Ending
 mod Meeting

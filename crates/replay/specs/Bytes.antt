@@ -1,4 +1,4 @@
--- Bytes compared.
+-- Bytes compared, and words.
 use Prim.Native.Nat.{ℕ}
 use mathlib.Core.Bool.{Bool, true, false, _&&_}
 use mathlib.Core.List.{List, [], _∷_}
@@ -9,6 +9,10 @@ use lib.ListN.{length, take, drop}
 unfoldable pub alike : ℕ → List ℕ → Bool
 alike b [] = true
 alike b (x ∷ xs) = eqb x b && alike b xs
+
+-- so is every byte of three areas
+unfoldable pub all-alike : ℕ → List ℕ → List ℕ → List ℕ → Bool
+all-alike b vs us ds = alike b vs && (alike b us && alike b ds)
 
 -- both are of one length, with the same bytes
 unfoldable pub same : List ℕ → List ℕ → Bool

@@ -7,7 +7,7 @@ use lib.ListN.{getD}
 use Rattle.run.specs.declared.Answer.{Answer}
 use Rattle.run.specs.declared.Answer.the-variants.{Refused, Played}
 use Rattle.replay.specs.declared.due.Due.{Due}
-use Rattle.replay.specs.Bytes.{alike, holds}
+use Rattle.replay.specs.Bytes.{all-alike, holds}
 
 -- its numbers, from the words before its circuit
 unfoldable pub due-of : List ℕ → Due
@@ -19,10 +19,6 @@ unfoldable pub ends : Due → Answer → Bool
 ends d (Refused n) = false
 ends d (Played stop ticks bytes) = eqb stop (d .stop) && (eqb ticks (d .ticks) && eqb bytes (d .records))
 
--- the three areas are zero
-unfoldable pub cleared : List ℕ → List ℕ → List ℕ → Bool
-cleared vs us ds = alike 0 vs && (alike 0 us && alike 0 ds)
-
 -- all of it: the answer, the log with these records in front and what it was filled with behind them, and the areas
 unfoldable pub as-due : Due → Answer → List ℕ → ℕ → List ℕ → List ℕ → List ℕ → List ℕ → Bool
-as-due d a records filled log vs us ds = ends d a && (holds filled log records && cleared vs us ds)
+as-due d a records filled log vs us ds = ends d a && (holds filled log records && all-alike 0 vs us ds)

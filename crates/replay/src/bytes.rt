@@ -1,8 +1,8 @@
-// Bytes made alike, and compared.
+// Bytes and words made alike, and compared.
 ghost use mathlib.Core.Path.{_≡_};
 ghost use lib.ListN.{length, replicate};
 ghost use Rattle.words.specs.Slices.{before, after};
-ghost use Rattle.replay.specs.Bytes.{alike, same, holds};
+ghost use Rattle.replay.specs.Bytes.{alike, all-alike, same, holds};
 
 // Makes every byte of the area this one.
 pub fn fill(area: &mut [u8], byte: u8)
@@ -12,6 +12,31 @@ pub fn fill(area: &mut [u8], byte: u8)
     let mut i = 0;
     while i < n {
         area[i] = byte;
+        i += 1;
+    }
+}
+
+// Makes every byte of the log and of the three areas this one.
+pub fn fill_all(log: &mut [u8], values: &mut [u8], units: &mut [u8], delays: &mut [u8], byte: u8)
+    ensures { λ _. ⌜ after log ≡ replicate (length (before log)) byte ⌝ }
+    ensures { λ _. ⌜ after values ≡ replicate (length (before values)) byte ⌝ }
+    ensures { λ _. ⌜ after units ≡ replicate (length (before units)) byte ⌝ }
+    ensures { λ _. ⌜ after delays ≡ replicate (length (before delays)) byte ⌝ }
+{
+    fill(log, byte);
+    fill(values, byte);
+    fill(units, byte);
+    fill(delays, byte);
+}
+
+// Makes every word this one.
+pub fn fill_words(told: &mut [u64], word: u64)
+    ensures { λ _. ⌜ after told ≡ replicate (length (before told)) word ⌝ }
+{
+    let n = told.len();
+    let mut i = 0;
+    while i < n {
+        told[i] = word;
         i += 1;
     }
 }
@@ -31,8 +56,39 @@ pub fn is_alike(area: &[u8], byte: u8) -> bool
     true
 }
 
+// Whether every byte of the three areas is this one.
+pub fn are_alike(values: &[u8], units: &[u8], delays: &[u8], byte: u8) -> bool
+    ensures { λ r. ⌜ r ≡ all-alike byte (before values) (before units) (before delays) ⌝ }
+{
+    if !is_alike(values, byte) {
+        return false;
+    }
+    if !is_alike(units, byte) {
+        return false;
+    }
+    is_alike(delays, byte)
+}
+
 // Whether both are of one length, with the same bytes.
 pub fn is_same(a: &[u8], b: &[u8]) -> bool
+    ensures { λ r. ⌜ r ≡ same (before a) (before b) ⌝ }
+{
+    let n = a.len();
+    if b.len() != n {
+        return false;
+    }
+    let mut i = 0;
+    while i < n {
+        if a[i] != b[i] {
+            return false;
+        }
+        i += 1;
+    }
+    true
+}
+
+// Whether both are of one length, with the same words.
+pub fn is_same_words(a: &[u64], b: &[u64]) -> bool
     ensures { λ r. ⌜ r ≡ same (before a) (before b) ⌝ }
 {
     let n = a.len();

@@ -1,8 +1,8 @@
 // A run of the packed ones: its numbers, and whether what came of it is what was due.
 ghost use mathlib.Core.Path.{_≡_};
 ghost use Rattle.words.specs.Slices.{before, was};
-ghost use Rattle.replay.specs.Due.{due-of, ends, cleared, as-due};
-use crate::bytes::is_alike;
+ghost use Rattle.replay.specs.Due.{due-of, ends, as-due};
+use crate::bytes::are_alike;
 use crate::bytes::is_holding;
 use run::Answer;
 use words::read;
@@ -55,19 +55,6 @@ pub fn is_end(due: Due, answer: Answer) -> bool
     }
 }
 
-// Whether the three areas are zero.
-pub fn is_cleared(values: &[u8], units: &[u8], delays: &[u8]) -> bool
-    ensures { λ r. ⌜ r ≡ cleared (before values) (before units) (before delays) ⌝ }
-{
-    if !is_alike(values, 0) {
-        return false;
-    }
-    if !is_alike(units, 0) {
-        return false;
-    }
-    is_alike(delays, 0)
-}
-
 // Whether the answer is the one due, the log holds the records and behind them what it was filled with, and the areas are zero.
 pub fn is_as_due(
     due: Due,
@@ -87,5 +74,5 @@ pub fn is_as_due(
     if !is_holding(log, records, filled) {
         return false;
     }
-    is_cleared(values, units, delays)
+    are_alike(values, units, delays, 0)
 }

@@ -14,31 +14,24 @@ Inv-loop area₀ byte n i₀ area i = (length area ≡ length area₀) × (i ≤
 abbrev μ-loop : tie.MeasureT-loop
 μ-loop area₀ byte n i₀ area i = n - i
 
--- src/bytes.rt:12:5
 loop-holds : tie.Need-loop-holds Inv-loop μ-loop
 loop-holds c = (search needs, search needs, filled-first _ _)
 
--- src/bytes.rt:13:9
 slice-write-area : tie.Need-slice-write-area Inv-loop μ-loop
 slice-write-area c = search needs
 
--- src/bytes.rt:14:9
 add-i : tie.Need-add-i Inv-loop μ-loop
 add-i c = search needs
 
--- src/bytes.rt:12:5
 loop-less : tie.Need-loop-less Inv-loop μ-loop
 loop-less c = search needs
 
--- src/bytes.rt:12:5
 loop-again : tie.Need-loop-again Inv-loop μ-loop
 loop-again c = (search needs, search needs, filled-next _ _ _ (search needs) (c .before .loop .inv .2))
 
--- src/bytes.rt:7:1
 same-length : tie.Need-same-length Inv-loop μ-loop
 same-length c = search needs
 
--- src/bytes.rt:7:1
 returns : tie.Need-returns Inv-loop μ-loop
 returns c = filled-last _ _ _ _ (c .before .loop .inv .0) (c .loop-test .left) (c .before .loop .inv .2)
 

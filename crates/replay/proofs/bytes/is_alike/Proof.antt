@@ -15,31 +15,24 @@ Inv-loop area byte n i₀ i = (i ≤ length area) × (alike byte (drop i area) �
 abbrev μ-loop : tie.MeasureT-loop
 μ-loop area byte n i₀ i = n - i
 
--- src/bytes.rt:24:5
 loop-holds : tie.Need-loop-holds Inv-loop μ-loop
 loop-holds c = (search needs, refl)
 
--- src/bytes.rt:25:12
 shared-slice-read-if1 : tie.Need-shared-slice-read-if1 Inv-loop μ-loop
 shared-slice-read-if1 c = search needs
 
--- src/bytes.rt:26:13
 returns : tie.Need-returns Inv-loop μ-loop
 returns c = alike-stop _ _ _ _ (c .before .before .loop-test .taken) (c .if1 .taken) (c .before .before .before .loop .inv .1)
 
--- src/bytes.rt:28:9
 add-i : tie.Need-add-i Inv-loop μ-loop
 add-i c = search needs
 
--- src/bytes.rt:24:5
 loop-less : tie.Need-loop-less Inv-loop μ-loop
 loop-less c = search needs
 
--- src/bytes.rt:24:5
 loop-again : tie.Need-loop-again Inv-loop μ-loop
 loop-again c = (search needs, alike-next _ _ _ _ (c .before .before .loop-test .taken) (c .if1 .left) (c .before .before .before .loop .inv .1))
 
--- src/bytes.rt:19:1
 returns-2 : tie.Need-returns-2 Inv-loop μ-loop
 returns-2 c = alike-last _ _ _ _ (c .loop-test .left) (c .before .loop .inv .1)
 

@@ -9,39 +9,30 @@ use Rattle.replay.proofs.bytes.is_holding.Lts as lts
 use Rattle.replay.proofs.bytes.is_alike.Reads as is-alike-reads
 use Rattle.replay.proofs.bytes.is_same.Reads as is-same-reads
 
--- src/bytes.rt:57:9
 returns : tie.Need-returns
 returns c = holds-short _ _ _ (c .if1 .taken)
 
--- src/bytes.rt:59:17
 slice-aggregate-is-same : tie.Need-slice-aggregate-is-same
 slice-aggregate-is-same c = sym (length-take-le _ (c .before .before .before .before .args .log .now) (c .before .if1 .left))
 
--- src/bytes.rt:59:9
 is-same-requires : tie.Need-is-same-requires
 is-same-requires c κs = search needs
 
--- src/bytes.rt:60:9
 returns-2 : tie.Need-returns-2
 returns-2 c = holds-other _ _ _ _ (c .before .is-same .ensures) (c .if2 .taken)
 
--- src/bytes.rt:62:14
 sub-is-alike : tie.Need-sub-is-alike
 sub-is-alike c = search needs
 
--- src/bytes.rt:62:14
 part-is-alike-start : tie.Need-part-is-alike-start
 part-is-alike-start c = search needs
 
--- src/bytes.rt:62:14
 part-is-alike-end : tie.Need-part-is-alike-end
 part-is-alike-end c = search needs
 
--- src/bytes.rt:62:5
 is-alike-requires : tie.Need-is-alike-requires
 is-alike-requires c κs = search needs
 
--- src/bytes.rt:52:1
 returns-3 : tie.Need-returns-3
 returns-3 c = holds-rest _ _ _ _ _ (c .before .before .before .is-same .ensures) (c .before .before .if2 .left) (c .is-alike .ensures)
 

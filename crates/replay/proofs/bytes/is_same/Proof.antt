@@ -15,39 +15,30 @@ Inv-loop a b n i₀ i = (i ≤ length a) × (same (drop i a) (drop i b) ≡ same
 abbrev μ-loop : tie.MeasureT-loop
 μ-loop a b n i₀ i = n - i
 
--- src/bytes.rt:39:9
 returns : tie.Need-returns Inv-loop μ-loop
 returns c = same-other _ _ (c .if1 .taken)
 
--- src/bytes.rt:42:5
 loop-holds : tie.Need-loop-holds Inv-loop μ-loop
 loop-holds c = (search needs, refl)
 
--- src/bytes.rt:43:12
 shared-slice-read-if2 : tie.Need-shared-slice-read-if2 Inv-loop μ-loop
 shared-slice-read-if2 c = search needs
 
--- src/bytes.rt:43:20
 shared-slice-read-if2-2 : tie.Need-shared-slice-read-if2-2 Inv-loop μ-loop
 shared-slice-read-if2-2 c = search needs
 
--- src/bytes.rt:44:13
 returns-2 : tie.Need-returns-2 Inv-loop μ-loop
 returns-2 c = same-stop _ _ _ _ (c .before .before .before .loop-test .taken) (search needs) (c .if2 .taken) (c .before .before .before .before .loop .inv .1)
 
--- src/bytes.rt:46:9
 add-i : tie.Need-add-i Inv-loop μ-loop
 add-i c = search needs
 
--- src/bytes.rt:42:5
 loop-less : tie.Need-loop-less Inv-loop μ-loop
 loop-less c = search needs
 
--- src/bytes.rt:42:5
 loop-again : tie.Need-loop-again Inv-loop μ-loop
 loop-again c = (search needs, same-next _ _ _ _ (c .before .before .before .loop-test .taken) (search needs) (c .if2 .left) (c .before .before .before .before .loop .inv .1))
 
--- src/bytes.rt:34:1
 returns-3 : tie.Need-returns-3 Inv-loop μ-loop
 returns-3 c = same-last _ _ _ _ (c .loop-test .left) (search needs) (c .before .loop .inv .1)
 

@@ -6,37 +6,31 @@ use Rattle.replay.proofs.due.is_as_due.Tie as tie
 use Rattle.replay.proofs.due.is_as_due.Reads as reads
 use Rattle.replay.proofs.due.is_as_due.Lts as lts
 use Rattle.replay.proofs.bytes.is_holding.Reads as is-holding-reads
-use Rattle.replay.proofs.due.is_cleared.Reads as is-cleared-reads
+use Rattle.replay.proofs.bytes.are_alike.Reads as are-alike-reads
 use Rattle.replay.proofs.due.is_end.Reads as is-end-reads
 
--- src/due.rt:84:9
 is-end-requires : tie.Need-is-end-requires
 is-end-requires c κs = search needs
 
--- src/due.rt:85:9
 returns : tie.Need-returns
 unfolding as-due
 returns c = and-left _ _ _ (c .before .is-end .ensures) (c .if1 .taken)
 
--- src/due.rt:87:9
 is-holding-requires : tie.Need-is-holding-requires
 is-holding-requires c κs = search needs
 
--- src/due.rt:88:9
 returns-2 : tie.Need-returns-2
 unfolding as-due
 returns-2 c = and-right _ _ _ _ (c .before .before .before .is-end .ensures) (c .before .before .if1 .left) (and-left _ _ _ (c .before .is-holding .ensures) (c .if2 .taken))
 
--- src/due.rt:90:5
-is-cleared-requires : tie.Need-is-cleared-requires
-is-cleared-requires c κs = search needs
+are-alike-requires : tie.Need-are-alike-requires
+are-alike-requires c κs = search needs
 
--- src/due.rt:72:1
 returns-3 : tie.Need-returns-3
 unfolding as-due
-returns-3 c = and-right _ _ _ _ (c .before .before .before .before .is-end .ensures) (c .before .before .before .if1 .left) (and-right _ _ _ _ (c .before .before .is-holding .ensures) (c .before .if2 .left) (c .is-cleared .ensures))
+returns-3 c = and-right _ _ _ _ (c .before .before .before .before .is-end .ensures) (c .before .before .before .if1 .left) (and-right _ _ _ _ (c .before .before .is-holding .ensures) (c .before .if2 .left) (c .are-alike .ensures))
 
 pub is-as-due-spec : {M : Type 1} → statement M
 is-as-due-spec =
     tie.close
-    (tie.spec is-end-requires returns is-holding-requires returns-2 is-cleared-requires returns-3)
+    (tie.spec is-end-requires returns is-holding-requires returns-2 are-alike-requires returns-3)

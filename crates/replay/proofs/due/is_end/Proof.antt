@@ -5,27 +5,21 @@ use Rattle.replay.proofs.due.is_end.Tie as tie
 use Rattle.replay.proofs.due.is_end.Reads as reads
 use Rattle.replay.proofs.due.is_end.Lts as lts
 
--- src/due.rt:45:31
 enum-told : tie.Need-enum-told
 enum-told c = search needs
 
--- src/due.rt:46:24
 enum-known-answer : tie.Need-enum-known-answer
 enum-known-answer c = search needs
 
--- src/due.rt:48:17
 returns : tie.Need-returns
 returns c = ends-other-stop _ _ _ _ _ (c .before .before .before .answer .given .1) (c .if1 .taken)
 
--- src/due.rt:51:17
 returns-2 : tie.Need-returns-2
 returns-2 c = ends-other-ticks _ _ _ _ _ (c .before .before .before .before .before .answer .given .1) (c .before .before .if1 .left) (c .if2 .taken)
 
--- src/due.rt:41:1
 returns-3 : tie.Need-returns-3
 returns-3 c = ends-refused _ _ _ (c .enum-told .given .1)
 
--- src/due.rt:41:1
 returns-4 : tie.Need-returns-4
 returns-4 c = ends-by-bytes _ _ _ _ _ (c .before .before .before .before .before .answer .given .1) (c .before .before .if1 .left) (c .if2 .left)
 

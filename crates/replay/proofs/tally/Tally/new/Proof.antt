@@ -5,7 +5,6 @@ use Rattle.replay.proofs.tally.Tally.new.Tie as tie
 use Rattle.replay.proofs.tally.Tally.new.Reads as reads
 use Rattle.replay.proofs.tally.Tally.new.Lts as lts
 
--- src/tally.rt:15:5
 returns : tie.Need-returns
 unfolding none-played
 returns c = refl

@@ -5,7 +5,6 @@ use Rattle.replay.proofs.tally.Tally.with_cut.Tie as tie
 use Rattle.replay.proofs.tally.Tally.with_cut.Reads as reads
 use Rattle.replay.proofs.tally.Tally.with_cut.Lts as lts
 
--- src/tally.rt:43:5
 returns : tie.Need-returns
 unfolding with-cut
 returns c = refl

@@ -6,11 +6,9 @@ use Rattle.replay.proofs.tally.Tally.with_same.Reads as reads
 use Rattle.replay.proofs.tally.Tally.with_same.Lts as lts
 use Rattle.std.proofs.num.wrapping_add_u64.Reads as wrapping-add-u64-reads
 
--- src/tally.rt:29:9
 wrapping-add-u64-requires : tie.Need-wrapping-add-u64-requires
 wrapping-add-u64-requires c κs = search needs
 
--- src/tally.rt:26:5
 returns : tie.Need-returns
 unfolding with-same one-more
 returns c = λ i. record { played = (c .wrapping-add-u64 .ensures) i; differ = c .before .args .self .differ; cut = c .before .args .self .cut }

@@ -1,17 +1,17 @@
 use borrow.Author.Needs.{needs}
 use Prim.Native.Nat.{_-_}
-use Rattle.replay.proofs.play_all.Statement.{statement}
-use Rattle.replay.proofs.play_all.Tie as tie
-use Rattle.replay.proofs.play_all.Reads as reads
-use Rattle.replay.proofs.play_all.Lts as lts
-use Rattle.replay.proofs.play_next.Reads as play-next-reads
+use Rattle.replay.proofs.classes.play_all.Statement.{statement}
+use Rattle.replay.proofs.classes.play_all.Tie as tie
+use Rattle.replay.proofs.classes.play_all.Reads as reads
+use Rattle.replay.proofs.classes.play_all.Lts as lts
+use Rattle.replay.proofs.classes.play_next.Reads as play-next-reads
 use Rattle.replay.proofs.tally.Tally.new.Reads as new-reads
 
 abbrev Inv-loop : tie.InvT-loop
-Inv-loop fd runs tally₀ left₀ tally left = Unit {0}
+Inv-loop fd classes tally₀ left₀ tally left = Unit {0}
 
 abbrev μ-loop : tie.MeasureT-loop
-μ-loop fd runs tally₀ left₀ tally left = left
+μ-loop fd classes tally₀ left₀ tally left = left
 
 new-requires : tie.Need-new-requires Inv-loop μ-loop
 new-requires c κs = search needs

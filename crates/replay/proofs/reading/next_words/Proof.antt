@@ -2,78 +2,66 @@ use Prim.Native.Nat.{_-_}
 use lib.ListN.{length}
 use mathlib.Core.Path.{_≡_}
 use borrow.Author.Needs.{needs}
-use Rattle.replay.proofs.next_bytes.Statement.{statement}
-use Rattle.replay.proofs.next_bytes.Tie as tie
-use Rattle.replay.proofs.next_bytes.Reads as reads
-use Rattle.replay.proofs.next_bytes.Lts as lts
-use Rattle.replay.proofs.next_word.Reads as next-word-reads
+use Rattle.replay.proofs.reading.next_words.Statement.{statement}
+use Rattle.replay.proofs.reading.next_words.Tie as tie
+use Rattle.replay.proofs.reading.next_words.Reads as reads
+use Rattle.replay.proofs.reading.next_words.Lts as lts
+use Rattle.replay.proofs.reading.next_word.Reads as next-word-reads
 use Rattle.words.proofs.read.Reads as read-reads
-use Rattle.words.proofs.write.Reads as write-reads
 
 abbrev Inv-loop : tie.InvT-loop
-Inv-loop fd buffer₀ bytes n k₀ buffer k = length buffer ≡ length buffer₀
+Inv-loop fd told₀ n k₀ told k = length told ≡ length told₀
 
 abbrev μ-loop : tie.MeasureT-loop
-μ-loop fd buffer₀ bytes n k₀ buffer k = n - k
+μ-loop fd told₀ n k₀ told k = n - k
 
--- src/main.rt:60:9
 returns : tie.Need-returns Inv-loop μ-loop
 returns c = search needs
 
--- src/main.rt:64:5
 loop-holds : tie.Need-loop-holds Inv-loop μ-loop
 loop-holds c = search needs
 
--- src/main.rt:66:27
 slice-aggregate-next-word : tie.Need-slice-aggregate-next-word Inv-loop μ-loop
 slice-aggregate-next-word c = search needs
 
--- src/main.rt:66:13
 next-word-requires : tie.Need-next-word-requires Inv-loop μ-loop
 next-word-requires c κs = search needs
 
--- src/main.rt:67:13
 same-length : tie.Need-same-length Inv-loop μ-loop
 same-length c = search needs
 
--- src/main.rt:67:13
 returns-2 : tie.Need-returns-2 Inv-loop μ-loop
 returns-2 c = search needs
 
--- src/main.rt:69:31
 slice-aggregate-read : tie.Need-slice-aggregate-read Inv-loop μ-loop
 slice-aggregate-read c = search needs
 
--- src/main.rt:69:26
 read-requires : tie.Need-read-requires Inv-loop μ-loop
 read-requires c κs = search needs
 
--- src/main.rt:69:9
-write-requires : tie.Need-write-requires Inv-loop μ-loop
-write-requires c κs = search needs
+mul-told : tie.Need-mul-told Inv-loop μ-loop
+mul-told c = search needs
 
--- src/main.rt:70:9
+slice-write-told : tie.Need-slice-write-told Inv-loop μ-loop
+slice-write-told c = search needs
+
 add-k : tie.Need-add-k Inv-loop μ-loop
 add-k c = search needs
 
--- src/main.rt:64:5
 loop-less : tie.Need-loop-less Inv-loop μ-loop
 loop-less c = search needs
 
--- src/main.rt:64:5
 loop-again : tie.Need-loop-again Inv-loop μ-loop
 loop-again c = search needs
 
--- src/main.rt:58:1
 same-length-2 : tie.Need-same-length-2 Inv-loop μ-loop
 same-length-2 c = search needs
 
--- src/main.rt:58:1
 returns-3 : tie.Need-returns-3 Inv-loop μ-loop
 returns-3 c = search needs
 
-pub next-bytes-spec : {M : Type 1} → statement M
-next-bytes-spec =
+pub next-words-spec : {M : Type 1} → statement M
+next-words-spec =
     tie.close
     (tie.spec
     Inv-loop
@@ -86,7 +74,8 @@ next-bytes-spec =
     returns-2
     slice-aggregate-read
     read-requires
-    write-requires
+    mul-told
+    slice-write-told
     add-k
     loop-less
     loop-again

@@ -2,38 +2,31 @@ use mathlib.Core.Path.{sym}
 use lib.Seq.{length-take-le}
 use borrow.Author.Tests.{ltb-false}
 use borrow.Author.Needs.{needs}
-use Rattle.replay.proofs.play_read.Statement.{statement}
-use Rattle.replay.proofs.play_read.Tie as tie
-use Rattle.replay.proofs.play_read.Reads as reads
-use Rattle.replay.proofs.play_read.Lts as lts
-use Rattle.replay.proofs.play_one.Reads as play-one-reads
+use Rattle.replay.proofs.runs.play_read.Statement.{statement}
+use Rattle.replay.proofs.runs.play_read.Tie as tie
+use Rattle.replay.proofs.runs.play_read.Reads as reads
+use Rattle.replay.proofs.runs.play_read.Lts as lts
+use Rattle.replay.proofs.runs.play_one.Reads as play-one-reads
 use Rattle.replay.proofs.tally.Tally.with_cut.Reads as with-cut-reads
 
--- src/main.rt:163:9
 with-cut-requires : tie.Need-with-cut-requires
 with-cut-requires c κs = search needs
 
--- src/main.rt:163:9
 returns : tie.Need-returns
 returns c = search needs
 
--- src/main.rt:168:9
 slice-aggregate-play-one : tie.Need-slice-aggregate-play-one
 slice-aggregate-play-one c = sym (length-take-le (c .before .before .before .before .before .before .before .before .before .before .args .due .circuit) (c .before .before .before .before .before .before .before .before .before .before .args .circuit .now) (c .before .before .before .before .before .if1 .left))
 
--- src/main.rt:169:9
 slice-aggregate-play-one-2 : tie.Need-slice-aggregate-play-one-2
 slice-aggregate-play-one-2 c = sym (length-take-le (c .before .before .before .before .before .before .before .before .before .before .before .args .due .script) (c .before .before .before .before .before .before .before .before .before .before .before .args .script .now) (ltb-false _ _ (c .before .before .before .before .if2 .left)))
 
--- src/main.rt:170:9
 slice-aggregate-play-one-3 : tie.Need-slice-aggregate-play-one-3
 slice-aggregate-play-one-3 c = sym (length-take-le (c .before .before .before .before .before .before .before .before .before .before .before .before .args .due .records) (c .before .before .before .before .before .before .before .before .before .before .before .before .args .records .now) (ltb-false _ _ (c .before .before .before .if3 .left)))
 
--- src/main.rt:165:5
 play-one-requires : tie.Need-play-one-requires
 play-one-requires c κs = search needs
 
--- src/main.rt:161:1
 returns-2 : tie.Need-returns-2
 returns-2 c = search needs
 

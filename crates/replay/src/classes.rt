@@ -1,0 +1,201 @@
+// The packed classes: each is played, and what comes of it compared with what is due.
+ghost use mathlib.Core.Path.{_≡_};
+ghost use Rattle.words.specs.Slices.{before};
+ghost use Rattle.replay.specs.ClassMet.{class-met};
+use crate::bytes::fill_all;
+use crate::bytes::fill_words;
+use crate::class_due::ClassDue;
+use crate::class_due::class_numbers;
+use crate::class_due::is_class_as_due;
+use crate::printing::print_other;
+use crate::reading::next_bytes;
+use crate::reading::next_parts;
+use crate::reading::next_words;
+use crate::rooms::FILLED;
+use crate::rooms::FILLED_WORD;
+use crate::rooms::delays_room;
+use crate::rooms::filled_room;
+use crate::rooms::room;
+use crate::rooms::told_room;
+use crate::tally::Tally;
+
+// The bytes of the numbers before a class's circuit. The last of them, the bytes of all records together, is not used.
+const HEAD: usize = 104;
+
+// Plays a class with this log, these areas and these words for what is told, and compares.
+fn play_lent(
+    due: ClassDue,
+    circuit: &[u8],
+    book: &[u8],
+    records: &[u8],
+    words: &[u64],
+    log: &mut [u8],
+    values: &mut [u8],
+    units: &mut [u8],
+    delays: &mut [u8],
+    told: &mut [u64],
+) -> bool
+    ensures { λ r. ⌜ r ≡ class-met due (before circuit) (before book) (before records) (before words) (before log) (before values) (before units) (before delays) (before told) ⌝ }
+{
+    fill_all(log, values, units, delays, FILLED);
+    fill_words(told, FILLED_WORD);
+    let number = class::class(circuit, book, log, values, units, delays, told);
+    is_class_as_due(
+        due,
+        number,
+        records,
+        words,
+        log,
+        values,
+        units,
+        delays,
+        told,
+    )
+}
+
+// Plays a class with as many bytes and words of the buffers as it lends; one that lends more than there are is not as it should be.
+fn play_in(
+    due: ClassDue,
+    circuit: &[u8],
+    book: &[u8],
+    records: &[u8],
+    words: &[u64],
+    log: &mut [u8],
+    values: &mut [u8],
+    units: &mut [u8],
+    delays: &mut [u8],
+    told: &mut [u64],
+) -> bool {
+    if log.len() < due.log
+        || values.len() < due.values
+        || units.len() < due.units
+        || delays.len() < due.delays
+        || told.len() < due.told
+    {
+        return false;
+    }
+    play_lent(
+        due,
+        circuit,
+        book,
+        records,
+        words,
+        &mut log[..due.log],
+        &mut values[..due.values],
+        &mut units[..due.units],
+        &mut delays[..due.delays],
+        &mut told[..due.told],
+    )
+}
+
+// Plays a class with buffers for the log, the areas and what is told.
+fn play(due: ClassDue, circuit: &[u8], book: &[u8], records: &[u8], words: &[u64]) -> bool {
+    let mut log = room();
+    let mut values = room();
+    let mut units = room();
+    let mut delays = delays_room();
+    let mut told = told_room();
+    play_in(
+        due,
+        circuit,
+        book,
+        records,
+        words,
+        &mut log,
+        &mut values,
+        &mut units,
+        &mut delays,
+        &mut told,
+    )
+}
+
+// Plays a class with these bytes and words, and counts it.
+fn play_one(
+    tally: Tally,
+    due: ClassDue,
+    circuit: &[u8],
+    book: &[u8],
+    records: &[u8],
+    words: &[u64],
+) -> Tally {
+    if play(due, circuit, book, records, words) {
+        return tally.with_same();
+    }
+    print_other(b"class ", tally.played);
+    tally.with_other()
+}
+
+// Reads what has to be told and the log that is due, both filled where nothing is due, and plays the class.
+fn play_due(
+    fd: i32,
+    tally: Tally,
+    due: ClassDue,
+    circuit: &[u8],
+    book: &[u8],
+    log: &mut [u8],
+    told: &mut [u64],
+) -> Tally {
+    if !next_words(fd, told, due.words) {
+        return tally.with_cut();
+    }
+    if !next_parts(fd, log, due.parts, due.part) {
+        return tally.with_cut();
+    }
+    play_one(tally, due, circuit, book, log, told)
+}
+
+// Plays a class with as many bytes and words of these buffers as it has; one that has more than there are is not whole.
+fn play_read(
+    fd: i32,
+    tally: Tally,
+    due: ClassDue,
+    circuit: &[u8],
+    book: &[u8],
+    log: &mut [u8],
+    told: &mut [u64],
+) -> Tally {
+    if circuit.len() < due.circuit
+        || book.len() < due.book
+        || log.len() < due.log
+        || told.len() < due.told
+    {
+        return tally.with_cut();
+    }
+    play_due(
+        fd,
+        tally,
+        due,
+        &circuit[..due.circuit],
+        &book[..due.book],
+        &mut log[..due.log],
+        &mut told[..due.told],
+    )
+}
+
+// Reads the next class and plays it.
+fn play_next(fd: i32, tally: Tally) -> Tally {
+    let mut head = [0u8; HEAD];
+    let mut circuit = room();
+    let mut book = room();
+    let mut log = filled_room();
+    let mut told = told_room();
+    if !next_bytes(fd, &mut head, HEAD) {
+        return tally.with_cut();
+    }
+    let due = class_numbers(&head);
+    if next_bytes(fd, &mut circuit, due.circuit) && next_bytes(fd, &mut book, due.book) {
+        return play_read(fd, tally, due, &circuit, &book, &mut log, &mut told);
+    }
+    tally.with_cut()
+}
+
+// Plays this many classes, or up to the first that cannot be read whole.
+pub fn play_all(fd: i32, classes: u64) -> Tally {
+    let mut tally = Tally::new();
+    let mut left = classes;
+    while 0 < left && !tally.cut {
+        tally = play_next(fd, tally);
+        left -= 1;
+    }
+    tally
+}

@@ -1,0 +1,43 @@
+// Buffers, and what they are filled with.
+ghost use mathlib.Core.Path.{_≡_};
+ghost use lib.ListN.{length};
+
+// The room for a circuit, a script, a book, records, a log or an area, for delays, and for words told.
+const ROOM: usize = 262_144;
+
+const DELAYS: usize = 524_288;
+
+const TOLD: usize = 64;
+
+// What the log and the areas hold before a call, and a word of eight such bytes.
+pub const FILLED: u8 = 165;
+
+pub const FILLED_WORD: u64 = 0xa5a5_a5a5_a5a5_a5a5;
+
+// ROOM zeros. The `ensures` says only how many, which lending them needs: the prover is faster where it does not know the bytes.
+pub fn room() -> [u8; ROOM]
+    ensures { λ r. ⌜ 262144 ≡ length r ⌝ }
+{
+    [0; ROOM]
+}
+
+// The same, filled.
+pub fn filled_room() -> [u8; ROOM]
+    ensures { λ r. ⌜ 262144 ≡ length r ⌝ }
+{
+    [FILLED; ROOM]
+}
+
+// DELAYS zeros.
+pub fn delays_room() -> [u8; DELAYS]
+    ensures { λ r. ⌜ 524288 ≡ length r ⌝ }
+{
+    [0; DELAYS]
+}
+
+// TOLD words, filled.
+pub fn told_room() -> [u64; TOLD]
+    ensures { λ r. ⌜ 64 ≡ length r ⌝ }
+{
+    [FILLED_WORD; TOLD]
+}

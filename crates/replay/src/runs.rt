@@ -1,0 +1,137 @@
+// The packed runs: each is played, and what comes of it compared with what is due.
+ghost use mathlib.Core.Path.{_≡_};
+ghost use lib.ListN.{length};
+ghost use Rattle.words.specs.Slices.{before};
+ghost use Rattle.replay.specs.Met.{met};
+use crate::bytes::fill_all;
+use crate::due::Due;
+use crate::due::is_as_due;
+use crate::due::numbers;
+use crate::printing::print_other;
+use crate::reading::next_bytes;
+use crate::rooms::FILLED;
+use crate::rooms::delays_room;
+use crate::rooms::room;
+use crate::tally::Tally;
+
+// The bytes of the numbers before a run's circuit.
+const HEAD: usize = 72;
+
+// Plays a run with this log and these areas, and compares.
+fn play_lent(
+    due: Due,
+    circuit: &[u8],
+    script: &[u8],
+    records: &[u8],
+    log: &mut [u8],
+    values: &mut [u8],
+    units: &mut [u8],
+    delays: &mut [u8],
+) -> bool
+    ensures { λ r. ⌜ r ≡ met due (before circuit) (before script) (before records) (before log) (before values) (before units) (before delays) ⌝ }
+{
+    fill_all(log, values, units, delays, FILLED);
+    let answer = run::run(circuit, script, log, values, units, delays);
+    is_as_due(due, answer, records, FILLED, log, values, units, delays)
+}
+
+// Plays a run with as many bytes of the buffers as it lends; one that lends more than there are is not as it should be.
+fn play_in(
+    due: Due,
+    circuit: &[u8],
+    script: &[u8],
+    records: &[u8],
+    log: &mut [u8],
+    values: &mut [u8],
+    units: &mut [u8],
+    delays: &mut [u8],
+) -> bool {
+    if log.len() < due.log
+        || values.len() < due.values
+        || units.len() < due.units
+        || delays.len() < due.delays
+    {
+        return false;
+    }
+    play_lent(
+        due,
+        circuit,
+        script,
+        records,
+        &mut log[..due.log],
+        &mut values[..due.values],
+        &mut units[..due.units],
+        &mut delays[..due.delays],
+    )
+}
+
+// Plays a run with buffers for the log and the areas.
+fn play(due: Due, circuit: &[u8], script: &[u8], records: &[u8]) -> bool {
+    let mut log = room();
+    let mut values = room();
+    let mut units = room();
+    let mut delays = delays_room();
+    play_in(
+        due,
+        circuit,
+        script,
+        records,
+        &mut log,
+        &mut values,
+        &mut units,
+        &mut delays,
+    )
+}
+
+// Plays a run with these bytes, and counts it.
+fn play_one(tally: Tally, due: Due, circuit: &[u8], script: &[u8], records: &[u8]) -> Tally {
+    if play(due, circuit, script, records) {
+        return tally.with_same();
+    }
+    print_other(b"run ", tally.played);
+    tally.with_other()
+}
+
+// Plays a run with as many bytes of these buffers as it has; one that has more than there are is not whole.
+fn play_read(tally: Tally, due: Due, circuit: &[u8], script: &[u8], records: &[u8]) -> Tally {
+    if circuit.len() < due.circuit || script.len() < due.script || records.len() < due.records {
+        return tally.with_cut();
+    }
+    play_one(
+        tally,
+        due,
+        &circuit[..due.circuit],
+        &script[..due.script],
+        &records[..due.records],
+    )
+}
+
+// Reads the next run and plays it.
+fn play_next(fd: i32, tally: Tally) -> Tally {
+    let mut head = [0u8; HEAD];
+    let mut circuit = room();
+    let mut script = room();
+    let mut records = room();
+    if !next_bytes(fd, &mut head, HEAD) {
+        return tally.with_cut();
+    }
+    let due = numbers(&head);
+    if next_bytes(fd, &mut circuit, due.circuit)
+        && next_bytes(fd, &mut script, due.script)
+        && next_bytes(fd, &mut records, due.records)
+    {
+        return play_read(tally, due, &circuit, &script, &records);
+    }
+    tally.with_cut()
+}
+
+// Plays this many runs, or up to the first that cannot be read whole.
+pub fn play_all(fd: i32, runs: u64) -> Tally {
+    let mut tally = Tally::new();
+    let mut left = runs;
+    while 0 < left && !tally.cut {
+        tally = play_next(fd, tally);
+        left -= 1;
+    }
+    tally
+}
