@@ -4,28 +4,16 @@
 //! linear in them; on one to eight equal groups of gates, to see how it grows
 //! with them; and on Loops: `cargo run --offline --release --example run_cost`.
 
-use std::hint::black_box;
-use std::time::{Duration, Instant};
+mod common;
 
+use std::hint::black_box;
+use std::time::Duration;
+
+use common::{first_ticks, least};
 use hazhirun_host::{Answer, run};
 use oracle::build::{Circuit, Script};
 use oracle::circuits::{self, Case};
 use oracle::{Lent, play, questions};
-
-/// The least times of these, which take turns, so that a change of the
-/// machine's pace meets them all.
-fn least<const N: usize>(mut calls: [&mut dyn FnMut(); N]) -> [Duration; N] {
-    let from = Instant::now();
-    let mut least = [Duration::MAX; N];
-    while from.elapsed() < Duration::from_millis(1_500) {
-        for (call, least) in calls.iter_mut().zip(&mut least) {
-            let start = Instant::now();
-            call();
-            *least = start.elapsed().min(*least);
-        }
-    }
-    least
-}
 
 /// The bytes lent for the log.
 const LOG: usize = 1 << 26;
@@ -66,23 +54,6 @@ fn measure(case: &Case, log: &mut [u8], from: &mut [u8], to: &mut [u8]) {
         ours.as_secs_f64() / theirs.as_secs_f64(),
         per_tick(copied),
     );
-}
-
-/// The case with only the first ticks of its script.
-fn first_ticks(case: &Case, ticks: usize) -> Case {
-    let word = |i: usize| i64::from_le_bytes(case.script[8 * i..][..8].try_into().unwrap());
-    let (t, s) = (word(0) as usize, word(1) as usize);
-    let stimuli = (0..ticks).map(|k| word(2 + t + k) as usize).sum();
-    let part = |from: usize, n: usize| (from..from + n).map(word);
-    let words: Vec<i64> = [ticks as i64, stimuli as i64]
-        .into_iter()
-        .chain(part(2, ticks))
-        .chain(part(2 + t, ticks))
-        .chain(part(2 + 2 * t, stimuli))
-        .chain(part(2 + 2 * t + s, stimuli))
-        .collect();
-    let script = words.iter().flat_map(|w| w.to_le_bytes()).collect();
-    Case { script, name: format!("{} ({ticks})", case.name), ..case.clone() }
 }
 
 /// So many groups of eight gates, for 2,000 ticks: a card slot whose card is

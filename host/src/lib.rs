@@ -1,11 +1,14 @@
 //! The player for a host program: [`run`] plays a script over a circuit,
-//! [`check`] only asks whether it could. Both are the proved functions of the
-//! Rattle crate `player`; beside them are those of `leaves`. To build: `rt
-//! staticlib player` and `rt staticlib leaves` in the project's root. `cargo
-//! test --offline --release` compares them with the oracle and the hardware.
+//! [`class`] a book of up to 16 scripts, [`check`] only asks whether a script
+//! could be played. They are the proved functions of the Rattle crate `player`;
+//! beside them are those of `leaves`. To build: `rt staticlib player` and `rt
+//! staticlib leaves` in the project's root. `cargo test --offline --release`
+//! compares them with the oracle and the hardware.
 
+mod class;
 mod player;
 
+pub use class::{ClassAnswer, book, class, parts};
 pub use player::{Answer, check, run, text};
 
 // Each takes and gives numbers, and is proved to have a result for all of them.

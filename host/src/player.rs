@@ -105,11 +105,17 @@ pub fn run(
             told.len(),
         )
     };
-    // The contract of `hazhirun_run` says which numbers there are: 1 to 10 and 19 for a
-    // refusal, 0 and 11 to 13 for a run (`numbers`, crates/run/specs/Call.antt).
+    let [ticks, bytes] = told;
+    answer(number, ticks, bytes)
+}
+
+/// A script's answer from what is told of it. The contracts of `hazhirun_run` and
+/// `hazhirun_class` say which numbers there are: 1 to 10 and 19 for a refusal, 0
+/// and 11 to 13 for a run (`numbers`, crates/model/specs/Promises.antt).
+pub(crate) fn answer(number: u64, ticks: u64, bytes: u64) -> Answer {
     match number {
         1..=10 | 19 => Answer::Refused(number),
-        stop => Answer::Played { stop, ticks: told[0], bytes: told[1] as usize },
+        stop => Answer::Played { stop, ticks, bytes: bytes as usize },
     }
 }
 
@@ -123,12 +129,13 @@ pub fn text(number: u64) -> &'static str {
         5 => "a call does not go from an exec output to an exec input",
         6 => "pure gates read each other in a ring",
         7 => "there are more than 8 Queues, or an area is too small",
-        8 => "the script is not of whole words, or its sizes are out of range",
+        8 => "the script is not of whole words, its sizes are out of range, or it leaves its book",
         9 => "a tick's length or its number of stimuli is out of range",
         10 => "a stimulus has a gate that is no WorldEvent, or no constant",
         11 => "a tick makes more steps than it may",
         12 => "a list is full",
         13 => "a record does not fit the log",
+        15 => "the book has not 1 to 16 scripts, or is too short for their starts and lengths",
         19 => "a call leaves its body, a Loop has no entry of its own, or bodies form a ring",
         _ => "no such number",
     }

@@ -4,8 +4,11 @@
 //! HAZHIRUN_RUNS=100000 cargo test --offline --release --test run
 //! compares as many random and as many damaged calls; by default it is fewer.
 
+mod common;
+
 use std::env;
 
+use common::garbage;
 use hazhirun_host::{Answer, run};
 use oracle::circuits::{self, Case};
 use oracle::generate::{FAMILIES, damaged, damaged_loops, valid};
@@ -13,20 +16,6 @@ use oracle::generate::{FAMILIES, damaged, damaged_loops, valid};
 /// How many random and how many damaged calls are compared.
 fn calls() -> u64 {
     env::var("HAZHIRUN_RUNS").map_or(2_800, |n| n.parse().unwrap())
-}
-
-/// So many bytes of garbage, not the same for each call.
-fn garbage(length: usize, seed: u64) -> Vec<u8> {
-    let mut state = seed.wrapping_mul(0x9e37_79b9_7f4a_7c15) | 1;
-    let mut next = || {
-        state ^= state << 13;
-        state ^= state >> 7;
-        state ^= state << 17;
-        state
-    };
-    let mut bytes: Vec<u8> = (0..length / 8 + 1).flat_map(|_| next().to_le_bytes()).collect();
-    bytes.truncate(length);
-    bytes
 }
 
 /// Plays a case on both; whether it was refused.
