@@ -10,7 +10,7 @@ mod common;
 
 use std::env;
 
-use common::garbage;
+use common::{format_words, garbage};
 use hazhirun_host::{Answer, ClassAnswer, book, class, parts, run};
 use oracle::build::{Book, Circuit, Script};
 use oracle::circuits::{self, Class};
@@ -305,4 +305,25 @@ fn books_of_every_count() {
         };
         assert_eq!(answer, due);
     }
+}
+
+/// The class of docs/FORMAT.md, with the log that it is lent there: what is told,
+/// and what stands in its parts and behind them.
+#[test]
+fn worked_class() {
+    let bytes = |named: &str| -> Vec<u8> {
+        format_words(named).iter().flat_map(|word| word.to_le_bytes()).collect()
+    };
+    let mut class = Class::new("worked", "An example.", bytes("class circuit"), bytes("class book"));
+    class.lent.log = 428;
+    class.told = 9;
+    compare(&class, 1, &mut Counts::default());
+    let mut left = held(&class, 2);
+    let before = left.log.clone();
+    assert_eq!(call(&class, &mut left), 0);
+    let told: Vec<i64> = left.told.iter().map(|&word| word as i64).collect();
+    assert_eq!(told, format_words("class told"));
+    let part = bytes("class part");
+    assert_eq!(part.len(), 136);
+    assert!(left.log == [&part, &before[136..272], &part, &before[408..]].concat());
 }

@@ -8,7 +8,7 @@ mod common;
 
 use std::env;
 
-use common::garbage;
+use common::{format_words, garbage};
 use hazhirun_host::{Answer, run};
 use oracle::circuits::{self, Case};
 use oracle::generate::{FAMILIES, damaged, damaged_loops, valid};
@@ -78,12 +78,7 @@ fn damaged_ones() {
 
 /// A block of docs/FORMAT.md, whose lines begin so: its log is what both write.
 fn block(named: &str, ticks: u64) {
-    let page = include_str!("../../docs/FORMAT.md");
-    let words = |part: &str| -> Vec<i64> {
-        let start = format!("{named}{part}: ");
-        let line = page.lines().find_map(|line| line.strip_prefix(&start)).expect(&start);
-        line.split_whitespace().map(|word| word.parse().expect(word)).collect()
-    };
+    let words = |part: &str| format_words(&format!("{named}{part}"));
     let case = Case::of_words("worked", "An example.", &words("circuit"), &words("script"));
     let log = words("log");
     let theirs = oracle::run(&case.circuit, &case.script, &case.lent);

@@ -1,4 +1,4 @@
-//! What calls are lent.
+//! What the comparisons share.
 
 /// So many bytes of garbage, not the same for each call.
 pub fn garbage(length: usize, seed: u64) -> Vec<u8> {
@@ -12,4 +12,12 @@ pub fn garbage(length: usize, seed: u64) -> Vec<u8> {
     let mut bytes: Vec<u8> = (0..length / 8 + 1).flat_map(|_| next().to_le_bytes()).collect();
     bytes.truncate(length);
     bytes
+}
+
+/// The words of the line of docs/FORMAT.md that begins so.
+pub fn format_words(named: &str) -> Vec<i64> {
+    let page = include_str!("../../../docs/FORMAT.md");
+    let start = format!("{named}: ");
+    let line = page.lines().find_map(|line| line.strip_prefix(&start)).expect(&start);
+    line.split_whitespace().map(|word| word.parse().expect(word)).collect()
 }
