@@ -11,8 +11,11 @@ use crate::printing::print_other;
 use crate::reading::next_bytes;
 use crate::reading::next_parts;
 use crate::reading::next_words;
+use crate::rooms::DELAYS;
 use crate::rooms::FILLED;
 use crate::rooms::FILLED_WORD;
+use crate::rooms::ROOM;
+use crate::rooms::TOLD;
 use crate::rooms::delays_room;
 use crate::rooms::filled_room;
 use crate::rooms::room;
@@ -53,27 +56,21 @@ fn play_lent(
     )
 }
 
-// Plays a class with as many bytes and words of the buffers as it lends; one that lends more than there are is not as it should be.
-fn play_in(
-    due: ClassDue,
-    circuit: &[u8],
-    book: &[u8],
-    records: &[u8],
-    words: &[u64],
-    log: &mut [u8],
-    values: &mut [u8],
-    units: &mut [u8],
-    delays: &mut [u8],
-    told: &mut [u64],
-) -> bool {
-    if log.len() < due.log
-        || values.len() < due.values
-        || units.len() < due.units
-        || delays.len() < due.delays
-        || told.len() < due.told
+// Plays a class with as many bytes and words of buffers as it lends; one that lends more than there are is not as it should be.
+fn play(due: ClassDue, circuit: &[u8], book: &[u8], records: &[u8], words: &[u64]) -> bool {
+    if ROOM < due.log
+        || ROOM < due.values
+        || ROOM < due.units
+        || DELAYS < due.delays
+        || TOLD < due.told
     {
         return false;
     }
+    let mut log = room();
+    let mut values = room();
+    let mut units = room();
+    let mut delays = delays_room();
+    let mut told = told_room();
     play_lent(
         due,
         circuit,
@@ -88,36 +85,22 @@ fn play_in(
     )
 }
 
-// Plays a class with buffers for the log, the areas and what is told.
-fn play(due: ClassDue, circuit: &[u8], book: &[u8], records: &[u8], words: &[u64]) -> bool {
-    let mut log = room();
-    let mut values = room();
-    let mut units = room();
-    let mut delays = delays_room();
-    let mut told = told_room();
-    play_in(
-        due,
-        circuit,
-        book,
-        records,
-        words,
-        &mut log,
-        &mut values,
-        &mut units,
-        &mut delays,
-        &mut told,
-    )
-}
-
-// Plays a class with these bytes and words, and counts it.
+// Reads the words that have to be told and the log's records, both lying on what was filled, plays the class and counts it.
 fn play_one(
+    fd: i32,
     tally: Tally,
     due: ClassDue,
     circuit: &[u8],
     book: &[u8],
-    records: &[u8],
-    words: &[u64],
+    records: &mut [u8],
+    words: &mut [u64],
 ) -> Tally {
+    if !next_words(fd, words, due.words) {
+        return tally.with_cut();
+    }
+    if !next_parts(fd, records, due.parts, due.part) {
+        return tally.with_cut();
+    }
     if play(due, circuit, book, records, words) {
         return tally.with_same();
     }
@@ -125,66 +108,30 @@ fn play_one(
     tally.with_other()
 }
 
-// Reads what has to be told and the log that is due, both filled where nothing is due, and plays the class.
-fn play_due(
-    fd: i32,
-    tally: Tally,
-    due: ClassDue,
-    circuit: &[u8],
-    book: &[u8],
-    log: &mut [u8],
-    told: &mut [u64],
-) -> Tally {
-    if !next_words(fd, told, due.words) {
-        return tally.with_cut();
-    }
-    if !next_parts(fd, log, due.parts, due.part) {
-        return tally.with_cut();
-    }
-    play_one(tally, due, circuit, book, log, told)
-}
-
-// Plays a class with as many bytes and words of these buffers as it has; one that has more than there are is not whole.
-fn play_read(
-    fd: i32,
-    tally: Tally,
-    due: ClassDue,
-    circuit: &[u8],
-    book: &[u8],
-    log: &mut [u8],
-    told: &mut [u64],
-) -> Tally {
-    if circuit.len() < due.circuit
-        || book.len() < due.book
-        || log.len() < due.log
-        || told.len() < due.told
-    {
-        return tally.with_cut();
-    }
-    play_due(
-        fd,
-        tally,
-        due,
-        &circuit[..due.circuit],
-        &book[..due.book],
-        &mut log[..due.log],
-        &mut told[..due.told],
-    )
-}
-
-// Reads the next class and plays it.
+// Reads the next class, if there are buffers for it, and plays it.
 fn play_next(fd: i32, tally: Tally) -> Tally {
     let mut head = [0u8; HEAD];
-    let mut circuit = room();
-    let mut book = room();
-    let mut log = filled_room();
-    let mut told = told_room();
     if !next_bytes(fd, &mut head, HEAD) {
         return tally.with_cut();
     }
     let due = class_numbers(&head);
+    if ROOM < due.circuit || ROOM < due.book || ROOM < due.log || TOLD < due.told {
+        return tally.with_cut();
+    }
+    let mut circuit = room();
+    let mut book = room();
+    let mut records = filled_room();
+    let mut words = told_room();
     if next_bytes(fd, &mut circuit, due.circuit) && next_bytes(fd, &mut book, due.book) {
-        return play_read(fd, tally, due, &circuit, &book, &mut log, &mut told);
+        return play_one(
+            fd,
+            tally,
+            due,
+            &circuit[..due.circuit],
+            &book[..due.book],
+            &mut records[..due.log],
+            &mut words[..due.told],
+        );
     }
     tally.with_cut()
 }

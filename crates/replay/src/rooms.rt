@@ -3,11 +3,11 @@ ghost use mathlib.Core.Path.{_≡_};
 ghost use lib.ListN.{length};
 
 // The room for a circuit, a script, a book, records, a log or an area, for delays, and for words told.
-const ROOM: usize = 262_144;
+pub const ROOM: usize = 262_144;
 
-const DELAYS: usize = 524_288;
+pub const DELAYS: usize = 524_288;
 
-const TOLD: usize = 64;
+pub const TOLD: usize = 64;
 
 // What the log and the areas hold before a call, and a word of eight such bytes.
 pub const FILLED: u8 = 165;

@@ -1,6 +1,5 @@
 // The packed runs: each is played, and what comes of it compared with what is due.
 ghost use mathlib.Core.Path.{_≡_};
-ghost use lib.ListN.{length};
 ghost use Rattle.words.specs.Slices.{before};
 ghost use Rattle.replay.specs.Met.{met};
 use crate::bytes::fill_all;
@@ -9,7 +8,9 @@ use crate::due::is_as_due;
 use crate::due::numbers;
 use crate::printing::print_other;
 use crate::reading::next_bytes;
+use crate::rooms::DELAYS;
 use crate::rooms::FILLED;
+use crate::rooms::ROOM;
 use crate::rooms::delays_room;
 use crate::rooms::room;
 use crate::tally::Tally;
@@ -35,24 +36,15 @@ fn play_lent(
     is_as_due(due, answer, records, FILLED, log, values, units, delays)
 }
 
-// Plays a run with as many bytes of the buffers as it lends; one that lends more than there are is not as it should be.
-fn play_in(
-    due: Due,
-    circuit: &[u8],
-    script: &[u8],
-    records: &[u8],
-    log: &mut [u8],
-    values: &mut [u8],
-    units: &mut [u8],
-    delays: &mut [u8],
-) -> bool {
-    if log.len() < due.log
-        || values.len() < due.values
-        || units.len() < due.units
-        || delays.len() < due.delays
-    {
+// Plays a run with as many bytes of buffers as it lends; one that lends more than there are is not as it should be.
+fn play(due: Due, circuit: &[u8], script: &[u8], records: &[u8]) -> bool {
+    if ROOM < due.log || ROOM < due.values || ROOM < due.units || DELAYS < due.delays {
         return false;
     }
+    let mut log = room();
+    let mut values = room();
+    let mut units = room();
+    let mut delays = delays_room();
     play_lent(
         due,
         circuit,
@@ -65,24 +57,6 @@ fn play_in(
     )
 }
 
-// Plays a run with buffers for the log and the areas.
-fn play(due: Due, circuit: &[u8], script: &[u8], records: &[u8]) -> bool {
-    let mut log = room();
-    let mut values = room();
-    let mut units = room();
-    let mut delays = delays_room();
-    play_in(
-        due,
-        circuit,
-        script,
-        records,
-        &mut log,
-        &mut values,
-        &mut units,
-        &mut delays,
-    )
-}
-
 // Plays a run with these bytes, and counts it.
 fn play_one(tally: Tally, due: Due, circuit: &[u8], script: &[u8], records: &[u8]) -> Tally {
     if play(due, circuit, script, records) {
@@ -92,35 +66,30 @@ fn play_one(tally: Tally, due: Due, circuit: &[u8], script: &[u8], records: &[u8
     tally.with_other()
 }
 
-// Plays a run with as many bytes of these buffers as it has; one that has more than there are is not whole.
-fn play_read(tally: Tally, due: Due, circuit: &[u8], script: &[u8], records: &[u8]) -> Tally {
-    if circuit.len() < due.circuit || script.len() < due.script || records.len() < due.records {
-        return tally.with_cut();
-    }
-    play_one(
-        tally,
-        due,
-        &circuit[..due.circuit],
-        &script[..due.script],
-        &records[..due.records],
-    )
-}
-
-// Reads the next run and plays it.
+// Reads the next run, if there are buffers for it, and plays it.
 fn play_next(fd: i32, tally: Tally) -> Tally {
     let mut head = [0u8; HEAD];
-    let mut circuit = room();
-    let mut script = room();
-    let mut records = room();
     if !next_bytes(fd, &mut head, HEAD) {
         return tally.with_cut();
     }
     let due = numbers(&head);
+    if ROOM < due.circuit || ROOM < due.script || ROOM < due.records {
+        return tally.with_cut();
+    }
+    let mut circuit = room();
+    let mut script = room();
+    let mut records = room();
     if next_bytes(fd, &mut circuit, due.circuit)
         && next_bytes(fd, &mut script, due.script)
         && next_bytes(fd, &mut records, due.records)
     {
-        return play_read(tally, due, &circuit, &script, &records);
+        return play_one(
+            tally,
+            due,
+            &circuit[..due.circuit],
+            &script[..due.script],
+            &records[..due.records],
+        );
     }
     tally.with_cut()
 }

@@ -1,0 +1,87 @@
+use Rattle.replay.proofs.Fitting.{fitting, front}
+use borrow.Author.Needs.{needs}
+use Rattle.replay.proofs.classes.play.Statement.{statement}
+use Rattle.replay.proofs.classes.play.Tie as tie
+use Rattle.replay.proofs.classes.play.Reads as reads
+use Rattle.replay.proofs.classes.play.Lts as lts
+use Rattle.replay.proofs.classes.play_lent.Reads as play-lent-reads
+use Rattle.replay.proofs.rooms.delays_room.Reads as delays-room-reads
+use Rattle.replay.proofs.rooms.room.Reads as room-reads
+use Rattle.replay.proofs.rooms.told_room.Reads as told-room-reads
+
+returns : tie.Need-returns
+returns c = search needs
+
+room-requires : tie.Need-room-requires
+room-requires c κs = search needs
+
+room-requires-2 : tie.Need-room-requires-2
+room-requires-2 c κs = search needs
+
+room-requires-3 : tie.Need-room-requires-3
+room-requires-3 c κs = search needs
+
+delays-room-requires : tie.Need-delays-room-requires
+delays-room-requires c κs = search needs
+
+told-room-requires : tie.Need-told-room-requires
+told-room-requires c κs = search needs
+
+array-borrow-prefix-log : tie.Need-array-borrow-prefix-log
+array-borrow-prefix-log c = search needs
+
+slice-aggregate-play-lent : tie.Need-slice-aggregate-play-lent
+slice-aggregate-play-lent c = front (c .before .before .before .before .before .room .result) (c .before .before .before .before .before .before .before .before .before .before .before .before .before .before .before .before .before .before .before .before .args .due .log) (search needs)
+
+array-borrow-prefix-values : tie.Need-array-borrow-prefix-values
+array-borrow-prefix-values c = fitting (c .before .before .before .before .room2 .result) 262144 (c .before .before .before .before .before .before .before .before .before .before .before .before .before .before .before .before .before .before .before .before .args .due .values) (c .before .before .before .before .room2 .ensures) (c .before .before .before .before .before .before .before .before .before .before .before .before .if2 .left)
+
+slice-aggregate-play-lent-2 : tie.Need-slice-aggregate-play-lent-2
+slice-aggregate-play-lent-2 c = front (c .before .before .before .before .before .room2 .result) (c .before .before .before .before .before .before .before .before .before .before .before .before .before .before .before .before .before .before .before .before .before .args .due .values) (fitting (c .before .before .before .before .before .room2 .result) 262144 (c .before .before .before .before .before .before .before .before .before .before .before .before .before .before .before .before .before .before .before .before .before .args .due .values) (c .before .before .before .before .before .room2 .ensures) (c .before .before .before .before .before .before .before .before .before .before .before .before .before .if2 .left))
+
+array-borrow-prefix-units : tie.Need-array-borrow-prefix-units
+array-borrow-prefix-units c = fitting (c .before .before .before .before .room3 .result) 262144 (c .before .before .before .before .before .before .before .before .before .before .before .before .before .before .before .before .before .before .before .before .before .args .due .units) (c .before .before .before .before .room3 .ensures) (c .before .before .before .before .before .before .before .before .before .before .before .if3 .left)
+
+slice-aggregate-play-lent-3 : tie.Need-slice-aggregate-play-lent-3
+slice-aggregate-play-lent-3 c = front (c .before .before .before .before .before .room3 .result) (c .before .before .before .before .before .before .before .before .before .before .before .before .before .before .before .before .before .before .before .before .before .before .args .due .units) (fitting (c .before .before .before .before .before .room3 .result) 262144 (c .before .before .before .before .before .before .before .before .before .before .before .before .before .before .before .before .before .before .before .before .before .before .args .due .units) (c .before .before .before .before .before .room3 .ensures) (c .before .before .before .before .before .before .before .before .before .before .before .before .if3 .left))
+
+array-borrow-prefix-delays : tie.Need-array-borrow-prefix-delays
+array-borrow-prefix-delays c = fitting (c .before .before .before .before .delays-room .result) 524288 (c .before .before .before .before .before .before .before .before .before .before .before .before .before .before .before .before .before .before .before .before .before .before .args .due .delays) (c .before .before .before .before .delays-room .ensures) (c .before .before .before .before .before .before .before .before .before .before .if4 .left)
+
+slice-aggregate-play-lent-4 : tie.Need-slice-aggregate-play-lent-4
+slice-aggregate-play-lent-4 c = front (c .before .before .before .before .before .delays-room .result) (c .before .before .before .before .before .before .before .before .before .before .before .before .before .before .before .before .before .before .before .before .before .before .before .args .due .delays) (fitting (c .before .before .before .before .before .delays-room .result) 524288 (c .before .before .before .before .before .before .before .before .before .before .before .before .before .before .before .before .before .before .before .before .before .before .before .args .due .delays) (c .before .before .before .before .before .delays-room .ensures) (c .before .before .before .before .before .before .before .before .before .before .before .if4 .left))
+
+array-borrow-prefix-told : tie.Need-array-borrow-prefix-told
+array-borrow-prefix-told c = fitting (c .before .before .before .before .told-room .result) 64 (c .before .before .before .before .before .before .before .before .before .before .before .before .before .before .before .before .before .before .before .before .before .before .before .args .due .told) (c .before .before .before .before .told-room .ensures) (c .before .before .before .before .before .before .before .before .before .if5 .left)
+
+slice-aggregate-play-lent-5 : tie.Need-slice-aggregate-play-lent-5
+slice-aggregate-play-lent-5 c = front (c .before .before .before .before .before .told-room .result) (c .before .before .before .before .before .before .before .before .before .before .before .before .before .before .before .before .before .before .before .before .before .before .before .before .args .due .told) (fitting (c .before .before .before .before .before .told-room .result) 64 (c .before .before .before .before .before .before .before .before .before .before .before .before .before .before .before .before .before .before .before .before .before .before .before .before .args .due .told) (c .before .before .before .before .before .told-room .ensures) (c .before .before .before .before .before .before .before .before .before .before .if5 .left))
+
+play-lent-requires : tie.Need-play-lent-requires
+play-lent-requires c κs = search needs
+
+returns-2 : tie.Need-returns-2
+returns-2 c = search needs
+
+pub play-spec : {M : Type 1} → statement M
+play-spec =
+    tie.close
+    (tie.spec
+    returns
+    room-requires
+    room-requires-2
+    room-requires-3
+    delays-room-requires
+    told-room-requires
+    array-borrow-prefix-log
+    slice-aggregate-play-lent
+    array-borrow-prefix-values
+    slice-aggregate-play-lent-2
+    array-borrow-prefix-units
+    slice-aggregate-play-lent-3
+    array-borrow-prefix-delays
+    slice-aggregate-play-lent-4
+    array-borrow-prefix-told
+    slice-aggregate-play-lent-5
+    play-lent-requires
+    returns-2)
