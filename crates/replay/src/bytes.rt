@@ -88,16 +88,16 @@ pub fn is_same(a: &[u8], b: &[u8]) -> bool
 }
 
 // Whether both are of one length, with the same words.
-pub fn is_same_words(a: &[u64], b: &[u64]) -> bool
-    ensures { λ r. ⌜ r ≡ same (before a) (before b) ⌝ }
+pub fn is_same_words(told: &[u64], due: &[u64]) -> bool
+    ensures { λ r. ⌜ r ≡ same (before told) (before due) ⌝ }
 {
-    let n = a.len();
-    if b.len() != n {
+    let n = told.len();
+    if due.len() != n {
         return false;
     }
     let mut i = 0;
     while i < n {
-        if a[i] != b[i] {
+        if told[i] != due[i] {
             return false;
         }
         i += 1;
