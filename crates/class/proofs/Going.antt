@@ -4,7 +4,7 @@ use mathlib.Core.Path.{_≡_, refl, sym, ap, _∙_, subst}
 use mathlib.Core.List.{List, [], _∷_, _++_, map, append-nil, append-assoc}
 use mathlib.Core.Option.{some}
 use native.Mathlib.Omega.{arith}
-use native.Mathlib.Nat.{suc-mul}
+use native.Mathlib.Nat.{zero-add, add-zero, suc-mul}
 use lib.ListN.{length, length-map}
 use borrow.Rule.Slice.PartMut.{putMid}
 use Rattle.model.specs.Base.{from, joined}
@@ -20,7 +20,7 @@ use Rattle.telling.specs.Numbers.{put-from}
 use Rattle.telling.proofs.Telling.{over-none, over-next}
 use Rattle.class.specs.Call.{Call, Left, lent}
 use Rattle.class.specs.Scripts.{answer-of, first-answers, Turned, So-far}
-use Rattle.class.proofs.Logging.{parts-next, area-first, area-long, area-next}
+use Rattle.class.proofs.Logging.{one-on, parts-next, area-first, area-long, area-next}
 
 -- a call made with what another one left so far
 abbrev pub go-on : Call → Left → Call
@@ -31,14 +31,8 @@ go-on k l = record { circuit = k .circuit; book = k .book; log = l .log; values 
 module _ {A : Type 0} (f : ℕ → A) where
   mapped-next : (a n : ℕ) → map f (from a (suc n)) ≡ map f (from a n) ++ (f (a + n) ∷ [])
   unfolding from
-  mapped-next a zero = ap (λ (m : ℕ). f m ∷ []) (none a)
-    where
-      none : (n : ℕ) → n ≡ n + 0
-      none n = omega arith
-  mapped-next a (suc n) = ap (λ (l : List A). f a ∷ l) (mapped-next (suc a) n) ∙ ap (λ (m : ℕ). f a ∷ (map f (from (suc a) n) ++ (f m ∷ []))) (place a n)
-    where
-      place : (a n : ℕ) → suc a + n ≡ a + suc n
-      place a n = omega arith
+  mapped-next a zero = ap (λ (m : ℕ). f m ∷ []) (sym (add-zero a))
+  mapped-next a (suc n) = ap (λ (l : List A). f a ∷ l) (mapped-next (suc a) n) ∙ ap (λ (m : ℕ). f a ∷ (map f (from (suc a) n) ++ (f m ∷ []))) (one-on a n)
 
 -- three words for each
 words-many : (rs : List Answer) → length (joined (map told-of rs)) ≡ 3 * length rs
@@ -64,12 +58,9 @@ module _ (k : Call) (size : ℕ) where
   keeps i b e = subst (λ (n : ℕ). length (log-after (answer (lent k) n (k .circuit) (entry (k .book) i)) b) ≡ n) e (log-keeps-length (lent k) b (k .circuit) (entry (k .book) i))
 
   module _ (n : ℕ) where
-    from-zero : 0 + n ≡ n
-    from-zero = omega arith
-
     first-next : first-answers k size n ++ (answer-of k size n ∷ []) ≡ first-answers k size (suc n)
     unfolding first-answers
-    first-next = sym (mapped-next (answer-of k size) 0 n ∙ ap (λ (m : ℕ). map (answer-of k size) (from 0 n) ++ (answer-of k size m ∷ [])) from-zero)
+    first-next = sym (mapped-next (answer-of k size) 0 n ∙ ap (λ (m : ℕ). map (answer-of k size) (from 0 n) ++ (answer-of k size m ∷ [])) (zero-add n))
 
     words-so-far : 3 * n ≡ length (joined (map told-of (first-answers k size n)))
     unfolding first-answers
@@ -92,7 +83,7 @@ module _ (k : Call) (size : ℕ) where
     unfolding first-answers call-log
     log-next h =
         sym (parts-next (answer-of k size) size keeps n 0 (k .log) h
-        ∙ ap (λ (m : ℕ). putMid (n * size) size done (log-after (answer-of k size m) (cut size done n))) from-zero)
+        ∙ ap (λ (m : ℕ). putMid (n * size) size done (log-after (answer-of k size m) (cut size done n))) (zero-add n))
       where
         done : List ℕ
         done = parts-after size (map (answer-of k size) (from 0 n)) (k .log)

@@ -6,5 +6,5 @@ pub mod Lending
 pub mod Going
 -- a whole call: `class-refused`, `class-no-book`, `class-answered`
 pub mod Calls
--- each script as alone: `answers-alone`, `part-alone`, `behind-stays`
+-- each script as alone: `answers-alone`, `part-alone`, `behind-stays`, `told-alone`
 pub mod Theorems

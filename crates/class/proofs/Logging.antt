@@ -4,7 +4,7 @@ use mathlib.Core.Path.{_≡_, refl, sym, ap, _∙_}
 use mathlib.Core.Bool.{Bool, true, false, _||_}
 use mathlib.Core.List.{List, [], _∷_, _++_, map, append-assoc}
 use native.Mathlib.Omega.{arith}
-use native.Mathlib.Nat.{suc-mul}
+use native.Mathlib.Nat.{add-zero, add-suc, suc-add, zero-mul, suc-mul}
 use lib.ListN.{length, take, drop, replicate, length-drop, length-replicate}
 use lib.Seq.{length-take-le, take-at, drop-at, drop-drop, take-add}
 use borrow.Rule.Slice.PartMut.{putMid}
@@ -17,11 +17,12 @@ use Rattle.model.specs.Class.{was-played, any-played, class-area}
 
 -- ---- a part that is lent and comes back
 
-pub times-none : (n : ℕ) → 0 * n ≡ 0
-times-none n = omega arith
-
 times-more : (n k : ℕ) → suc k * n ≡ n + k * n
 times-more n k = omega (arith, suc-mul k n)
+
+-- from one place on, one more
+pub one-on : (a k : ℕ) → suc a + k ≡ a + suc k
+one-on a k = suc-add a k ∙ sym (add-suc a k)
 
 -- past one part more
 pub past : (size k : ℕ) (bs : List ℕ) → drop (suc k * size) bs ≡ drop (k * size) (drop size bs)
@@ -29,7 +30,7 @@ past size k bs = ap (λ (n : ℕ). drop n bs) (times-more size k) ∙ sym (drop-
 
 -- part 0
 put-first : (size : ℕ) (bs p : List ℕ) → putMid (0 * size) size bs p ≡ p ++ drop size bs
-put-first size bs p = ap (λ (n : ℕ). putMid n size bs p) (times-none size)
+put-first size bs p = ap (λ (n : ℕ). putMid n size bs p) (zero-mul size)
 
 -- part k + 1 is part k of what follows the first
 put-later : (size k : ℕ) (bs p : List ℕ) → putMid (suc k * size) size bs p ≡ take size bs ++ putMid (k * size) size (drop size bs) p
@@ -46,10 +47,7 @@ pub parts-next :
     ≡ putMid (k * size) size (parts-after size (map f (from a k)) log) (log-after (f (a + k)) (cut size (parts-after size (map f (from a k)) log) k))
 unfolding parts-after from cut
 parts-next f size keeps zero a log h =
-    sym (put-first size log (log-after (f (a + 0)) (take size (drop (0 * size) log))) ∙ (λ j. log-after (f (none a j)) (take size (drop (times-none size j) log)) ++ drop size log))
-  where
-    none : (n : ℕ) → n + 0 ≡ n
-    none n = omega arith
+    sym (put-first size log (log-after (f (a + 0)) (take size (drop (0 * size) log))) ∙ (λ j. log-after (f (add-zero a j)) (take size (drop (zero-mul size j) log)) ++ drop size log))
 parts-next f size keeps (suc k) a log h =
     ap (λ (l : List ℕ). p ++ l) (parts-next f size keeps k (suc a) (drop size log) (omega (arith, h, length-drop size log, suc-mul (suc k) size)))
     ∙ sym (put-later size k (p ++ later) q ∙ (λ j. take-at p later size e j ++ putMid (k * size) size (drop-at p later size e j) q) ∙ ap (λ (x : List ℕ). p ++ putMid (k * size) size later x) lent-is)
@@ -69,11 +67,8 @@ parts-next f size keeps (suc k) a log h =
     behind : drop (suc k * size) (p ++ later) ≡ drop (k * size) later
     behind = past size k (p ++ later) ∙ ap (drop (k * size)) (drop-at p later size e)
 
-    place : (a k : ℕ) → a + suc k ≡ suc a + k
-    place a k = omega arith
-
     lent-is : q ≡ log-after (f (suc a + k)) (take size (drop (k * size) later))
-    lent-is = λ j. log-after (f (place a k j)) (take size (behind j))
+    lent-is = λ j. log-after (f (sym (one-on a k) j)) (take size (behind j))
 
 -- ---- an area
 
