@@ -1,4 +1,4 @@
-// Plays every run of runs.bin and every class of classes.bin, and compares what comes of each with what is due, byte by byte.
+// Plays every run of runs.bin and every class of classes.bin, and compares what comes of each with what is due, byte by byte. Each file has first how many.
 mod bytes;
 mod class_due;
 mod classes;
@@ -10,8 +10,7 @@ mod runs;
 mod tally;
 
 use printing::print_tally;
-use reading::next_bytes;
-use words::read;
+use reading::next_word;
 
 // Opens a file, which lies in the folder that the program runs in; below 0 where it cannot.
 fn open(name: &[u8]) -> i32 {
@@ -22,19 +21,12 @@ fn open(name: &[u8]) -> i32 {
     fd
 }
 
-// Reads how many runs or classes the file has.
-fn count(fd: i32) -> u64 {
-    let mut n = [0u8; 8];
-    next_bytes(fd, &mut n, 8);
-    read(&n, 0)
-}
-
 fn play_runs() {
     let fd = open(b"runs.bin");
     if fd < 0 {
         return;
     }
-    let tally = runs::play_all(fd, count(fd));
+    let tally = runs::play_all(fd, next_word(fd).value);
     print_tally(b"run ", tally, b" played, ");
     libc::close(fd);
 }
@@ -44,7 +36,7 @@ fn play_classes() {
     if fd < 0 {
         return;
     }
-    let tally = classes::play_all(fd, count(fd));
+    let tally = classes::play_all(fd, next_word(fd).value);
     print_tally(b"class ", tally, b" classes, ");
     libc::close(fd);
 }

@@ -2,17 +2,33 @@
 use words::read;
 use words::write;
 
-// Reads a packed word: how many bytes it has, and these; the others are 0. Whether it was whole.
-fn next_word(fd: i32, word: &mut [u8]) -> bool {
+// A word, and whether it was there whole; one that was not is 0.
+pub struct Word {
+    pub whole: bool,
+    pub value: u64,
+}
+
+// Reads a packed word: how many bytes it has, and these; the others are 0.
+pub fn next_word(fd: i32) -> Word {
     let mut count = [0u8; 8];
     if io::read_full(fd, &mut count[..1]) != 1 {
-        return false;
+        return Word {
+            whole: false,
+            value: 0,
+        };
     }
     let n = read(&count, 0) as usize;
-    if word.len() < n {
-        return false;
+    let mut bytes = [0u8; 8];
+    if 8 < n || io::read_full(fd, &mut bytes[..n]) != n {
+        return Word {
+            whole: false,
+            value: 0,
+        };
     }
-    io::read_full(fd, &mut word[..n]) == n
+    Word {
+        whole: true,
+        value: read(&bytes, 0),
+    }
 }
 
 // Reads as many packed words as hold so many bytes to the front of a buffer of whole words: whether they were there whole, and have room.
@@ -23,11 +39,11 @@ pub fn next_bytes(fd: i32, buffer: &mut [u8], bytes: usize) -> bool {
     let n = bytes / 8 + (bytes % 8 + 7) / 8;
     let mut k = 0;
     while k < n {
-        let mut word = [0u8; 8];
-        if !next_word(fd, &mut word) {
+        let word = next_word(fd);
+        if !word.whole {
             return false;
         }
-        write(buffer, k, read(&word, 0));
+        write(buffer, k, word.value);
         k += 1;
     }
     true
@@ -40,11 +56,11 @@ pub fn next_words(fd: i32, told: &mut [u64], n: usize) -> bool {
     }
     let mut k = 0;
     while k < n {
-        let mut word = [0u8; 8];
-        if !next_word(fd, &mut word) {
+        let word = next_word(fd);
+        if !word.whole {
             return false;
         }
-        told[k] = read(&word, 0);
+        told[k] = word.value;
         k += 1;
     }
     true
@@ -52,11 +68,11 @@ pub fn next_words(fd: i32, told: &mut [u64], n: usize) -> bool {
 
 // Reads how many bytes of records a part of a log has, and these to its front.
 fn next_part(fd: i32, part: &mut [u8]) -> bool {
-    let mut bytes = [0u8; 8];
-    if !next_bytes(fd, &mut bytes, 8) {
+    let bytes = next_word(fd);
+    if !bytes.whole {
         return false;
     }
-    next_bytes(fd, part, read(&bytes, 0) as usize)
+    next_bytes(fd, part, bytes.value as usize)
 }
 
 // Reads the records of so many parts of a log, each of so many bytes: whether they were there whole, and have room.

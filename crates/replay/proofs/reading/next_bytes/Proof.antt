@@ -7,7 +7,6 @@ use Rattle.replay.proofs.reading.next_bytes.Tie as tie
 use Rattle.replay.proofs.reading.next_bytes.Reads as reads
 use Rattle.replay.proofs.reading.next_bytes.Lts as lts
 use Rattle.replay.proofs.reading.next_word.Reads as next-word-reads
-use Rattle.words.proofs.read.Reads as read-reads
 use Rattle.words.proofs.write.Reads as write-reads
 
 abbrev Inv-loop : tie.InvT-loop
@@ -28,9 +27,6 @@ add-n-2 c = search needs
 loop-holds : tie.Need-loop-holds Inv-loop μ-loop
 loop-holds c = search needs
 
-slice-aggregate-next-word : tie.Need-slice-aggregate-next-word Inv-loop μ-loop
-slice-aggregate-next-word c = search needs
-
 next-word-requires : tie.Need-next-word-requires Inv-loop μ-loop
 next-word-requires c κs = search needs
 
@@ -39,12 +35,6 @@ same-length c = search needs
 
 returns-2 : tie.Need-returns-2 Inv-loop μ-loop
 returns-2 c = search needs
-
-slice-aggregate-read : tie.Need-slice-aggregate-read Inv-loop μ-loop
-slice-aggregate-read c = search needs
-
-read-requires : tie.Need-read-requires Inv-loop μ-loop
-read-requires c κs = search needs
 
 write-requires : tie.Need-write-requires Inv-loop μ-loop
 write-requires c κs = search needs
@@ -74,12 +64,9 @@ next-bytes-spec =
     add-n
     add-n-2
     loop-holds
-    slice-aggregate-next-word
     next-word-requires
     same-length
     returns-2
-    slice-aggregate-read
-    read-requires
     write-requires
     add-k
     loop-less

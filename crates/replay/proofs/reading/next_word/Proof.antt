@@ -1,8 +1,8 @@
-use borrow.Rule.Slice.PartMut.{same-len-mid}
-use Prim.Native.Nat.{ℕ}
-use lib.ListN.{replicate}
-use lib.Seq.{length-take-le}
 use mathlib.Core.Path.{sym}
+use lib.Seq.{length-take-le}
+use lib.ListN.{replicate}
+use Prim.Native.Nat.{ℕ}
+use borrow.Rule.Slice.PartMut.{same-len-mid}
 use borrow.Author.Needs.{needs}
 use Rattle.replay.proofs.reading.next_word.Statement.{statement}
 use Rattle.replay.proofs.reading.next_word.Tie as tie
@@ -29,20 +29,23 @@ slice-aggregate-read c = sym (same-len-mid {X = ℕ} 0 1 (replicate 8 0) (c .bef
 read-requires : tie.Need-read-requires
 read-requires c κs = search needs
 
-returns-2 : tie.Need-returns-2
-returns-2 c = search needs
-
-slice-relend-prefix-read-full : tie.Need-slice-relend-prefix-read-full
-slice-relend-prefix-read-full c = search needs
+array-borrow-prefix-bytes : tie.Need-array-borrow-prefix-bytes
+array-borrow-prefix-bytes c = search needs
 
 slice-aggregate-read-full-2 : tie.Need-slice-aggregate-read-full-2
-slice-aggregate-read-full-2 c = sym (length-take-le _ (c .before .before .before .before .before .before .before .before .before .args .word .now) (c .before .if2 .left))
+slice-aggregate-read-full-2 c = sym (length-take-le {A = ℕ} (c .before .before .read .result) (replicate 8 0) (search needs))
 
 read-full-requires-2 : tie.Need-read-full-requires-2
 read-full-requires-2 c κs = search needs
 
-same-length : tie.Need-same-length
-same-length c = search needs
+returns-2 : tie.Need-returns-2
+returns-2 c = search needs
+
+slice-aggregate-read-2 : tie.Need-slice-aggregate-read-2
+slice-aggregate-read-2 c = sym (same-len-mid {X = ℕ} 0 (c .before .before .before .before .before .before .read .result) (replicate 8 0) (c .before .before .before .read-full2 .last .1 .0) (c .before .before .bytes2 .given))
+
+read-requires-2 : tie.Need-read-requires-2
+read-requires-2 c κs = search needs
 
 returns-3 : tie.Need-returns-3
 returns-3 c = search needs
@@ -57,9 +60,10 @@ next-word-spec =
     returns
     slice-aggregate-read
     read-requires
-    returns-2
-    slice-relend-prefix-read-full
+    array-borrow-prefix-bytes
     slice-aggregate-read-full-2
     read-full-requires-2
-    same-length
+    returns-2
+    slice-aggregate-read-2
+    read-requires-2
     returns-3)

@@ -1,13 +1,12 @@
+use borrow.Author.Needs.{needs}
 use Prim.Native.Nat.{_-_}
 use lib.ListN.{length}
 use mathlib.Core.Path.{_≡_}
-use borrow.Author.Needs.{needs}
 use Rattle.replay.proofs.reading.next_words.Statement.{statement}
 use Rattle.replay.proofs.reading.next_words.Tie as tie
 use Rattle.replay.proofs.reading.next_words.Reads as reads
 use Rattle.replay.proofs.reading.next_words.Lts as lts
 use Rattle.replay.proofs.reading.next_word.Reads as next-word-reads
-use Rattle.words.proofs.read.Reads as read-reads
 
 abbrev Inv-loop : tie.InvT-loop
 Inv-loop fd told₀ n k₀ told k = length told ≡ length told₀
@@ -21,9 +20,6 @@ returns c = search needs
 loop-holds : tie.Need-loop-holds Inv-loop μ-loop
 loop-holds c = search needs
 
-slice-aggregate-next-word : tie.Need-slice-aggregate-next-word Inv-loop μ-loop
-slice-aggregate-next-word c = search needs
-
 next-word-requires : tie.Need-next-word-requires Inv-loop μ-loop
 next-word-requires c κs = search needs
 
@@ -32,12 +28,6 @@ same-length c = search needs
 
 returns-2 : tie.Need-returns-2 Inv-loop μ-loop
 returns-2 c = search needs
-
-slice-aggregate-read : tie.Need-slice-aggregate-read Inv-loop μ-loop
-slice-aggregate-read c = search needs
-
-read-requires : tie.Need-read-requires Inv-loop μ-loop
-read-requires c κs = search needs
 
 mul-told : tie.Need-mul-told Inv-loop μ-loop
 mul-told c = search needs
@@ -68,12 +58,9 @@ next-words-spec =
     μ-loop
     returns
     loop-holds
-    slice-aggregate-next-word
     next-word-requires
     same-length
     returns-2
-    slice-aggregate-read
-    read-requires
     mul-told
     slice-write-told
     add-k
