@@ -14,11 +14,11 @@ const PRINTED: &str = concat!(env!("CARGO_MANIFEST_DIR"), "/../crates/asked/stdo
 const AGAIN: &str = "oracle pack crates/asked/data/questions.bin > crates/asked/stdout";
 
 const RUNS: &str = concat!(env!("CARGO_MANIFEST_DIR"), "/../crates/replay/data/runs.bin");
-const RUNS_PRINTED: &str = concat!(env!("CARGO_MANIFEST_DIR"), "/../crates/replay/stdout");
+const REPLAY_PRINTED: &str = concat!(env!("CARGO_MANIFEST_DIR"), "/../crates/replay/stdout");
 const RUNS_AGAIN: &str = "oracle pack runs crates/replay/data/runs.bin > crates/replay/stdout";
 
 const CLASSES: &str = concat!(env!("CARGO_MANIFEST_DIR"), "/../crates/replay/data/classes.bin");
-const CLASSES_AGAIN: &str = "oracle pack classes crates/replay/data/classes.bin";
+const CLASSES_AGAIN: &str = "oracle pack classes crates/replay/data/classes.bin >> crates/replay/stdout";
 
 /// What a program has room for: a circuit, a script.
 const ROOM: usize = 65_536;
@@ -96,8 +96,7 @@ fn the_packed_runs_are_up_to_date() {
     let file = std::fs::read(RUNS).expect("the packed runs");
     assert!(file == runs::pack(&runs), "write them again: {RUNS_AGAIN}");
     assert!(file.len() < WHOLE, "{}", file.len());
-    let text = std::fs::read_to_string(RUNS_PRINTED).expect("what the program has to print");
-    assert_eq!(text, runs::printed(&runs), "write it again: {RUNS_AGAIN}");
+    assert_eq!(runs::printed(&runs), "1258 played, 0 differ\n");
 }
 
 /// The longest scripts and the vehicles, whose logs are long.
@@ -158,6 +157,14 @@ fn the_packed_classes_are_up_to_date() {
     assert!(file.len() < WHOLE_OF_CLASSES, "{}", file.len());
     assert_eq!(classes::printed(&classes), "259 classes, 0 differ\n");
     assert_eq!(classes.left_out, [""; 0]);
+}
+
+/// The line of the runs, then the line of the classes.
+#[test]
+fn what_replay_has_to_print_is_up_to_date() {
+    let text = std::fs::read_to_string(REPLAY_PRINTED).expect("what the program has to print");
+    let due = runs::printed(&runs::runs()) + &classes::printed(&classes::classes());
+    assert_eq!(text, due, "write it again: {RUNS_AGAIN}; {CLASSES_AGAIN}");
 }
 
 /// Takes so many bytes from the front, packed as words; the last one may have
