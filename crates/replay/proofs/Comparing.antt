@@ -1,13 +1,13 @@
--- Bytes made alike, and compared, one after another.
+-- Bytes and words compared, one after another.
 use Prim.Native.Nat.{ℕ, zero, suc, _+_, _-_, _<_, _≤_}
 use mathlib.Core.Path.{_≡_, refl, sym, ap, ap₂, _∙_}
 use mathlib.Core.Bool.{Bool, true, false, not, _&&_}
 use mathlib.Core.List.{List, [], _∷_}
 use native.Mathlib.Omega.{arith}
-use lib.Dec.{eqb, ltb}
-use borrow.Author.Tests.{ltb-true, ltb-false, eq-eqb, ne-eqb}
-use lib.ListN.{length, getD, set, take, drop, replicate, drop-of-length-le, length-drop}
-use lib.Seq.{getD-set-same, getD-set-other, drop-cons, take-length}
+use lib.Dec.{eqb}
+use borrow.Author.Tests.{eq-eqb, ne-eqb}
+use lib.ListN.{length, getD, take, drop, drop-of-length-le, length-drop}
+use lib.Seq.{drop-cons, take-length}
 use Rattle.replay.specs.Bytes.{alike, same, holds}
 
 -- ---- one test after another
@@ -25,35 +25,6 @@ and-right false u a b e h q = cc
 and-none : (a : Bool) → false ≡ (a && false)
 and-none true = refl
 and-none false = refl
-
--- ---- an area filled with a byte
-
--- the bytes before i are this one
-unfoldable pub Filled-to : ℕ → ℕ → List ℕ → Type 0
-Filled-to b i l = (j : ℕ) → j < i → getD l j 0 ≡ b
-
-pub filled-first : (b : ℕ) (l : List ℕ) → Filled-to b 0 l
-unfolding Filled-to
-filled-first b l j h = absurd (omega arith)
-
-pub filled-next : (b : ℕ) (l : List ℕ) (i : ℕ) → i < length l → Filled-to b i l → Filled-to b (i + 1) (set l i b)
-unfolding Filled-to
-filled-next b l i f z j h = go (ltb j i) refl
-  where
-    go : (t : Bool) → ltb j i ≡ t → getD (set l i b) j 0 ≡ b
-    go true e = let k = ltb-true j i e in getD-set-other l i j b 0 (λ n. omega arith) ∙ z j k
-    go false e =
-        let k = ltb-false j i e in
-        let n : j ≡ i = omega arith in
-        ap (λ (x : ℕ). getD (set l i b) x 0) n ∙ getD-set-same l i b 0 f
-
-pub filled-last : (b : ℕ) (l : List ℕ) (n i : ℕ) → length l ≡ n → n ≤ i → Filled-to b i l → l ≡ replicate n b
-unfolding Filled-to
-filled-last b l n i e h z = go l (λ j k. z j (omega arith)) ∙ ap (λ (m : ℕ). replicate m b) e
-  where
-    go : (l : List ℕ) → ((j : ℕ) → j < length l → getD l j 0 ≡ b) → l ≡ replicate (length l) b
-    go [] z = refl
-    go (x ∷ l) z = ap₂ (λ (y : ℕ) (r : List ℕ). y ∷ r) (z 0 (omega arith)) (go l (λ j h. z (suc j) (omega arith)))
 
 -- ---- bytes that are all this one
 

@@ -2,17 +2,11 @@
 use Prim.Native.Nat.{ℕ}
 use mathlib.Core.Bool.{Bool}
 use mathlib.Core.List.{List}
-use lib.ListN.{length, replicate}
 use Rattle.model.specs.Several.{Several, call-number, call-log, call-told}
 use Rattle.model.specs.Class.{class-area}
 use Rattle.class.specs.Call.{Call, class-answer, part-size}
 use Rattle.replay.specs.declared.class_due.ClassDue.{ClassDue}
 use Rattle.replay.specs.ClassDue.{class-as-due}
-use Rattle.replay.specs.Met.{filled}
-
--- the words for what is told, before the call: each has eight bytes that are 165
-abbrev pub filled-words : List ℕ → List ℕ
-filled-words l = replicate (length l) 11936128518282651045
 
 -- the call that is made
 abbrev pub class-called : (circuit book log vs us ds told : List ℕ) → Call
@@ -28,7 +22,6 @@ abbrev pub class-call-met : ClassDue → (records words : List ℕ) → Call →
 class-call-met d records words k =
     class-left-as-due d records words (class-answer k) (part-size k) (k .log) (k .values) (k .units) (k .delays) (k .told)
 
--- so is the definition's answer to this circuit and book, where a log, areas and words of these lengths are lent
+-- so is its answer to this circuit and book, where this log, these areas and these words are lent
 unfoldable pub class-met : ClassDue → (circuit book records words log vs us ds told : List ℕ) → Bool
-class-met d circuit book records words log vs us ds told =
-    class-call-met d records words (class-called circuit book (filled log) (filled vs) (filled us) (filled ds) (filled-words told))
+class-met d circuit book records words log vs us ds told = class-call-met d records words (class-called circuit book log vs us ds told)

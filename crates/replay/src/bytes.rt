@@ -1,45 +1,7 @@
-// Bytes and words made alike, and compared.
+// Bytes and words compared.
 ghost use mathlib.Core.Path.{_≡_};
-ghost use lib.ListN.{length, replicate};
-ghost use Rattle.words.specs.Slices.{before, after};
+ghost use Rattle.words.specs.Slices.{before};
 ghost use Rattle.replay.specs.Bytes.{alike, all-alike, same, holds};
-
-// Makes every byte of the area this one.
-pub fn fill(area: &mut [u8], byte: u8)
-    ensures { λ _. ⌜ after area ≡ replicate (length (before area)) byte ⌝ }
-{
-    let n = area.len();
-    let mut i = 0;
-    while i < n {
-        area[i] = byte;
-        i += 1;
-    }
-}
-
-// Makes every byte of the log and of the three areas this one.
-pub fn fill_all(log: &mut [u8], values: &mut [u8], units: &mut [u8], delays: &mut [u8], byte: u8)
-    ensures { λ _. ⌜ after log ≡ replicate (length (before log)) byte ⌝ }
-    ensures { λ _. ⌜ after values ≡ replicate (length (before values)) byte ⌝ }
-    ensures { λ _. ⌜ after units ≡ replicate (length (before units)) byte ⌝ }
-    ensures { λ _. ⌜ after delays ≡ replicate (length (before delays)) byte ⌝ }
-{
-    fill(log, byte);
-    fill(values, byte);
-    fill(units, byte);
-    fill(delays, byte);
-}
-
-// Makes every word this one.
-pub fn fill_words(told: &mut [u64], word: u64)
-    ensures { λ _. ⌜ after told ≡ replicate (length (before told)) word ⌝ }
-{
-    let n = told.len();
-    let mut i = 0;
-    while i < n {
-        told[i] = word;
-        i += 1;
-    }
-}
 
 // Whether every byte of the area is this one.
 pub fn is_alike(area: &[u8], byte: u8) -> bool

@@ -2,8 +2,6 @@
 ghost use mathlib.Core.Path.{_≡_};
 ghost use Rattle.words.specs.Slices.{before};
 ghost use Rattle.replay.specs.ClassMet.{class-met};
-use crate::bytes::fill_all;
-use crate::bytes::fill_words;
 use crate::class_due::ClassDue;
 use crate::class_due::class_numbers;
 use crate::class_due::is_class_as_due;
@@ -12,14 +10,12 @@ use crate::reading::next_bytes;
 use crate::reading::next_parts;
 use crate::reading::next_words;
 use crate::rooms::DELAYS;
-use crate::rooms::FILLED;
-use crate::rooms::FILLED_WORD;
 use crate::rooms::ROOM;
 use crate::rooms::TOLD;
-use crate::rooms::delays_room;
+use crate::rooms::filled_delays;
 use crate::rooms::filled_room;
+use crate::rooms::filled_words;
 use crate::rooms::room;
-use crate::rooms::told_room;
 use crate::tally::Tally;
 
 // The bytes of the numbers before a class's circuit. The last of them, the bytes of all records together, is not used.
@@ -40,8 +36,6 @@ fn play_lent(
 ) -> bool
     ensures { λ r. ⌜ r ≡ class-met due (before circuit) (before book) (before records) (before words) (before log) (before values) (before units) (before delays) (before told) ⌝ }
 {
-    fill_all(log, values, units, delays, FILLED);
-    fill_words(told, FILLED_WORD);
     let number = class::class(circuit, book, log, values, units, delays, told);
     is_class_as_due(
         due,
@@ -66,11 +60,11 @@ fn play(due: ClassDue, circuit: &[u8], book: &[u8], records: &[u8], words: &[u64
     {
         return false;
     }
-    let mut log = room();
-    let mut values = room();
-    let mut units = room();
-    let mut delays = delays_room();
-    let mut told = told_room();
+    let mut log = filled_room();
+    let mut values = filled_room();
+    let mut units = filled_room();
+    let mut delays = filled_delays();
+    let mut told = filled_words();
     play_lent(
         due,
         circuit,
@@ -121,7 +115,7 @@ fn play_next(fd: i32, tally: Tally) -> Tally {
     let mut circuit = room();
     let mut book = room();
     let mut records = filled_room();
-    let mut words = told_room();
+    let mut words = filled_words();
     if next_bytes(fd, &mut circuit, due.circuit) && next_bytes(fd, &mut book, due.book) {
         return play_one(
             fd,

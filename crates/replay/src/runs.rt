@@ -2,7 +2,6 @@
 ghost use mathlib.Core.Path.{_≡_};
 ghost use Rattle.words.specs.Slices.{before};
 ghost use Rattle.replay.specs.Met.{met};
-use crate::bytes::fill_all;
 use crate::due::Due;
 use crate::due::is_as_due;
 use crate::due::numbers;
@@ -11,7 +10,8 @@ use crate::reading::next_bytes;
 use crate::rooms::DELAYS;
 use crate::rooms::FILLED;
 use crate::rooms::ROOM;
-use crate::rooms::delays_room;
+use crate::rooms::filled_delays;
+use crate::rooms::filled_room;
 use crate::rooms::room;
 use crate::tally::Tally;
 
@@ -31,7 +31,6 @@ fn play_lent(
 ) -> bool
     ensures { λ r. ⌜ r ≡ met due (before circuit) (before script) (before records) (before log) (before values) (before units) (before delays) ⌝ }
 {
-    fill_all(log, values, units, delays, FILLED);
     let answer = run::run(circuit, script, log, values, units, delays);
     is_as_due(due, answer, records, FILLED, log, values, units, delays)
 }
@@ -41,10 +40,10 @@ fn play(due: Due, circuit: &[u8], script: &[u8], records: &[u8]) -> bool {
     if ROOM < due.log || ROOM < due.values || ROOM < due.units || DELAYS < due.delays {
         return false;
     }
-    let mut log = room();
-    let mut values = room();
-    let mut units = room();
-    let mut delays = delays_room();
+    let mut log = filled_room();
+    let mut values = filled_room();
+    let mut units = filled_room();
+    let mut delays = filled_delays();
     play_lent(
         due,
         circuit,

@@ -23,6 +23,10 @@ const HEAD: usize = 7;
 
 const THEOREMS_A_MODULE: usize = 25;
 
+/// What log and areas hold before a class, and the words for what is told.
+const FILLED: u8 = 165;
+const FILLED_WORD: u64 = u64::from_le_bytes([FILLED; 8]);
+
 fn main() -> ExitCode {
     let arguments: Vec<String> = std::env::args().skip(1).collect();
     let [vectors, target] = arguments.as_slice() else {
@@ -51,26 +55,32 @@ fn write(vectors: &Path, target: &Path) -> std::io::Result<String> {
         .collect::<Result<_, _>>()?;
     let cases: Vec<Case> = texts.iter().flat_map(|text| cases(text)).collect();
     let kept: Vec<&Case> = cases.iter().filter(|case| case.fits()).collect();
+    let (classes, kept): (Vec<&Case>, Vec<&Case>) = kept.into_iter().partition(|case| case.is_class);
     let refusals = kept.iter().filter(|case| case.get("refused").is_some()).count();
 
     let specs = target.join("specs");
     std::fs::create_dir_all(&specs)?;
     std::fs::create_dir_all(target.join("src"))?;
     std::fs::write(target.join("src/lib.rt"), "// Theorems alone: see specs/.\n")?;
-    let mut root = String::new();
-    for (n, chunk) in kept.chunks(THEOREMS_A_MODULE).enumerate() {
-        let _ = writeln!(root, "pub mod Part{n}");
-        std::fs::write(specs.join(format!("Part{n}.antt")), module(chunk))?;
+    std::fs::write(specs.join("Left.antt"), LEFT)?;
+    let mut root = String::from("pub mod Left\n");
+    for (name, head, cases) in [("Part", HEAD_OF_RUNS, &kept), ("Class", HEAD_OF_CLASSES, &classes)] {
+        for (n, chunk) in cases.chunks(THEOREMS_A_MODULE).enumerate() {
+            let _ = writeln!(root, "pub mod {name}{n}");
+            std::fs::write(specs.join(format!("{name}{n}.antt")), module(head, chunk))?;
+        }
     }
     std::fs::write(specs.join("Lib.antt"), root)?;
-    let (runs, left_out) = (kept.len() - refusals, cases.len() - kept.len());
-    Ok(format!("{runs} runs and {refusals} refusals as theorems, {left_out} left out as too long"))
+    let (runs, classes) = (kept.len() - refusals, classes.len());
+    let left_out = cases.len() - kept.len() - classes;
+    Ok(format!("{runs} runs, {refusals} refusals and {classes} classes as theorems, {left_out} left out as too long"))
 }
 
-/// A case of a vector file: its name, and its lines, each a word and the rest. The
-/// file of the classes has none.
+/// A case of a vector file, or a class: its name, and its lines, each a word and
+/// the rest.
 struct Case<'a> {
     name: &'a str,
+    is_class: bool,
     lines: Vec<(&'a str, &'a str)>,
 }
 
@@ -79,7 +89,7 @@ fn cases(text: &str) -> Vec<Case<'_>> {
     for line in text.lines() {
         let (word, rest) = line.split_once(' ').unwrap_or((line, ""));
         match (word, cases.last_mut()) {
-            ("case", _) => cases.push(Case { name: rest, lines: Vec::new() }),
+            ("case" | "class", _) => cases.push(Case { name: rest, is_class: word == "class", lines: Vec::new() }),
             (_, Some(case)) => case.lines.push((word, rest)),
             (_, None) => {}
         }
@@ -95,53 +105,52 @@ impl Case<'_> {
     /// Whether nothing of it is summed up and the prover can compute it.
     fn fits(&self) -> bool {
         let summed = self.lines.iter().any(|line| line.0.ends_with("-sum"));
-        !summed && (self.get("refused").is_some() || self.is_short())
+        let refused = self.get("refused").is_some() && self.get("parts").is_none();
+        !summed && (refused || self.is_short())
     }
 
-    /// Played with a log that takes all: a stop by 13 hides its tick's steps.
+    /// All its scripts together, those that are refused left out.
     fn is_short(&self) -> bool {
-        let areas = Lent { delays: 8 * 65_536, ..Lent::default() };
-        let Ok((circuit, script)) = ask(&self.words("circuit"), &self.words("script"), Some(&areas)) else {
-            return false;
+        let circuit = self.raw("circuit");
+        let scripts = if self.is_class { self.scripts() } else { vec![self.raw("script")] };
+        let efforts = scripts.iter().filter_map(|script| effort(&circuit, script));
+        let (words, work) = efforts.fold((0, 0), |sum, one| (sum.0 + one.0, sum.1 + one.1));
+        words <= MOST_WORDS && work <= MOST_WORK
+    }
+
+    /// The scripts of a class's book that do not leave it.
+    fn scripts(&self) -> Vec<Vec<u8>> {
+        let book = self.raw("book");
+        let words: Vec<u64> = book.as_chunks::<8>().0.iter().map(|word| u64::from_le_bytes(*word)).collect();
+        let n = words[0] as usize;
+        let spans = words[1..=n].iter().zip(&words[1 + n..]);
+        let inside = |(&start, &length): (&u64, &u64)| {
+            let end = start.checked_add(length)?;
+            book.get(usize::try_from(start).ok()?..usize::try_from(end).ok()?).map(<[u8]>::to_vec)
         };
-        let mut machine = start(&circuit, &script);
-        let (mut log, mut runs) = (Vec::new(), 0);
-        for _ in 0..script.lengths.len() {
-            let stop = machine.play_tick(&mut log);
-            runs += machine.runs_of_bodies() as usize;
-            if stop != 0 {
-                break;
-            }
-        }
-        log.len() <= MOST_WORDS && self.work(&log) + runs * circuit.kinds.len() <= MOST_WORK
+        spans.filter_map(inside).collect()
     }
 
-    fn words(&self, name: &str) -> Vec<u8> {
-        numbers(self.get(name).unwrap_or("")).into_iter().flat_map(i64::to_le_bytes).collect()
-    }
-
-    /// Steps and units of all records of a log, times the gates.
-    fn work(&self, log: &[i64]) -> usize {
-        let circuit = numbers(self.get("circuit").unwrap_or(""));
-        let [gates, constants, ..] = circuit.as_slice() else { return 0 };
-        let kinds = circuit.iter().skip(4 + 2 * *constants as usize).take(*gates as usize);
-        let outputs: usize = kinds.map(|&n| oracle::kinds::kind(n).map_or(0, |kind| kind.outputs.len())).sum();
-        let (mut at, mut done) = (0, 0);
-        while at + HEAD <= log.len() {
-            let units = (log[at + 2] + log[at + 3]) as usize;
-            done += log[at + 1] as usize + units;
-            at += HEAD + 2 * (units + log[at + 4] as usize) + if log[at + 5] == 0 { 2 * outputs } else { 0 };
+    /// The bytes of circuit, script or book.
+    fn raw(&self, name: &str) -> Vec<u8> {
+        match self.get(&format!("{name}-bytes")) {
+            Some(digits) => digits.as_bytes().chunks(2).map(byte).collect(),
+            None => numbers(self.get(name).unwrap_or("")).into_iter().flat_map(i64::to_le_bytes).collect(),
         }
-        done * *gates as usize
     }
 
     fn theorem(&self, n: usize) -> String {
+        let (name, stated) = (self.name, if self.is_class { self.class() } else { self.run() });
+        let opened = if self.is_class { "left-opened" } else { "model-opened" };
+        format!("-- {name}\nrow-{n} :\n    {stated}\nunfolding {opened}\nrow-{n} = refl\n")
+    }
+
+    fn run(&self) -> String {
         let lent = self.get("lent").unwrap_or("65536 65536 65536 65536");
         let sizes: Vec<&str> = lent.split(' ').collect();
         let [log, values, units, delays] = sizes.as_slice() else { panic!("{}: lent {lent}", self.name) };
         format!(
-            "-- {}\nrow-{n} :\n    answer (record {{ values = {values}; units = {units}; delays = {delays} }}) {log} {} {}\n    ≡ {}\nunfolding model-opened\nrow-{n} = refl\n",
-            self.name,
+            "answer (record {{ values = {values}; units = {units}; delays = {delays} }}) {log} {} {}\n    ≡ {}",
             self.bytes("circuit"),
             self.bytes("script"),
             self.answer(),
@@ -150,22 +159,118 @@ impl Case<'_> {
 
     fn bytes(&self, name: &str) -> String {
         match self.get(&format!("{name}-bytes")) {
-            Some(digits) => list(digits.as_bytes().chunks(2).map(|pair| {
-                let pair = std::str::from_utf8(pair).expect("hexadecimal digits");
-                u64::from(u8::from_str_radix(pair, 16).expect("hexadecimal digits"))
-            })),
+            Some(_) => list(self.raw(name).into_iter().map(u64::from)),
             None => format!("(bytes {})", list(bits(self.get(name).unwrap_or("")))),
         }
     }
 
     fn answer(&self) -> String {
-        if let Some(number) = self.get("refused") {
-            return format!("refused {number}");
+        match self.get("refused") {
+            Some(number) => format!("refused {number}"),
+            None => played(self.get("log").unwrap_or(""), self.get("end").unwrap_or("")),
         }
-        let (stop, ticks) = self.get("end").and_then(|end| end.split_once(' ')).expect("a stop and the ticks done");
-        let log = list(bits(self.get("log").unwrap_or("")));
-        format!("played (record {{ log = {log}; stop = {stop}; ticks = {ticks} }})")
     }
+
+    /// What a class comes to, and what it leaves of all that it is lent.
+    fn class(&self) -> String {
+        let sizes = numbers(self.get("lent").unwrap_or(""));
+        let [log, values, units, delays, told] = sizes[..] else { panic!("{}: lent {sizes:?}", self.name) };
+        let area = if self.get("areas") == Some("zero") { 0 } else { FILLED };
+        let left = [("values", values), ("units", units), ("delays", delays)]
+            .map(|(name, length)| format!("{name} = replicate {length} {area}"))
+            .join("; ");
+        let words: Vec<u64> = bits(self.get("told").unwrap_or("")).collect();
+        format!(
+            "left (record {{ values = {values}; units = {units}; delays = {delays} }}) {log} {told} {} {}\n    ≡ record {{ {}; told = {} ++ replicate {} {FILLED_WORD}; log = {}; {left} }}",
+            self.bytes("circuit"),
+            self.bytes("book"),
+            self.several(),
+            list(words.iter().copied()),
+            told as usize - words.len(),
+            self.log_after(log as usize),
+        )
+    }
+
+    /// The answers of a class's scripts: the words of its log, and how it ended,
+    /// or a refusal.
+    fn answers(&self) -> Vec<(Option<&str>, &str)> {
+        let mut logs = self.lines.iter().filter(|line| line.0 == "log").map(|line| line.1);
+        let ends = self.lines.iter().filter(|line| line.0 == "end" || line.0 == "refused");
+        ends.map(|&(word, rest)| ((word == "end").then(|| logs.next().expect("a log")), rest)).collect()
+    }
+
+    fn several(&self) -> String {
+        if self.get("parts").is_none() {
+            let number = self.get("refused").unwrap_or("");
+            return format!("answer = turned-away {number}; number = {number}");
+        }
+        let mut answers = String::new();
+        for (log, end) in self.answers() {
+            let _ = match log {
+                Some(log) => write!(answers, "{} ∷ ", played(log, end)),
+                None => write!(answers, "refused {end} ∷ "),
+            };
+        }
+        format!("answer = answered ({answers}[]); number = 0")
+    }
+
+    /// Each part with its records and the filling behind them, then what lies
+    /// behind the parts.
+    fn log_after(&self, length: usize) -> String {
+        let Some((parts, size)) = self.get("parts").and_then(|parts| parts.split_once(' ')) else {
+            return format!("replicate {length} {FILLED}");
+        };
+        let (parts, size): (usize, usize) = (parts.parse().expect("a count"), size.parse().expect("a size"));
+        let mut text = String::new();
+        for (log, _) in self.answers() {
+            let words: Vec<u64> = bits(log.unwrap_or("")).collect();
+            let rest = size - 8 * words.len();
+            let _ = write!(text, "bytes {} ++ (replicate {rest} {FILLED} ++ (", list(words.into_iter()));
+        }
+        let _ = write!(text, "replicate {} {FILLED}", length - parts * size);
+        text + &")".repeat(2 * parts)
+    }
+}
+
+/// The words of a log that takes the whole run, and its steps, units and runs of
+/// bodies times its gates, unless it is refused. A stop by 13 would hide its
+/// tick's steps.
+fn effort(circuit: &[u8], script: &[u8]) -> Option<(usize, usize)> {
+    let areas = Lent { delays: 8 * 65_536, ..Lent::default() };
+    let (circuit, script) = ask(circuit, script, Some(&areas)).ok()?;
+    let mut machine = start(&circuit, &script);
+    let (mut log, mut runs) = (Vec::new(), 0);
+    for _ in 0..script.lengths.len() {
+        let stop = machine.play_tick(&mut log);
+        runs += machine.runs_of_bodies() as usize;
+        if stop != 0 {
+            break;
+        }
+    }
+    let outputs = circuit.kinds.iter().map(|kind| kind.outputs.len()).sum();
+    Some((log.len(), (done(&log, outputs) + runs) * circuit.kinds.len()))
+}
+
+/// Steps and units of all records of a log.
+fn done(log: &[i64], outputs: usize) -> usize {
+    let (mut at, mut done) = (0, 0);
+    while at + HEAD <= log.len() {
+        let units = (log[at + 2] + log[at + 3]) as usize;
+        done += log[at + 1] as usize + units;
+        at += HEAD + 2 * (units + log[at + 4] as usize) + if log[at + 5] == 0 { 2 * outputs } else { 0 };
+    }
+    done
+}
+
+fn played(log: &str, end: &str) -> String {
+    let (stop, ticks) = end.split_once(' ').expect("a stop and the ticks done");
+    let log = list(bits(log));
+    format!("played (record {{ log = {log}; stop = {stop}; ticks = {ticks} }})")
+}
+
+fn byte(digits: &[u8]) -> u8 {
+    let digits = std::str::from_utf8(digits).expect("hexadecimal digits");
+    u8::from_str_radix(digits, 16).expect("hexadecimal digits")
 }
 
 fn numbers(text: &str) -> Vec<i64> {
@@ -185,17 +290,70 @@ fn list(numbers: impl Iterator<Item = u64>) -> String {
     text + "[])"
 }
 
-fn module(cases: &[&Case]) -> String {
-    let mut text = String::from(
-        "use mathlib.Core.Path.{_≡_, refl}
+const HEAD_OF_RUNS: &str = "use mathlib.Core.Path.{_≡_, refl}
 use mathlib.Core.List.{List, [], _∷_}
 use Prim.Native.Nat.{ℕ}
 use Rattle.words.specs.Words.{bytes}
 use Rattle.model.specs.Run.{Played}
 use Rattle.model.specs.Questions.{Areas}
 use Rattle.model.specs.Answer.{Answer, refused, played, answer, model-opened}
-",
-    );
+";
+
+const HEAD_OF_CLASSES: &str = "use mathlib.Core.Path.{_≡_, refl}
+use mathlib.Core.List.{List, [], _∷_, _++_}
+use Prim.Native.Nat.{ℕ}
+use lib.ListN.{replicate}
+use Rattle.words.specs.Words.{bytes}
+use Rattle.model.specs.Run.{Played}
+use Rattle.model.specs.Questions.{Areas}
+use Rattle.model.specs.Answer.{Answer, refused, played}
+use Rattle.model.specs.Several.{Several, turned-away, answered}
+use Rattle.compare.specs.Left.{Left, left, left-opened}
+";
+
+/// What a class comes to and leaves of a log, areas and words that hold the
+/// filling before.
+const LEFT: &str = "use mathlib.Core.List.{List}
+use Prim.Native.Nat.{ℕ}
+use lib.ListN.{replicate}
+use Rattle.model.specs.Questions.{Areas}
+use Rattle.model.specs.Answer.{model-opened}
+use Rattle.model.specs.Book.{count, part-of, book-opened}
+use Rattle.model.specs.Several.{Several, call-number, call-told, call-log, several-opened}
+use Rattle.model.specs.Class.{class, class-area, class-opened}
+
+pub record Left : Type 0 where
+  pub answer : Several
+  pub number : ℕ
+  pub told : List ℕ
+  pub log : List ℕ
+  pub values : List ℕ
+  pub units : List ℕ
+  pub delays : List ℕ
+
+unfoldable pub left-by : Several → ℕ → Areas → ℕ → ℕ → Left
+left-by a size areas room words =
+    record {
+      answer = a;
+      number = call-number a;
+      told = call-told a (replicate words 11936128518282651045);
+      log = call-log a size (replicate room 165);
+      values = class-area a (replicate (areas .values) 165);
+      units = class-area a (replicate (areas .units) 165);
+      delays = class-area a (replicate (areas .delays) 165);
+    }
+
+-- with areas of these lengths, a log of so many bytes, and so many words for what is told
+unfoldable pub left : Areas → ℕ → ℕ → (circuit book : List ℕ) → Left
+left areas room words circuit book = left-by (class areas room circuit book) (part-of (count book) room) areas room words
+
+unfoldable pub left-opened : ℕ
+unfolding model-opened book-opened several-opened class-opened left-by left
+left-opened = 0
+";
+
+fn module(head: &str, cases: &[&Case]) -> String {
+    let mut text = String::from(head);
     for (n, case) in cases.iter().enumerate() {
         text.push('\n');
         text += &case.theorem(n);

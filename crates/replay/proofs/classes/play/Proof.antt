@@ -5,57 +5,57 @@ use Rattle.replay.proofs.classes.play.Tie as tie
 use Rattle.replay.proofs.classes.play.Reads as reads
 use Rattle.replay.proofs.classes.play.Lts as lts
 use Rattle.replay.proofs.classes.play_lent.Reads as play-lent-reads
-use Rattle.replay.proofs.rooms.delays_room.Reads as delays-room-reads
-use Rattle.replay.proofs.rooms.room.Reads as room-reads
-use Rattle.replay.proofs.rooms.told_room.Reads as told-room-reads
+use Rattle.replay.proofs.rooms.filled_delays.Reads as filled-delays-reads
+use Rattle.replay.proofs.rooms.filled_room.Reads as filled-room-reads
+use Rattle.replay.proofs.rooms.filled_words.Reads as filled-words-reads
 
 returns : tie.Need-returns
 returns c = search needs
 
-room-requires : tie.Need-room-requires
-room-requires c κs = search needs
+filled-room-requires : tie.Need-filled-room-requires
+filled-room-requires c κs = search needs
 
-room-requires-2 : tie.Need-room-requires-2
-room-requires-2 c κs = search needs
+filled-room-requires-2 : tie.Need-filled-room-requires-2
+filled-room-requires-2 c κs = search needs
 
-room-requires-3 : tie.Need-room-requires-3
-room-requires-3 c κs = search needs
+filled-room-requires-3 : tie.Need-filled-room-requires-3
+filled-room-requires-3 c κs = search needs
 
-delays-room-requires : tie.Need-delays-room-requires
-delays-room-requires c κs = search needs
+filled-delays-requires : tie.Need-filled-delays-requires
+filled-delays-requires c κs = search needs
 
-told-room-requires : tie.Need-told-room-requires
-told-room-requires c κs = search needs
+filled-words-requires : tie.Need-filled-words-requires
+filled-words-requires c κs = search needs
 
 array-borrow-prefix-log : tie.Need-array-borrow-prefix-log
 array-borrow-prefix-log c = search needs
 
 slice-aggregate-play-lent : tie.Need-slice-aggregate-play-lent
-slice-aggregate-play-lent c = front (c .before .before .before .before .before .room .result) (c .before .before .before .before .before .before .before .before .before .before .before .before .before .before .before .before .before .before .before .before .args .due .log) (search needs)
+slice-aggregate-play-lent c = front (c .before .before .before .before .before .filled-room .result) (c .before .before .before .before .before .before .before .before .before .before .before .before .before .before .before .before .before .before .before .before .args .due .log) (search needs)
 
 array-borrow-prefix-values : tie.Need-array-borrow-prefix-values
-array-borrow-prefix-values c = fitting (c .before .before .before .before .room2 .result) 262144 (c .before .before .before .before .before .before .before .before .before .before .before .before .before .before .before .before .before .before .before .before .args .due .values) (c .before .before .before .before .room2 .ensures) (c .before .before .before .before .before .before .before .before .before .before .before .before .if2 .left)
+array-borrow-prefix-values c = fitting (c .before .before .before .before .filled-room2 .result) 262144 (c .before .before .before .before .before .before .before .before .before .before .before .before .before .before .before .before .before .before .before .before .args .due .values) (c .before .before .before .before .filled-room2 .ensures) (c .before .before .before .before .before .before .before .before .before .before .before .before .if2 .left)
 
 slice-aggregate-play-lent-2 : tie.Need-slice-aggregate-play-lent-2
-slice-aggregate-play-lent-2 c = front (c .before .before .before .before .before .room2 .result) (c .before .before .before .before .before .before .before .before .before .before .before .before .before .before .before .before .before .before .before .before .before .args .due .values) (fitting (c .before .before .before .before .before .room2 .result) 262144 (c .before .before .before .before .before .before .before .before .before .before .before .before .before .before .before .before .before .before .before .before .before .args .due .values) (c .before .before .before .before .before .room2 .ensures) (c .before .before .before .before .before .before .before .before .before .before .before .before .before .if2 .left))
+slice-aggregate-play-lent-2 c = front (c .before .before .before .before .before .filled-room2 .result) (c .before .before .before .before .before .before .before .before .before .before .before .before .before .before .before .before .before .before .before .before .before .args .due .values) (fitting (c .before .before .before .before .before .filled-room2 .result) 262144 (c .before .before .before .before .before .before .before .before .before .before .before .before .before .before .before .before .before .before .before .before .before .args .due .values) (c .before .before .before .before .before .filled-room2 .ensures) (c .before .before .before .before .before .before .before .before .before .before .before .before .before .if2 .left))
 
 array-borrow-prefix-units : tie.Need-array-borrow-prefix-units
-array-borrow-prefix-units c = fitting (c .before .before .before .before .room3 .result) 262144 (c .before .before .before .before .before .before .before .before .before .before .before .before .before .before .before .before .before .before .before .before .before .args .due .units) (c .before .before .before .before .room3 .ensures) (c .before .before .before .before .before .before .before .before .before .before .before .if3 .left)
+array-borrow-prefix-units c = fitting (c .before .before .before .before .filled-room3 .result) 262144 (c .before .before .before .before .before .before .before .before .before .before .before .before .before .before .before .before .before .before .before .before .before .args .due .units) (c .before .before .before .before .filled-room3 .ensures) (c .before .before .before .before .before .before .before .before .before .before .before .if3 .left)
 
 slice-aggregate-play-lent-3 : tie.Need-slice-aggregate-play-lent-3
-slice-aggregate-play-lent-3 c = front (c .before .before .before .before .before .room3 .result) (c .before .before .before .before .before .before .before .before .before .before .before .before .before .before .before .before .before .before .before .before .before .before .args .due .units) (fitting (c .before .before .before .before .before .room3 .result) 262144 (c .before .before .before .before .before .before .before .before .before .before .before .before .before .before .before .before .before .before .before .before .before .before .args .due .units) (c .before .before .before .before .before .room3 .ensures) (c .before .before .before .before .before .before .before .before .before .before .before .before .if3 .left))
+slice-aggregate-play-lent-3 c = front (c .before .before .before .before .before .filled-room3 .result) (c .before .before .before .before .before .before .before .before .before .before .before .before .before .before .before .before .before .before .before .before .before .before .args .due .units) (fitting (c .before .before .before .before .before .filled-room3 .result) 262144 (c .before .before .before .before .before .before .before .before .before .before .before .before .before .before .before .before .before .before .before .before .before .before .args .due .units) (c .before .before .before .before .before .filled-room3 .ensures) (c .before .before .before .before .before .before .before .before .before .before .before .before .if3 .left))
 
 array-borrow-prefix-delays : tie.Need-array-borrow-prefix-delays
-array-borrow-prefix-delays c = fitting (c .before .before .before .before .delays-room .result) 524288 (c .before .before .before .before .before .before .before .before .before .before .before .before .before .before .before .before .before .before .before .before .before .before .args .due .delays) (c .before .before .before .before .delays-room .ensures) (c .before .before .before .before .before .before .before .before .before .before .if4 .left)
+array-borrow-prefix-delays c = fitting (c .before .before .before .before .filled-delays .result) 524288 (c .before .before .before .before .before .before .before .before .before .before .before .before .before .before .before .before .before .before .before .before .before .before .args .due .delays) (c .before .before .before .before .filled-delays .ensures) (c .before .before .before .before .before .before .before .before .before .before .if4 .left)
 
 slice-aggregate-play-lent-4 : tie.Need-slice-aggregate-play-lent-4
-slice-aggregate-play-lent-4 c = front (c .before .before .before .before .before .delays-room .result) (c .before .before .before .before .before .before .before .before .before .before .before .before .before .before .before .before .before .before .before .before .before .before .before .args .due .delays) (fitting (c .before .before .before .before .before .delays-room .result) 524288 (c .before .before .before .before .before .before .before .before .before .before .before .before .before .before .before .before .before .before .before .before .before .before .before .args .due .delays) (c .before .before .before .before .before .delays-room .ensures) (c .before .before .before .before .before .before .before .before .before .before .before .if4 .left))
+slice-aggregate-play-lent-4 c = front (c .before .before .before .before .before .filled-delays .result) (c .before .before .before .before .before .before .before .before .before .before .before .before .before .before .before .before .before .before .before .before .before .before .before .args .due .delays) (fitting (c .before .before .before .before .before .filled-delays .result) 524288 (c .before .before .before .before .before .before .before .before .before .before .before .before .before .before .before .before .before .before .before .before .before .before .before .args .due .delays) (c .before .before .before .before .before .filled-delays .ensures) (c .before .before .before .before .before .before .before .before .before .before .before .if4 .left))
 
 array-borrow-prefix-told : tie.Need-array-borrow-prefix-told
-array-borrow-prefix-told c = fitting (c .before .before .before .before .told-room .result) 64 (c .before .before .before .before .before .before .before .before .before .before .before .before .before .before .before .before .before .before .before .before .before .before .before .args .due .told) (c .before .before .before .before .told-room .ensures) (c .before .before .before .before .before .before .before .before .before .if5 .left)
+array-borrow-prefix-told c = fitting (c .before .before .before .before .filled-words .result) 64 (c .before .before .before .before .before .before .before .before .before .before .before .before .before .before .before .before .before .before .before .before .before .before .before .args .due .told) (c .before .before .before .before .filled-words .ensures) (c .before .before .before .before .before .before .before .before .before .if5 .left)
 
 slice-aggregate-play-lent-5 : tie.Need-slice-aggregate-play-lent-5
-slice-aggregate-play-lent-5 c = front (c .before .before .before .before .before .told-room .result) (c .before .before .before .before .before .before .before .before .before .before .before .before .before .before .before .before .before .before .before .before .before .before .before .before .args .due .told) (fitting (c .before .before .before .before .before .told-room .result) 64 (c .before .before .before .before .before .before .before .before .before .before .before .before .before .before .before .before .before .before .before .before .before .before .before .before .args .due .told) (c .before .before .before .before .before .told-room .ensures) (c .before .before .before .before .before .before .before .before .before .before .if5 .left))
+slice-aggregate-play-lent-5 c = front (c .before .before .before .before .before .filled-words .result) (c .before .before .before .before .before .before .before .before .before .before .before .before .before .before .before .before .before .before .before .before .before .before .before .before .args .due .told) (fitting (c .before .before .before .before .before .filled-words .result) 64 (c .before .before .before .before .before .before .before .before .before .before .before .before .before .before .before .before .before .before .before .before .before .before .before .before .args .due .told) (c .before .before .before .before .before .filled-words .ensures) (c .before .before .before .before .before .before .before .before .before .before .if5 .left))
 
 play-lent-requires : tie.Need-play-lent-requires
 play-lent-requires c κs = search needs
@@ -68,11 +68,11 @@ play-spec =
     tie.close
     (tie.spec
     returns
-    room-requires
-    room-requires-2
-    room-requires-3
-    delays-room-requires
-    told-room-requires
+    filled-room-requires
+    filled-room-requires-2
+    filled-room-requires-3
+    filled-delays-requires
+    filled-words-requires
     array-borrow-prefix-log
     slice-aggregate-play-lent
     array-borrow-prefix-values

@@ -11,7 +11,7 @@ use Rattle.replay.proofs.classes.play_one.Reads as play-one-reads
 use Rattle.replay.proofs.reading.next_bytes.Reads as next-bytes-reads
 use Rattle.replay.proofs.rooms.filled_room.Reads as filled-room-reads
 use Rattle.replay.proofs.rooms.room.Reads as room-reads
-use Rattle.replay.proofs.rooms.told_room.Reads as told-room-reads
+use Rattle.replay.proofs.rooms.filled_words.Reads as filled-words-reads
 use Rattle.replay.proofs.tally.Tally.with_cut.Reads as with-cut-reads
 
 slice-aggregate-next-bytes : tie.Need-slice-aggregate-next-bytes
@@ -47,8 +47,8 @@ room-requires-2 c κs = search needs
 filled-room-requires : tie.Need-filled-room-requires
 filled-room-requires c κs = search needs
 
-told-room-requires : tie.Need-told-room-requires
-told-room-requires c κs = search needs
+filled-words-requires : tie.Need-filled-words-requires
+filled-words-requires c κs = search needs
 
 slice-aggregate-next-bytes-2 : tie.Need-slice-aggregate-next-bytes-2
 slice-aggregate-next-bytes-2 c = search needs
@@ -81,10 +81,10 @@ slice-aggregate-play-one-3 : tie.Need-slice-aggregate-play-one-3
 slice-aggregate-play-one-3 c = front (c .before .before .before .before .before .before .before .before .before .before .before .before .filled-room .result) (c .before .before .before .before .before .before .before .before .before .before .before .before .before .before .before .before .before .before .before .before .before .before .before .class-numbers .result .log) (fitting (c .before .before .before .before .before .before .before .before .before .before .before .before .filled-room .result) 262144 (c .before .before .before .before .before .before .before .before .before .before .before .before .before .before .before .before .before .before .before .before .before .before .before .class-numbers .result .log) (c .before .before .before .before .before .before .before .before .before .before .before .before .filled-room .ensures) (c .before .before .before .before .before .before .before .before .before .before .before .before .before .before .before .before .before .if4 .left))
 
 array-borrow-prefix-words : tie.Need-array-borrow-prefix-words
-array-borrow-prefix-words c = fitting (c .before .before .before .before .before .before .before .before .before .before .before .told-room .result) 64 (c .before .before .before .before .before .before .before .before .before .before .before .before .before .before .before .before .before .before .before .before .before .before .before .class-numbers .result .told) (c .before .before .before .before .before .before .before .before .before .before .before .told-room .ensures) (c .before .before .before .before .before .before .before .before .before .before .before .before .before .before .before .if5 .left)
+array-borrow-prefix-words c = fitting (c .before .before .before .before .before .before .before .before .before .before .before .filled-words .result) 64 (c .before .before .before .before .before .before .before .before .before .before .before .before .before .before .before .before .before .before .before .before .before .before .before .class-numbers .result .told) (c .before .before .before .before .before .before .before .before .before .before .before .filled-words .ensures) (c .before .before .before .before .before .before .before .before .before .before .before .before .before .before .before .if5 .left)
 
 slice-aggregate-play-one-4 : tie.Need-slice-aggregate-play-one-4
-slice-aggregate-play-one-4 c = front (c .before .before .before .before .before .before .before .before .before .before .before .before .told-room .result) (c .before .before .before .before .before .before .before .before .before .before .before .before .before .before .before .before .before .before .before .before .before .before .before .before .class-numbers .result .told) (fitting (c .before .before .before .before .before .before .before .before .before .before .before .before .told-room .result) 64 (c .before .before .before .before .before .before .before .before .before .before .before .before .before .before .before .before .before .before .before .before .before .before .before .before .class-numbers .result .told) (c .before .before .before .before .before .before .before .before .before .before .before .before .told-room .ensures) (c .before .before .before .before .before .before .before .before .before .before .before .before .before .before .before .before .if5 .left))
+slice-aggregate-play-one-4 c = front (c .before .before .before .before .before .before .before .before .before .before .before .before .filled-words .result) (c .before .before .before .before .before .before .before .before .before .before .before .before .before .before .before .before .before .before .before .before .before .before .before .before .class-numbers .result .told) (fitting (c .before .before .before .before .before .before .before .before .before .before .before .before .filled-words .result) 64 (c .before .before .before .before .before .before .before .before .before .before .before .before .before .before .before .before .before .before .before .before .before .before .before .before .class-numbers .result .told) (c .before .before .before .before .before .before .before .before .before .before .before .before .filled-words .ensures) (c .before .before .before .before .before .before .before .before .before .before .before .before .before .before .before .before .if5 .left))
 
 play-one-requires : tie.Need-play-one-requires
 play-one-requires c κs = search needs
@@ -113,7 +113,7 @@ play-next-spec =
     room-requires
     room-requires-2
     filled-room-requires
-    told-room-requires
+    filled-words-requires
     slice-aggregate-next-bytes-2
     next-bytes-requires-2
     slice-aggregate-next-bytes-3

@@ -4,12 +4,8 @@ use Rattle.replay.proofs.runs.play_lent.Statement.{statement}
 use Rattle.replay.proofs.runs.play_lent.Tie as tie
 use Rattle.replay.proofs.runs.play_lent.Reads as reads
 use Rattle.replay.proofs.runs.play_lent.Lts as lts
-use Rattle.replay.proofs.bytes.fill_all.Reads as fill-all-reads
 use Rattle.replay.proofs.due.is_as_due.Reads as is-as-due-reads
 use Rattle.run.proofs.run.Reads as run-reads
-
-fill-all-requires : tie.Need-fill-all-requires
-fill-all-requires c κs = search needs
 
 run-requires : tie.Need-run-requires
 run-requires c κs = search needs
@@ -30,13 +26,12 @@ same-length-4 : tie.Need-same-length-4
 same-length-4 c = search needs
 
 returns : tie.Need-returns
-returns c = let f = c .before .before .before .before .before .before .before .before .before .before .before .before .before .before .before .before .before .before .before .before .before .before .before .before .before .before .fill-all .ensures in meets _ _ _ _ _ _ _ _ _ _ _ _ _ _ _ _ _ _ (f .0) (f .1 .0) (f .1 .1 .0) (f .1 .1 .1) (c .before .before .before .before .before .before .before .before .before .before .before .before .before .run .ensures) (c .is-as-due .ensures)
+returns c = meets _ _ _ _ _ _ _ _ _ _ _ _ _ _ (c .before .before .before .before .before .before .before .before .before .before .before .before .before .run .ensures) (c .is-as-due .ensures)
 
 pub play-lent-spec : {M : Type 1} → statement M
 play-lent-spec =
     tie.close
     (tie.spec
-    fill-all-requires
     run-requires
     is-as-due-requires
     same-length
