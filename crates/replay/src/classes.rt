@@ -21,7 +21,7 @@ use crate::tally::Tally;
 // The bytes of the numbers before a class's circuit. The last of them, the bytes of all records together, is not used.
 const HEAD: usize = 104;
 
-// Plays a class with this log, these areas and these words for what is told, and compares.
+// Plays a class with this log, these areas and these words for what is told, and compares the log with `records` and the words with `words`.
 fn play_lent(
     due: ClassDue,
     circuit: &[u8],
@@ -79,7 +79,8 @@ fn play(due: ClassDue, circuit: &[u8], book: &[u8], records: &[u8], words: &[u64
     )
 }
 
-// Reads the words that have to be told and the log's records, both lying on what was filled, plays the class and counts it.
+// Reads the words that are due to be told, and the records of each part: into buffers that are filled, so that these become the words and the log that are due. Plays the
+// class and counts it.
 fn play_one(
     fd: i32,
     tally: Tally,

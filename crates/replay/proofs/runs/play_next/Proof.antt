@@ -1,4 +1,4 @@
-use Rattle.replay.proofs.Fitting.{fitting, front}
+use Rattle.replay.proofs.Fitting.{front}
 use borrow.Author.Tests.{ltb-false}
 use native.Mathlib.Omega.{arith}
 use borrow.Author.Needs.{needs}
