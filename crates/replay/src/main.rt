@@ -1,16 +1,371 @@
 // Plays every run of runs.bin and every class of classes.bin, and compares what comes of each with what is due, byte by byte. Each file has first how many.
+ghost use mathlib.Core.Path.{_≡_};
+ghost use Rattle.words.specs.Slices.{before};
+ghost use Rattle.replay.specs.ClassMet.{class-met};
+ghost use Rattle.replay.specs.Met.{met};
+
 mod bytes;
 mod class_due;
-mod classes;
 mod due;
-mod printing;
-mod reading;
 mod rooms;
-mod runs;
 mod tally;
 
-use printing::print_tally;
-use reading::next_word;
+use class_due::ClassDue;
+use class_due::class_numbers;
+use class_due::is_class_as_due;
+use due::Due;
+use due::is_as_due;
+use due::numbers;
+use libc::STDOUT_FILENO;
+use rooms::DELAYS;
+use rooms::FILLED;
+use rooms::ROOM;
+use rooms::TOLD;
+use rooms::filled_delays;
+use rooms::filled_room;
+use rooms::filled_words;
+use rooms::room;
+use tally::Tally;
+use words::read;
+use words::write;
+
+// The bytes of the numbers before a run's circuit.
+const RUN_HEAD: usize = 72;
+
+// The bytes of the numbers before a class's circuit. The last of them, the bytes of all records together, is not used.
+const CLASS_HEAD: usize = 104;
+
+// ---- packed words, read from a file
+
+// A word, and whether it was there whole; one that was not is 0.
+pub struct Word {
+    pub whole: bool,
+    pub value: u64,
+}
+
+// Reads a packed word: how many bytes it has, and these; the others are 0.
+fn next_word(fd: i32) -> Word {
+    let mut count = [0u8; 8];
+    if io::read_full(fd, &mut count[..1]) != 1 {
+        return Word {
+            whole: false,
+            value: 0,
+        };
+    }
+    let n = read(&count, 0) as usize;
+    let mut bytes = [0u8; 8];
+    if 8 < n || io::read_full(fd, &mut bytes[..n]) != n {
+        return Word {
+            whole: false,
+            value: 0,
+        };
+    }
+    Word {
+        whole: true,
+        value: read(&bytes, 0),
+    }
+}
+
+// Reads as many packed words as hold so many bytes to the front of a buffer of whole words: whether they were there whole, and have room.
+fn next_bytes(fd: i32, buffer: &mut [u8], bytes: usize) -> bool {
+    if buffer.len() < bytes {
+        return false;
+    }
+    let n = bytes / 8 + (bytes % 8 + 7) / 8;
+    let mut k = 0;
+    while k < n {
+        let word = next_word(fd);
+        if !word.whole {
+            return false;
+        }
+        write(buffer, k, word.value);
+        k += 1;
+    }
+    true
+}
+
+// Reads n packed words to the front of these: whether they were there whole, and have room.
+fn next_words(fd: i32, told: &mut [u64], n: usize) -> bool {
+    if told.len() < n {
+        return false;
+    }
+    let mut k = 0;
+    while k < n {
+        let word = next_word(fd);
+        if !word.whole {
+            return false;
+        }
+        told[k] = word.value;
+        k += 1;
+    }
+    true
+}
+
+// Reads how many bytes of records a part of a log has, and these to its front.
+fn next_part(fd: i32, part: &mut [u8]) -> bool {
+    let bytes = next_word(fd);
+    if !bytes.whole {
+        return false;
+    }
+    next_bytes(fd, part, bytes.value as usize)
+}
+
+// Reads the records of so many parts of a log, each of so many bytes: whether they were there whole, and have room.
+fn next_parts(fd: i32, log: &mut [u8], parts: u64, size: usize) -> bool {
+    let n = log.len();
+    let mut at = 0;
+    let mut left = parts;
+    while 0 < left {
+        if n - at < size {
+            return false;
+        }
+        if !next_part(fd, &mut log[at..at + size]) {
+            return false;
+        }
+        at += size;
+        left -= 1;
+    }
+    true
+}
+
+// ---- what is printed
+
+// Prints two texts, a number and a third text.
+fn print(text: &[u8], name: &[u8], number: u64, end: &[u8]) {
+    io::write_all(STDOUT_FILENO, text);
+    io::write_all(STDOUT_FILENO, name);
+    io::print_decimal(STDOUT_FILENO, number);
+    io::write_all(STDOUT_FILENO, end);
+}
+
+// Prints the number of a run or a class that differs, from 0.
+fn print_other(name: &[u8], number: u64) {
+    print(b"differs: ", name, number, b"\n");
+}
+
+// Prints how many were played and differ, and which could not be read whole.
+fn print_tally(name: &[u8], tally: Tally, played: &[u8]) {
+    if tally.cut {
+        print(b"not whole: ", name, tally.played, b"\n");
+    }
+    io::print_decimal(STDOUT_FILENO, tally.played);
+    io::write_all(STDOUT_FILENO, played);
+    io::print_decimal(STDOUT_FILENO, tally.differ);
+    io::write_all(STDOUT_FILENO, b" differ\n");
+}
+
+// ---- runs
+
+// Plays a run with this log and these areas, and compares.
+fn play_lent(
+    due: Due,
+    circuit: &[u8],
+    script: &[u8],
+    records: &[u8],
+    log: &mut [u8],
+    values: &mut [u8],
+    units: &mut [u8],
+    delays: &mut [u8],
+) -> bool
+    ensures { λ r. ⌜ r ≡ met due (before circuit) (before script) (before records) (before log) (before values) (before units) (before delays) ⌝ }
+{
+    let answer = run::run(circuit, script, log, values, units, delays);
+    is_as_due(due, answer, records, FILLED, log, values, units, delays)
+}
+
+// Plays a run with as many bytes of buffers as it lends; one that lends more than there are is not as it should be.
+fn play(due: Due, circuit: &[u8], script: &[u8], records: &[u8]) -> bool {
+    if ROOM < due.log || ROOM < due.values || ROOM < due.units || DELAYS < due.delays {
+        return false;
+    }
+    let mut log = filled_room();
+    let mut values = filled_room();
+    let mut units = filled_room();
+    let mut delays = filled_delays();
+    play_lent(
+        due,
+        circuit,
+        script,
+        records,
+        &mut log[..due.log],
+        &mut values[..due.values],
+        &mut units[..due.units],
+        &mut delays[..due.delays],
+    )
+}
+
+// Plays a run with these bytes, and counts it.
+fn play_one(tally: Tally, due: Due, circuit: &[u8], script: &[u8], records: &[u8]) -> Tally {
+    if play(due, circuit, script, records) {
+        return tally.with_same();
+    }
+    print_other(b"run ", tally.played);
+    tally.with_other()
+}
+
+// Reads the next run, if there are buffers for it, and plays it.
+fn play_next(fd: i32, tally: Tally) -> Tally {
+    let mut head = [0u8; RUN_HEAD];
+    if !next_bytes(fd, &mut head, RUN_HEAD) {
+        return tally.with_cut();
+    }
+    let due = numbers(&head);
+    if ROOM < due.circuit || ROOM < due.script || ROOM < due.records {
+        return tally.with_cut();
+    }
+    let mut circuit = room();
+    let mut script = room();
+    let mut records = room();
+    if next_bytes(fd, &mut circuit, due.circuit)
+        && next_bytes(fd, &mut script, due.script)
+        && next_bytes(fd, &mut records, due.records)
+    {
+        return play_one(
+            tally,
+            due,
+            &circuit[..due.circuit],
+            &script[..due.script],
+            &records[..due.records],
+        );
+    }
+    tally.with_cut()
+}
+
+// Plays this many runs, or up to the first that cannot be read whole.
+fn play_all(fd: i32, runs: u64) -> Tally {
+    let mut tally = Tally::new();
+    let mut left = runs;
+    while 0 < left && !tally.cut {
+        tally = play_next(fd, tally);
+        left -= 1;
+    }
+    tally
+}
+
+// ---- classes
+
+// Plays a class with this log, these areas and these words for what is told, and compares the log with `records` and the words with `words`.
+fn play_class_lent(
+    due: ClassDue,
+    circuit: &[u8],
+    book: &[u8],
+    records: &[u8],
+    words: &[u64],
+    log: &mut [u8],
+    values: &mut [u8],
+    units: &mut [u8],
+    delays: &mut [u8],
+    told: &mut [u64],
+) -> bool
+    ensures { λ r. ⌜ r ≡ class-met due (before circuit) (before book) (before records) (before words) (before log) (before values) (before units) (before delays) (before told) ⌝ }
+{
+    let number = class::class(circuit, book, log, values, units, delays, told);
+    is_class_as_due(
+        due,
+        number,
+        records,
+        words,
+        log,
+        values,
+        units,
+        delays,
+        told,
+    )
+}
+
+// Plays a class with as many bytes and words of buffers as it lends; one that lends more than there are is not as it should be.
+fn play_class(due: ClassDue, circuit: &[u8], book: &[u8], records: &[u8], words: &[u64]) -> bool {
+    if ROOM < due.log
+        || ROOM < due.values
+        || ROOM < due.units
+        || DELAYS < due.delays
+        || TOLD < due.told
+    {
+        return false;
+    }
+    let mut log = filled_room();
+    let mut values = filled_room();
+    let mut units = filled_room();
+    let mut delays = filled_delays();
+    let mut told = filled_words();
+    play_class_lent(
+        due,
+        circuit,
+        book,
+        records,
+        words,
+        &mut log[..due.log],
+        &mut values[..due.values],
+        &mut units[..due.units],
+        &mut delays[..due.delays],
+        &mut told[..due.told],
+    )
+}
+
+// Reads the words that are due to be told, and the records of each part: into buffers that are filled, so that these become the words and the log that are due. Plays the
+// class and counts it.
+fn play_one_class(
+    fd: i32,
+    tally: Tally,
+    due: ClassDue,
+    circuit: &[u8],
+    book: &[u8],
+    records: &mut [u8],
+    words: &mut [u64],
+) -> Tally {
+    if !next_words(fd, words, due.words) {
+        return tally.with_cut();
+    }
+    if !next_parts(fd, records, due.parts, due.part) {
+        return tally.with_cut();
+    }
+    if play_class(due, circuit, book, records, words) {
+        return tally.with_same();
+    }
+    print_other(b"class ", tally.played);
+    tally.with_other()
+}
+
+// Reads the next class, if there are buffers for it, and plays it.
+fn play_next_class(fd: i32, tally: Tally) -> Tally {
+    let mut head = [0u8; CLASS_HEAD];
+    if !next_bytes(fd, &mut head, CLASS_HEAD) {
+        return tally.with_cut();
+    }
+    let due = class_numbers(&head);
+    if ROOM < due.circuit || ROOM < due.book || ROOM < due.log || TOLD < due.told {
+        return tally.with_cut();
+    }
+    let mut circuit = room();
+    let mut book = room();
+    let mut records = filled_room();
+    let mut words = filled_words();
+    if next_bytes(fd, &mut circuit, due.circuit) && next_bytes(fd, &mut book, due.book) {
+        return play_one_class(
+            fd,
+            tally,
+            due,
+            &circuit[..due.circuit],
+            &book[..due.book],
+            &mut records[..due.log],
+            &mut words[..due.told],
+        );
+    }
+    tally.with_cut()
+}
+
+// Plays this many classes, or up to the first that cannot be read whole.
+fn play_all_classes(fd: i32, classes: u64) -> Tally {
+    let mut tally = Tally::new();
+    let mut left = classes;
+    while 0 < left && !tally.cut {
+        tally = play_next_class(fd, tally);
+        left -= 1;
+    }
+    tally
+}
+
+// ---- both files
 
 // Opens a file, which lies in the folder that the program runs in; below 0 where it cannot.
 fn open(name: &[u8]) -> i32 {
@@ -26,7 +381,7 @@ fn play_runs() {
     if fd < 0 {
         return;
     }
-    let tally = runs::play_all(fd, next_word(fd).value);
+    let tally = play_all(fd, next_word(fd).value);
     print_tally(b"run ", tally, b" played, ");
     libc::close(fd);
 }
@@ -36,7 +391,7 @@ fn play_classes() {
     if fd < 0 {
         return;
     }
-    let tally = classes::play_all(fd, next_word(fd).value);
+    let tally = play_all_classes(fd, next_word(fd).value);
     print_tally(b"class ", tally, b" classes, ");
     libc::close(fd);
 }

@@ -2,14 +2,14 @@ use Rattle.replay.proofs.Fitting.{front}
 use borrow.Author.Tests.{ltb-false}
 use native.Mathlib.Omega.{arith}
 use borrow.Author.Needs.{needs}
-use Rattle.replay.proofs.runs.play_next.Statement.{statement}
-use Rattle.replay.proofs.runs.play_next.Tie as tie
-use Rattle.replay.proofs.runs.play_next.Reads as reads
-use Rattle.replay.proofs.runs.play_next.Lts as lts
+use Rattle.replay.proofs.play_next.Statement.{statement}
+use Rattle.replay.proofs.play_next.Tie as tie
+use Rattle.replay.proofs.play_next.Reads as reads
+use Rattle.replay.proofs.play_next.Lts as lts
 use Rattle.replay.proofs.due.numbers.Reads as numbers-reads
-use Rattle.replay.proofs.reading.next_bytes.Reads as next-bytes-reads
+use Rattle.replay.proofs.next_bytes.Reads as next-bytes-reads
 use Rattle.replay.proofs.rooms.room.Reads as room-reads
-use Rattle.replay.proofs.runs.play_one.Reads as play-one-reads
+use Rattle.replay.proofs.play_one.Reads as play-one-reads
 use Rattle.replay.proofs.tally.Tally.with_cut.Reads as with-cut-reads
 
 slice-aggregate-next-bytes : tie.Need-slice-aggregate-next-bytes

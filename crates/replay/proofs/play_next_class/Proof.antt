@@ -2,13 +2,13 @@ use Rattle.replay.proofs.Fitting.{fitting, front}
 use borrow.Author.Tests.{ltb-false}
 use native.Mathlib.Omega.{arith}
 use borrow.Author.Needs.{needs}
-use Rattle.replay.proofs.classes.play_next.Statement.{statement}
-use Rattle.replay.proofs.classes.play_next.Tie as tie
-use Rattle.replay.proofs.classes.play_next.Reads as reads
-use Rattle.replay.proofs.classes.play_next.Lts as lts
+use Rattle.replay.proofs.play_next_class.Statement.{statement}
+use Rattle.replay.proofs.play_next_class.Tie as tie
+use Rattle.replay.proofs.play_next_class.Reads as reads
+use Rattle.replay.proofs.play_next_class.Lts as lts
 use Rattle.replay.proofs.class_due.class_numbers.Reads as class-numbers-reads
-use Rattle.replay.proofs.classes.play_one.Reads as play-one-reads
-use Rattle.replay.proofs.reading.next_bytes.Reads as next-bytes-reads
+use Rattle.replay.proofs.play_one_class.Reads as play-one-class-reads
+use Rattle.replay.proofs.next_bytes.Reads as next-bytes-reads
 use Rattle.replay.proofs.rooms.filled_room.Reads as filled-room-reads
 use Rattle.replay.proofs.rooms.room.Reads as room-reads
 use Rattle.replay.proofs.rooms.filled_words.Reads as filled-words-reads
@@ -65,29 +65,29 @@ next-bytes-requires-3 c κs = search needs
 array-share-prefix-circuit : tie.Need-array-share-prefix-circuit
 array-share-prefix-circuit c = search needs
 
-slice-aggregate-play-one : tie.Need-slice-aggregate-play-one
-slice-aggregate-play-one c = front (c .before .before .before .before .before .before .before .next-bytes2 .last .1 .0) (c .before .before .before .before .before .before .before .before .before .before .before .before .before .before .before .before .before .before .before .before .before .class-numbers .result .circuit) (search needs)
+slice-aggregate-play-one-class : tie.Need-slice-aggregate-play-one-class
+slice-aggregate-play-one-class c = front (c .before .before .before .before .before .before .before .next-bytes2 .last .1 .0) (c .before .before .before .before .before .before .before .before .before .before .before .before .before .before .before .before .before .before .before .before .before .class-numbers .result .circuit) (search needs)
 
 array-share-prefix-book : tie.Need-array-share-prefix-book
 array-share-prefix-book c = let k = ltb-false 262144 (c .before .before .before .before .before .before .before .before .before .before .before .before .before .before .before .before .before .before .before .before .before .class-numbers .result .book) (c .before .before .before .before .before .before .before .before .before .before .before .before .before .before .before .before .before .if3 .left) in omega (arith, c .before .before .book2 .given, c .before .before .before .before .before .before .before .before .before .before .before .room2 .ensures)
 
-slice-aggregate-play-one-2 : tie.Need-slice-aggregate-play-one-2
-slice-aggregate-play-one-2 c = let k = ltb-false 262144 (c .before .before .before .before .before .before .before .before .before .before .before .before .before .before .before .before .before .before .before .before .before .before .class-numbers .result .book) (c .before .before .before .before .before .before .before .before .before .before .before .before .before .before .before .before .before .before .if3 .left) in front (c .before .before .before .before .next-bytes3 .last .1 .0) (c .before .before .before .before .before .before .before .before .before .before .before .before .before .before .before .before .before .before .before .before .before .before .class-numbers .result .book) (omega (arith, c .before .before .before .book2 .given, c .before .before .before .before .before .before .before .before .before .before .before .before .room2 .ensures))
+slice-aggregate-play-one-class-2 : tie.Need-slice-aggregate-play-one-class-2
+slice-aggregate-play-one-class-2 c = let k = ltb-false 262144 (c .before .before .before .before .before .before .before .before .before .before .before .before .before .before .before .before .before .before .before .before .before .before .class-numbers .result .book) (c .before .before .before .before .before .before .before .before .before .before .before .before .before .before .before .before .before .before .if3 .left) in front (c .before .before .before .before .next-bytes3 .last .1 .0) (c .before .before .before .before .before .before .before .before .before .before .before .before .before .before .before .before .before .before .before .before .before .before .class-numbers .result .book) (omega (arith, c .before .before .before .book2 .given, c .before .before .before .before .before .before .before .before .before .before .before .before .room2 .ensures))
 
 array-borrow-prefix-records : tie.Need-array-borrow-prefix-records
 array-borrow-prefix-records c = fitting (c .before .before .before .before .before .before .before .before .before .before .before .filled-room .result) 262144 (c .before .before .before .before .before .before .before .before .before .before .before .before .before .before .before .before .before .before .before .before .before .before .class-numbers .result .log) (c .before .before .before .before .before .before .before .before .before .before .before .filled-room .ensures) (c .before .before .before .before .before .before .before .before .before .before .before .before .before .before .before .before .if4 .left)
 
-slice-aggregate-play-one-3 : tie.Need-slice-aggregate-play-one-3
-slice-aggregate-play-one-3 c = front (c .before .before .before .before .before .before .before .before .before .before .before .before .filled-room .result) (c .before .before .before .before .before .before .before .before .before .before .before .before .before .before .before .before .before .before .before .before .before .before .before .class-numbers .result .log) (fitting (c .before .before .before .before .before .before .before .before .before .before .before .before .filled-room .result) 262144 (c .before .before .before .before .before .before .before .before .before .before .before .before .before .before .before .before .before .before .before .before .before .before .before .class-numbers .result .log) (c .before .before .before .before .before .before .before .before .before .before .before .before .filled-room .ensures) (c .before .before .before .before .before .before .before .before .before .before .before .before .before .before .before .before .before .if4 .left))
+slice-aggregate-play-one-class-3 : tie.Need-slice-aggregate-play-one-class-3
+slice-aggregate-play-one-class-3 c = front (c .before .before .before .before .before .before .before .before .before .before .before .before .filled-room .result) (c .before .before .before .before .before .before .before .before .before .before .before .before .before .before .before .before .before .before .before .before .before .before .before .class-numbers .result .log) (fitting (c .before .before .before .before .before .before .before .before .before .before .before .before .filled-room .result) 262144 (c .before .before .before .before .before .before .before .before .before .before .before .before .before .before .before .before .before .before .before .before .before .before .before .class-numbers .result .log) (c .before .before .before .before .before .before .before .before .before .before .before .before .filled-room .ensures) (c .before .before .before .before .before .before .before .before .before .before .before .before .before .before .before .before .before .if4 .left))
 
 array-borrow-prefix-words : tie.Need-array-borrow-prefix-words
 array-borrow-prefix-words c = fitting (c .before .before .before .before .before .before .before .before .before .before .before .filled-words .result) 64 (c .before .before .before .before .before .before .before .before .before .before .before .before .before .before .before .before .before .before .before .before .before .before .before .class-numbers .result .told) (c .before .before .before .before .before .before .before .before .before .before .before .filled-words .ensures) (c .before .before .before .before .before .before .before .before .before .before .before .before .before .before .before .if5 .left)
 
-slice-aggregate-play-one-4 : tie.Need-slice-aggregate-play-one-4
-slice-aggregate-play-one-4 c = front (c .before .before .before .before .before .before .before .before .before .before .before .before .filled-words .result) (c .before .before .before .before .before .before .before .before .before .before .before .before .before .before .before .before .before .before .before .before .before .before .before .before .class-numbers .result .told) (fitting (c .before .before .before .before .before .before .before .before .before .before .before .before .filled-words .result) 64 (c .before .before .before .before .before .before .before .before .before .before .before .before .before .before .before .before .before .before .before .before .before .before .before .before .class-numbers .result .told) (c .before .before .before .before .before .before .before .before .before .before .before .before .filled-words .ensures) (c .before .before .before .before .before .before .before .before .before .before .before .before .before .before .before .before .if5 .left))
+slice-aggregate-play-one-class-4 : tie.Need-slice-aggregate-play-one-class-4
+slice-aggregate-play-one-class-4 c = front (c .before .before .before .before .before .before .before .before .before .before .before .before .filled-words .result) (c .before .before .before .before .before .before .before .before .before .before .before .before .before .before .before .before .before .before .before .before .before .before .before .before .class-numbers .result .told) (fitting (c .before .before .before .before .before .before .before .before .before .before .before .before .filled-words .result) 64 (c .before .before .before .before .before .before .before .before .before .before .before .before .before .before .before .before .before .before .before .before .before .before .before .before .class-numbers .result .told) (c .before .before .before .before .before .before .before .before .before .before .before .before .filled-words .ensures) (c .before .before .before .before .before .before .before .before .before .before .before .before .before .before .before .before .if5 .left))
 
-play-one-requires : tie.Need-play-one-requires
-play-one-requires c κs = search needs
+play-one-class-requires : tie.Need-play-one-class-requires
+play-one-class-requires c κs = search needs
 
 returns-3 : tie.Need-returns-3
 returns-3 c = search needs
@@ -98,8 +98,8 @@ with-cut-requires-3 c κs = search needs
 returns-4 : tie.Need-returns-4
 returns-4 c = search needs
 
-pub play-next-spec : {M : Type 1} → statement M
-play-next-spec =
+pub play-next-class-spec : {M : Type 1} → statement M
+play-next-class-spec =
     tie.close
     (tie.spec
     slice-aggregate-next-bytes
@@ -119,14 +119,14 @@ play-next-spec =
     slice-aggregate-next-bytes-3
     next-bytes-requires-3
     array-share-prefix-circuit
-    slice-aggregate-play-one
+    slice-aggregate-play-one-class
     array-share-prefix-book
-    slice-aggregate-play-one-2
+    slice-aggregate-play-one-class-2
     array-borrow-prefix-records
-    slice-aggregate-play-one-3
+    slice-aggregate-play-one-class-3
     array-borrow-prefix-words
-    slice-aggregate-play-one-4
-    play-one-requires
+    slice-aggregate-play-one-class-4
+    play-one-class-requires
     returns-3
     with-cut-requires-3
     returns-4)

@@ -2,11 +2,11 @@ use Prim.Native.Nat.{_≤_}
 use lib.ListN.{length}
 use mathlib.Core.Path.{_≡_}
 use borrow.Author.Needs.{needs}
-use Rattle.replay.proofs.reading.next_parts.Statement.{statement}
-use Rattle.replay.proofs.reading.next_parts.Tie as tie
-use Rattle.replay.proofs.reading.next_parts.Reads as reads
-use Rattle.replay.proofs.reading.next_parts.Lts as lts
-use Rattle.replay.proofs.reading.next_part.Reads as next-part-reads
+use Rattle.replay.proofs.next_parts.Statement.{statement}
+use Rattle.replay.proofs.next_parts.Tie as tie
+use Rattle.replay.proofs.next_parts.Reads as reads
+use Rattle.replay.proofs.next_parts.Lts as lts
+use Rattle.replay.proofs.next_part.Reads as next-part-reads
 
 abbrev Inv-loop : tie.InvT-loop
 Inv-loop fd log₀ parts size n at₀ left₀ log at left = (length log ≡ length log₀) × (at ≤ n)

@@ -1,9 +1,9 @@
 use Rattle.replay.proofs.Meeting.{meets}
 use borrow.Author.Needs.{needs}
-use Rattle.replay.proofs.runs.play_lent.Statement.{statement}
-use Rattle.replay.proofs.runs.play_lent.Tie as tie
-use Rattle.replay.proofs.runs.play_lent.Reads as reads
-use Rattle.replay.proofs.runs.play_lent.Lts as lts
+use Rattle.replay.proofs.play_lent.Statement.{statement}
+use Rattle.replay.proofs.play_lent.Tie as tie
+use Rattle.replay.proofs.play_lent.Reads as reads
+use Rattle.replay.proofs.play_lent.Lts as lts
 use Rattle.replay.proofs.due.is_as_due.Reads as is-as-due-reads
 use Rattle.run.proofs.run.Reads as run-reads
 

@@ -1,10 +1,10 @@
 use borrow.Author.Needs.{needs}
 use Prim.Native.Nat.{_-_}
-use Rattle.replay.proofs.classes.play_all.Statement.{statement}
-use Rattle.replay.proofs.classes.play_all.Tie as tie
-use Rattle.replay.proofs.classes.play_all.Reads as reads
-use Rattle.replay.proofs.classes.play_all.Lts as lts
-use Rattle.replay.proofs.classes.play_next.Reads as play-next-reads
+use Rattle.replay.proofs.play_all_classes.Statement.{statement}
+use Rattle.replay.proofs.play_all_classes.Tie as tie
+use Rattle.replay.proofs.play_all_classes.Reads as reads
+use Rattle.replay.proofs.play_all_classes.Lts as lts
+use Rattle.replay.proofs.play_next_class.Reads as play-next-class-reads
 use Rattle.replay.proofs.tally.Tally.new.Reads as new-reads
 
 abbrev Inv-loop : tie.InvT-loop
@@ -19,8 +19,8 @@ new-requires c κs = search needs
 loop-holds : tie.Need-loop-holds Inv-loop μ-loop
 loop-holds c = search needs
 
-play-next-requires : tie.Need-play-next-requires Inv-loop μ-loop
-play-next-requires c κs = search needs
+play-next-class-requires : tie.Need-play-next-class-requires Inv-loop μ-loop
+play-next-class-requires c κs = search needs
 
 sub-left : tie.Need-sub-left Inv-loop μ-loop
 sub-left c = search needs
@@ -37,15 +37,15 @@ returns c = search needs
 returns-2 : tie.Need-returns-2 Inv-loop μ-loop
 returns-2 c = search needs
 
-pub play-all-spec : {M : Type 1} → statement M
-play-all-spec =
+pub play-all-classes-spec : {M : Type 1} → statement M
+play-all-classes-spec =
     tie.close
     (tie.spec
     Inv-loop
     μ-loop
     new-requires
     loop-holds
-    play-next-requires
+    play-next-class-requires
     sub-left
     loop-less
     loop-again

@@ -4,10 +4,10 @@ use lib.ListN.{replicate}
 use Prim.Native.Nat.{ℕ}
 use borrow.Rule.Slice.PartMut.{same-len-mid}
 use borrow.Author.Needs.{needs}
-use Rattle.replay.proofs.reading.next_word.Statement.{statement}
-use Rattle.replay.proofs.reading.next_word.Tie as tie
-use Rattle.replay.proofs.reading.next_word.Reads as reads
-use Rattle.replay.proofs.reading.next_word.Lts as lts
+use Rattle.replay.proofs.next_word.Statement.{statement}
+use Rattle.replay.proofs.next_word.Tie as tie
+use Rattle.replay.proofs.next_word.Reads as reads
+use Rattle.replay.proofs.next_word.Lts as lts
 use Rattle.io.proofs.read_full.Reads as read-full-reads
 use Rattle.words.proofs.read.Reads as read-reads
 

@@ -2,11 +2,11 @@ use borrow.Author.Needs.{needs}
 use Prim.Native.Nat.{_-_}
 use lib.ListN.{length}
 use mathlib.Core.Path.{_≡_}
-use Rattle.replay.proofs.reading.next_words.Statement.{statement}
-use Rattle.replay.proofs.reading.next_words.Tie as tie
-use Rattle.replay.proofs.reading.next_words.Reads as reads
-use Rattle.replay.proofs.reading.next_words.Lts as lts
-use Rattle.replay.proofs.reading.next_word.Reads as next-word-reads
+use Rattle.replay.proofs.next_words.Statement.{statement}
+use Rattle.replay.proofs.next_words.Tie as tie
+use Rattle.replay.proofs.next_words.Reads as reads
+use Rattle.replay.proofs.next_words.Lts as lts
+use Rattle.replay.proofs.next_word.Reads as next-word-reads
 
 abbrev Inv-loop : tie.InvT-loop
 Inv-loop fd told₀ n k₀ told k = length told ≡ length told₀

@@ -1,9 +1,9 @@
 use Rattle.replay.proofs.ClassMeeting.{class-meets}
 use borrow.Author.Needs.{needs}
-use Rattle.replay.proofs.classes.play_lent.Statement.{statement}
-use Rattle.replay.proofs.classes.play_lent.Tie as tie
-use Rattle.replay.proofs.classes.play_lent.Reads as reads
-use Rattle.replay.proofs.classes.play_lent.Lts as lts
+use Rattle.replay.proofs.play_class_lent.Statement.{statement}
+use Rattle.replay.proofs.play_class_lent.Tie as tie
+use Rattle.replay.proofs.play_class_lent.Reads as reads
+use Rattle.replay.proofs.play_class_lent.Lts as lts
 use Rattle.class.proofs.class.Reads as class-reads
 use Rattle.replay.proofs.class_due.is_class_as_due.Reads as is-class-as-due-reads
 
@@ -31,8 +31,8 @@ same-length-5 c = search needs
 returns : tie.Need-returns
 returns c = class-meets _ _ _ _ _ _ _ _ _ _ _ _ _ _ _ _ _ (c .before .before .before .before .before .before .before .before .before .before .before .before .before .before .before .before .class .ensures) (c .is-class-as-due .ensures)
 
-pub play-lent-spec : {M : Type 1} → statement M
-play-lent-spec =
+pub play-class-lent-spec : {M : Type 1} → statement M
+play-class-lent-spec =
     tie.close
     (tie.spec
     class-requires

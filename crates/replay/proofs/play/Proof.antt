@@ -1,12 +1,12 @@
 use Rattle.replay.proofs.Fitting.{fitting, front}
 use borrow.Author.Needs.{needs}
-use Rattle.replay.proofs.runs.play.Statement.{statement}
-use Rattle.replay.proofs.runs.play.Tie as tie
-use Rattle.replay.proofs.runs.play.Reads as reads
-use Rattle.replay.proofs.runs.play.Lts as lts
+use Rattle.replay.proofs.play.Statement.{statement}
+use Rattle.replay.proofs.play.Tie as tie
+use Rattle.replay.proofs.play.Reads as reads
+use Rattle.replay.proofs.play.Lts as lts
 use Rattle.replay.proofs.rooms.filled_delays.Reads as filled-delays-reads
 use Rattle.replay.proofs.rooms.filled_room.Reads as filled-room-reads
-use Rattle.replay.proofs.runs.play_lent.Reads as play-lent-reads
+use Rattle.replay.proofs.play_lent.Reads as play-lent-reads
 
 returns : tie.Need-returns
 returns c = search needs

@@ -1,10 +1,10 @@
 use borrow.Author.Needs.{needs}
 use Prim.Native.Nat.{_-_}
-use Rattle.replay.proofs.runs.play_all.Statement.{statement}
-use Rattle.replay.proofs.runs.play_all.Tie as tie
-use Rattle.replay.proofs.runs.play_all.Reads as reads
-use Rattle.replay.proofs.runs.play_all.Lts as lts
-use Rattle.replay.proofs.runs.play_next.Reads as play-next-reads
+use Rattle.replay.proofs.play_all.Statement.{statement}
+use Rattle.replay.proofs.play_all.Tie as tie
+use Rattle.replay.proofs.play_all.Reads as reads
+use Rattle.replay.proofs.play_all.Lts as lts
+use Rattle.replay.proofs.play_next.Reads as play-next-reads
 use Rattle.replay.proofs.tally.Tally.new.Reads as new-reads
 
 abbrev Inv-loop : tie.InvT-loop

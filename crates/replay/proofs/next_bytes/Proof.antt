@@ -2,11 +2,11 @@ use borrow.Author.Needs.{needs}
 use Prim.Native.Nat.{_-_}
 use lib.ListN.{length}
 use mathlib.Core.Path.{_≡_}
-use Rattle.replay.proofs.reading.next_bytes.Statement.{statement}
-use Rattle.replay.proofs.reading.next_bytes.Tie as tie
-use Rattle.replay.proofs.reading.next_bytes.Reads as reads
-use Rattle.replay.proofs.reading.next_bytes.Lts as lts
-use Rattle.replay.proofs.reading.next_word.Reads as next-word-reads
+use Rattle.replay.proofs.next_bytes.Statement.{statement}
+use Rattle.replay.proofs.next_bytes.Tie as tie
+use Rattle.replay.proofs.next_bytes.Reads as reads
+use Rattle.replay.proofs.next_bytes.Lts as lts
+use Rattle.replay.proofs.next_word.Reads as next-word-reads
 use Rattle.words.proofs.write.Reads as write-reads
 
 abbrev Inv-loop : tie.InvT-loop
