@@ -136,6 +136,9 @@ pub fn text(number: u64) -> &'static str {
         12 => "a list is full",
         13 => "a record does not fit the log",
         15 => "the book has not 1 to 16 scripts, or is too short for their starts and lengths",
+        16 => "the log is not whole records of this circuit, or not cut to the bytes told",
+        17 => "the driver or the activity is no value output, or a tick is not 1 to 60,000 ms long",
+        18 => "the report does not fit, or there are more than 32 drivers",
         19 => "a call leaves its body, a Loop has no entry of its own, or bodies form a ring",
         _ => "no such number",
     }

@@ -314,7 +314,8 @@ fn worked_class() {
     let bytes = |named: &str| -> Vec<u8> {
         format_words(named).iter().flat_map(|word| word.to_le_bytes()).collect()
     };
-    let mut class = Class::new("worked", "An example.", bytes("class circuit"), bytes("class book"));
+    let mut class =
+        Class::new("worked", "An example.", bytes("class circuit"), bytes("class book"));
     class.lent.log = 428;
     class.told = 9;
     compare(&class, 1, &mut Counts::default());

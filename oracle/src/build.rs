@@ -685,6 +685,30 @@ impl Book {
     }
 }
 
+/// A record of a log under construction: its head says what it has, and need not
+/// be right.
+#[derive(Clone, Debug, Default)]
+pub struct Record {
+    /// Tick, steps, late units, main units, carried, stop, changed.
+    pub head: [i64; 7],
+    /// Gates and forms of the units begun.
+    pub begun: Vec<(i64, i64)>,
+    /// Gates and forms of the carried units.
+    pub carried: Vec<(i64, i64)>,
+    /// Kinds and contents.
+    pub outputs: Vec<(i64, i64)>,
+}
+
+impl Record {
+    pub fn words(&self) -> Vec<i64> {
+        let mut words = self.head.to_vec();
+        for pairs in [&self.begun, &self.carried, &self.outputs] {
+            push_parallel(&mut words, pairs);
+        }
+        words
+    }
+}
+
 /// Pairs as two parallel arrays.
 fn push_parallel(words: &mut Vec<i64>, pairs: &[(i64, i64)]) {
     words.extend(pairs.iter().map(|p| p.0));

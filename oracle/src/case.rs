@@ -3,6 +3,7 @@
 use crate::Lent;
 use crate::build::{Circuit, Script, bytes_of};
 use crate::class::{ClassAnswer, Held, call, class};
+use crate::hours::{self, Named};
 
 /// A circuit with its script and the bytes lent for it.
 #[derive(Clone, Debug)]
@@ -92,5 +93,45 @@ impl Class {
     /// everywhere.
     pub fn call(&self, byte: u8) -> (u8, Held) {
         call(&self.circuit, &self.book, Held::filled(&self.lent, self.told, byte))
+    }
+}
+
+/// A circuit with a finished log, what is named of it, and what is lent.
+#[derive(Clone, Debug)]
+pub struct Report {
+    pub name: String,
+    pub shows: String,
+    pub circuit: Vec<u8>,
+    pub log: Vec<u8>,
+    pub named: Named,
+    /// Bytes lent for the report.
+    pub room: usize,
+    /// Words lent for what is told.
+    pub told: usize,
+}
+
+impl Report {
+    /// A report with room for more than any has, and for two words told.
+    pub fn new(
+        name: impl Into<String>,
+        shows: impl Into<String>,
+        circuit: Vec<u8>,
+        log: Vec<u8>,
+        named: Named,
+    ) -> Self {
+        let (name, shows) = (name.into(), shows.into());
+        Report { name, shows, circuit, log, named, room: 6_000, told: 2 }
+    }
+
+    /// The bytes of the report, or the number of the refusal.
+    pub fn answer(&self) -> Result<Vec<u8>, u8> {
+        hours::hours(&self.circuit, &self.log, &self.named, self.room)
+    }
+
+    /// The number answered, and what is left of what was lent with this byte
+    /// everywhere.
+    pub fn call(&self, byte: u8) -> (u8, hours::Held) {
+        let before = hours::Held::filled(self.room, self.told, byte);
+        hours::call(&self.circuit, &self.log, &self.named, before)
     }
 }

@@ -286,7 +286,8 @@ impl Raw {
     }
 }
 
-fn constant(kind: i64, content: i64) -> Option<Value> {
+/// The constant of this kind and content, if there is one.
+pub fn constant(kind: i64, content: i64) -> Option<Value> {
     let float = f64::from_bits(content as u64);
     match (kind, content) {
         (1, n) => Some(Value::Int(n)),

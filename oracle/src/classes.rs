@@ -16,7 +16,7 @@
 use crate::Answer;
 use crate::circuits::{self, Class};
 use crate::class::{self, ClassAnswer};
-use crate::runs::{DELAYS, ROOM, word};
+use crate::runs::{DELAYS, ROOM, filled, word};
 
 /// What the program has room for of words told.
 pub const TOLD: usize = 64;
@@ -73,11 +73,6 @@ fn words(one: &Class) -> Vec<u64> {
 pub fn lent(class: &Class) -> [usize; 5] {
     let lent = &class.lent;
     [lent.log, lent.values, lent.units, lent.delays, class.told]
-}
-
-/// Bytes as words, the last one filled up with zeros.
-fn filled(bytes: &[u8]) -> impl Iterator<Item = u64> {
-    bytes.chunks(8).map(|some| some.iter().rev().fold(0, |word, &byte| word << 8 | u64::from(byte)))
 }
 
 fn fits(class: &Class) -> bool {

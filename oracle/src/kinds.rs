@@ -35,6 +35,13 @@ pub struct Kind {
     pub outputs: &'static [Port],
 }
 
+impl Kind {
+    /// The kind's number: its place among all, from 1.
+    pub fn number(&'static self) -> usize {
+        1 + KINDS.iter().position(|kind| std::ptr::eq(kind, self)).expect("every kind has a place")
+    }
+}
+
 impl Port {
     pub fn name(self) -> &'static str {
         match self {

@@ -9,25 +9,29 @@ mod load;
 mod semantics;
 pub use source::{Dt, SimError, SimOptions, graph, machine, value, world};
 
-// Document 01: its bytes, its questions, its run. Document 02: its class.
+// Document 01: its bytes, its questions, its run. Document 02: its class, its
+// report of hours.
 pub mod circuit;
 pub mod class;
 pub mod graph_of;
+pub mod hours;
 pub mod kinds;
 pub mod play;
 pub mod print;
 pub mod questions;
 pub mod script;
+pub mod whole;
 pub mod words;
 
 // The stated circuits (build, case, generate, circuits, vectors, pack, runs,
-// classes):
+// classes, reports):
 pub mod build;
 pub mod case;
 pub mod circuits;
 pub mod classes;
 pub mod generate;
 pub mod pack;
+pub mod reports;
 pub mod runs;
 pub mod vectors;
 

@@ -18,6 +18,7 @@ oracle vectors DIR [FIRST LAST]
 oracle pack FILE
 oracle pack runs FILE
 oracle pack classes FILE
+oracle pack reports FILE
 oracle mutants [NAME..]";
 
 fn main() -> ExitCode {
@@ -40,10 +41,7 @@ fn run(words: &[&str]) -> Option<()> {
         }
         ["bench", dir] => println!("{}", bench::bench(dir.as_ref())),
         ["circuits"] => print!("{}", oracle::circuits::document()),
-        ["circuits", name, dir] => match stated::stated(name) {
-            Some(case) => println!("{}", stated::write(&case, dir.as_ref())?),
-            None => println!("{}", stated::write_class(&stated::stated_class(name)?, dir.as_ref())?),
-        },
+        ["circuits", name, dir] => println!("{}", stated::write_stated(name, dir.as_ref())?),
         ["generate", family, seed, dir] => {
             println!("{}", stated::write(&stated::generated(family, seed)?, dir.as_ref())?);
         }
@@ -76,6 +74,12 @@ fn pack(words: &[&str]) -> Option<()> {
             std::fs::write(file, oracle::classes::pack(&classes)).ok()?;
             print!("{}", oracle::classes::printed(&classes));
             eprintln!("left out: {}", classes.left_out.join(", "));
+        }
+        ["reports", file] => {
+            let reports = oracle::reports::reports();
+            std::fs::write(file, oracle::reports::pack(&reports)).ok()?;
+            print!("{}", oracle::reports::printed(&reports));
+            eprintln!("left out: {}", reports.left_out.join(", "));
         }
         _ => return None,
     }

@@ -94,3 +94,8 @@ pub(crate) fn word(number: u64) -> Vec<u8> {
     let count = 8 - number.leading_zeros() as usize / 8;
     [&[count as u8], &bytes[..count]].concat()
 }
+
+/// Bytes as words, the last one filled up with zeros.
+pub(crate) fn filled(bytes: &[u8]) -> impl Iterator<Item = u64> {
+    bytes.chunks(8).map(|some| some.iter().rev().fold(0, |word, &byte| word << 8 | u64::from(byte)))
+}

@@ -3,17 +3,34 @@
 use std::path::Path;
 
 use oracle::Lent;
-use oracle::circuits::{Case, Class, all, classes};
+use oracle::circuits::{Case, Class, Report, all, classes, reports};
 use oracle::generate::{FAMILIES, damaged, damaged_loops, valid};
 
+/// Writes the stated circuit, class or report of this name; the answer is what
+/// goes with its files.
+pub fn write_stated(name: &str, dir: &Path) -> Option<String> {
+    if let Some(case) = stated(name) {
+        return write(&case, dir);
+    }
+    if let Some(class) = stated_class(name) {
+        return write_class(&class, dir);
+    }
+    write_report(&stated_report(name)?, dir)
+}
+
 /// The stated circuit of this name.
-pub fn stated(name: &str) -> Option<Case> {
+fn stated(name: &str) -> Option<Case> {
     all().into_iter().find(|case| case.name == name)
 }
 
 /// The stated class of this name.
-pub fn stated_class(name: &str) -> Option<Class> {
+fn stated_class(name: &str) -> Option<Class> {
     classes().into_iter().find(|class| class.name == name)
+}
+
+/// The stated report of this name.
+fn stated_report(name: &str) -> Option<Report> {
+    reports().into_iter().find(|report| report.name == name)
 }
 
 /// The case of a family, or a damaged one, and a seed.
@@ -36,10 +53,16 @@ pub fn write(case: &Case, dir: &Path) -> Option<String> {
 }
 
 /// Writes circuit.bin and book.bin; the answer is what is lent, as vectors/ has it.
-pub fn write_class(class: &Class, dir: &Path) -> Option<String> {
+fn write_class(class: &Class, dir: &Path) -> Option<String> {
     write_files(dir, &class.circuit, "book.bin", &class.book)?;
     let Lent { log, values, units, delays } = class.lent;
     Some(format!("lent {log} {values} {units} {delays} {}", class.told))
+}
+
+/// Writes circuit.bin and log.bin; the answer is what is asked, as vectors/ has it.
+fn write_report(report: &Report, dir: &Path) -> Option<String> {
+    write_files(dir, &report.circuit, "log.bin", &report.log)?;
+    Some(oracle::vectors::asked(report))
 }
 
 fn write_files(dir: &Path, circuit: &[u8], name: &str, bytes: &[u8]) -> Option<()> {

@@ -4,9 +4,10 @@
 use std::fmt::Write as _;
 use std::path::Path;
 
-use crate::circuits::{Case, Class, Group, classes, groups};
+use crate::circuits::{Case, Class, Group, Report, classes, groups, reports};
 use crate::class::{ClassAnswer, part, told};
 use crate::generate::{FAMILIES, damaged, damaged_loops, valid};
+use crate::hours::Named;
 use crate::{Answer, Lent, run};
 
 /// Words above this many are not written but summed up.
@@ -15,12 +16,16 @@ const WHOLE: usize = 4_000;
 /// The file of the stated classes.
 pub const CLASSES: &str = "classes.txt";
 
-/// Writes the vectors of each group, and of the classes, to a folder.
+/// The file of the stated reports.
+pub const REPORTS: &str = "reports.txt";
+
+/// Writes the vectors of each group, of the classes and of the reports to a folder.
 pub fn write(dir: &Path) -> std::io::Result<()> {
     for group in groups() {
         std::fs::write(dir.join(file_name(&group)), text(&group))?;
     }
-    std::fs::write(dir.join(CLASSES), text_of_classes())
+    std::fs::write(dir.join(CLASSES), text_of_classes())?;
+    std::fs::write(dir.join(REPORTS), text_of_reports())
 }
 
 /// Writes the vectors of every family and of damaged cases, for the seeds from
@@ -93,6 +98,31 @@ fn class_answer(class: &Class, answers: &[Answer]) -> String {
     text += if played { "areas zero\n" } else { "areas untouched\n" };
     let told = answers.iter().flat_map(told).take(class.told);
     text + &words("told", &told.map(|word| word as i64).collect::<Vec<_>>())
+}
+
+/// The text of [`REPORTS`].
+pub fn text_of_reports() -> String {
+    reports().iter().map(report_vector).collect()
+}
+
+fn report_vector(report: &Report) -> String {
+    let mut text = format!("report {}\n{}\n", report.name, asked(report));
+    text += &bytes("circuit", &report.circuit);
+    text += &bytes("log", &report.log);
+    match report.answer() {
+        Err(number) => text + &format!("refused {number}\n"),
+        Ok(lines) => {
+            let told = (report.told > 0).then_some(lines.len() as i64);
+            text + &bytes("lines", &lines) + &words("told", told.as_slice())
+        }
+    }
+}
+
+/// The line of what is asked: what is named, and what is lent.
+pub fn asked(report: &Report) -> String {
+    let Named { driver, activity, length } = report.named;
+    let named = [driver, activity, length].map(|word| (word as i64).to_string()).join(" ");
+    format!("asked {named} {} {}", report.room, report.told)
 }
 
 /// Whether a vector gives these bytes, and not their sum.

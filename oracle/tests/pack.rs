@@ -1,12 +1,13 @@
-//! The packed questions, runs and classes: crates/asked and crates/replay hold
-//! what `oracle pack` writes and prints now, and what is packed can be read back.
+//! The packed questions, runs, classes and reports: crates/asked and
+//! crates/replay hold what `oracle pack` writes and prints now, and what is
+//! packed can be read back.
 
 use oracle::circuits::{self, Case};
 use oracle::class::Held;
 use oracle::generate::ASKED;
 use oracle::pack::{cases, pack, printed};
 use oracle::questions::ask;
-use oracle::{Lent, classes, runs};
+use oracle::{Lent, classes, hours, reports, runs};
 
 const FILE: &str = concat!(env!("CARGO_MANIFEST_DIR"), "/../crates/asked/data/questions.bin");
 const PRINTED: &str = concat!(env!("CARGO_MANIFEST_DIR"), "/../crates/asked/stdout");
@@ -20,6 +21,10 @@ const CLASSES: &str = concat!(env!("CARGO_MANIFEST_DIR"), "/../crates/replay/dat
 const CLASSES_AGAIN: &str =
     "oracle pack classes crates/replay/data/classes.bin >> crates/replay/stdout";
 
+const REPORTS: &str = concat!(env!("CARGO_MANIFEST_DIR"), "/../crates/replay/data/reports.bin");
+const REPORTS_AGAIN: &str =
+    "oracle pack reports crates/replay/data/reports.bin >> crates/replay/stdout";
+
 const REPLAYED: &str = concat!(env!("CARGO_MANIFEST_DIR"), "/../crates/replay/stdout");
 
 /// What a program has room for: a circuit, a script.
@@ -31,6 +36,9 @@ const WHOLE: usize = 1_750_000;
 
 /// What the file of the classes may hold.
 const WHOLE_OF_CLASSES: usize = 500_000;
+
+/// What the file of the reports may hold.
+const WHOLE_OF_REPORTS: usize = 250_000;
 
 #[test]
 fn the_packed_questions_are_up_to_date() {
@@ -100,12 +108,15 @@ fn the_packed_runs_are_up_to_date() {
     assert!(file.len() < WHOLE, "{}", file.len());
 }
 
-/// A line for the runs, and one for the classes.
+/// A line for the runs, one for the classes, and one for the reports.
 #[test]
 fn what_replay_prints_is_up_to_date() {
     let text = std::fs::read_to_string(REPLAYED).expect("what the program has to print");
-    let due = runs::printed(&runs::runs()) + &classes::printed(&classes::classes());
-    assert_eq!(text, due, "write it again: {RUNS_AGAIN}, and then {CLASSES_AGAIN}");
+    let runs = runs::printed(&runs::runs());
+    let classes = classes::printed(&classes::classes());
+    let reports = reports::printed(&reports::reports());
+    let due = runs + &classes + &reports;
+    assert_eq!(text, due, "write it again: {RUNS_AGAIN}, then {CLASSES_AGAIN}, and then {REPORTS_AGAIN}");
 }
 
 /// The longest scripts and the vehicles, whose logs are long.
@@ -209,6 +220,46 @@ fn every_class_can_be_read_back() {
         let (answered, left) = class.call(165);
         assert!(u64::from(answered) == number && left == due && of_all == all && zero <= 1, "{name}");
         assert!(number == 0 || [told, part, parts, all, zero as usize] == [0; 5], "{name}");
+    }
+    assert!(rest.is_empty());
+}
+
+#[test]
+fn the_packed_reports_are_up_to_date() {
+    let reports = reports::reports();
+    let file = std::fs::read(REPORTS).expect("the packed reports");
+    assert!(file == reports::pack(&reports), "write them again: {REPORTS_AGAIN}");
+    assert!(file.len() < WHOLE_OF_REPORTS, "{}", file.len());
+    let records = ["100000", "100001", "100000-stopped", "100001-stopped"];
+    assert_eq!(reports.left_out, records.map(|records| format!("report-records-{records}")));
+}
+
+/// What is packed of a report says what the call answers and leaves, byte by byte.
+#[test]
+fn every_report_can_be_read_back() {
+    let reports = reports::reports();
+    let packed = reports::pack(&reports);
+    let mut rest = &packed[..];
+    assert_eq!(packed_word(&mut rest) as usize, reports.packed.len());
+    for report in &reports.packed {
+        let name = &report.name;
+        let asked = [(); 5].map(|()| packed_word(&mut rest));
+        assert_eq!(asked, reports::asked(report), "{name}");
+        let [_, _, _, room, told] = asked.map(|word| word as usize);
+        assert!(room <= reports::REPORT && told <= reports::TOLD, "{name}");
+        let number = packed_word(&mut rest);
+        let [circuit, log, written] = [(); 3].map(|()| packed_word(&mut rest) as usize);
+        assert!(circuit <= runs::ROOM && log <= runs::ROOM && written <= room, "{name}");
+        assert_eq!(packed_bytes(&mut rest, circuit), report.circuit, "{name}");
+        assert_eq!(packed_bytes(&mut rest, log), report.log, "{name}");
+        let mut due = hours::Held::filled(room, told, 165);
+        due.report[..written].copy_from_slice(&packed_bytes(&mut rest, written));
+        if number == 0 {
+            due.told.iter_mut().take(1).for_each(|word| *word = written as u64);
+        }
+        let (answered, left) = report.call(165);
+        assert!(u64::from(answered) == number && left == due, "{name}");
+        assert_eq!(number == 0, written > 0, "{name}");
     }
     assert!(rest.is_empty());
 }

@@ -12,7 +12,7 @@ use floats::is_finite;
 use words::get;
 
 // Whether a constant of this kind may have this content.
-fn good_constant(kind: u64, content: u64) -> bool
+pub fn good_constant(kind: u64, content: u64) -> bool
     ensures { λ r. ⌜ r ≡ good-constant kind content ⌝ }
 {
     match kind {

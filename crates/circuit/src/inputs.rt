@@ -34,7 +34,7 @@ fn takes_source(pin: Pin) -> bool
 }
 
 // Whether output o is there and shows a value; `out_at` says of one that is not there that it fires.
-fn value_output(links: &[usize], o: usize) -> bool
+pub fn value_output(links: &[usize], o: usize) -> bool
     requires { ⌜ Linked links ⌝ }
     ensures { λ r. ⌜ r ≡ value-output (net-of links) o ⌝ }
 {

@@ -8,18 +8,20 @@ ghost use Rattle.words.specs.Words.{words};
 ghost use Rattle.words.specs.Slices.{before, was};
 ghost use Rattle.model.specs.Base.{all, sum};
 ghost use Rattle.model.specs.Circuit.{part, circuit as circuit-of};
+ghost use Rattle.model.specs.Script.{most-ticks};
 ghost use Rattle.model.specs.Questions.{question-1, question-8, question-9, question-10, good-length, within};
 use super::columns::all_within;
 use super::columns::within;
 use floats::MINUS_ZERO;
 use kinds::numbers::WORLD_EVENT;
+use records::MOST_TICKS;
 use words::get;
 
 // ---- sizes
 
 // The number of a script's words.
 fn words_of(ticks: u64, stimuli: u64) -> u64
-    requires { ⌜ (ticks ≤ 100000) × (stimuli ≤ 65535) ⌝ }
+    requires { ⌜ (ticks ≤ most-ticks) × (stimuli ≤ 65535) ⌝ }
     ensures { λ r. ⌜ r ≡ 2 + 2 * (ticks + stimuli) ⌝ }
 {
     2 + 2 * (ticks + stimuli)
@@ -38,7 +40,7 @@ pub fn script_sizes(script: &[u8]) -> bool
     }
     let ticks = get(script, 0);
     let stimuli = get(script, 1);
-    let fit = within(0, 100000, ticks) & within(0, 65535, stimuli);
+    let fit = within(0, MOST_TICKS, ticks) & within(0, 65535, stimuli);
     if fit {
         bytes as u64 / 8 == words_of(ticks, stimuli)
     } else {
@@ -79,7 +81,7 @@ fn good_lengths(script: &[u8], count: usize) -> bool
 
 // Whether the stimulus counts are each at most 64, and together as many as there are stimuli.
 fn good_counts(script: &[u8], first: usize, count: usize, stimuli: u64) -> bool
-    requires { ⌜ (count ≤ 100000) × ((first + count) * 8 ≤ length (now script)) ⌝ }
+    requires { ⌜ (count ≤ most-ticks) × ((first + count) * 8 ≤ length (now script)) ⌝ }
     ensures { λ r. ⌜ r ≡ (all (within 0 64) (part (was script) first count) && eqb (sum (part (was script) first count)) stimuli) ⌝ }
 {
     let mut total: u64 = 0;

@@ -12,8 +12,8 @@ use Rattle.model.specs.Answer.{Answer, answer}
 use Rattle.model.specs.Book.{count, good-book, entry, entries, part-of}
 use Rattle.model.specs.Several.{Several, turned-away, answered, call-number, call-log, call-told}
 use Rattle.model.specs.Class.{most-scripts, no-book, class-refusal, class-to, class, class-area}
-use Rattle.model.specs.Promises.{Promised}
-use Rattle.model.proofs.Promises.{promised}
+use Rattle.promises.specs.Promises.{Promised}
+use Rattle.promises.proofs.Promises.{promised}
 use Rattle.model.proofs.Classes.{class-numbers}
 use Rattle.circuit.proofs.Order.{first-number, later-number}
 use Rattle.class.specs.Call.{Call, Left, lent, part-size, class-answer, Right}

@@ -8,7 +8,7 @@ use Rattle.model.specs.Questions.{Areas}
 use Rattle.model.specs.Book.{count, entry, part-of}
 use Rattle.model.specs.Several.{Several, call-number, call-log, call-told}
 use Rattle.model.specs.Class.{class, class-area, Class-answers}
-use Rattle.model.specs.Promises.{Promised}
+use Rattle.promises.specs.Promises.{Promised}
 
 -- the bytes that a call is lent, and the words for what is told, as they are when it is made
 pub record Call : Type 0 where
@@ -54,7 +54,7 @@ pub record Right (k : Call) (l : Left) (r : ℕ) : Type 0 where
   pub delays : l .delays ≡ class-area (class-answer k) (k .delays)
   -- which numbers there are
   pub numbers : Class-answers (class-answer k)
-  -- of each script's run all that is promised of a call with this script alone and its part as the log: the order of its units, what they see, what tick 1 notices
+  -- of each script's run all that is promised of a call with this script alone and its part as the log: the order of its units, what they see, what tick 1 notices, that its log is whole
   pub promised : (i : ℕ) → i < count (k .book) → Promised (lent k) (part-size k) (k .circuit) (entry (k .book) i)
 
 -- ---- of a contract's slices

@@ -1,5 +1,3 @@
--- rows of words written to the log
-pub mod Filling
 -- outputs and units begun in the areas
 pub mod Held
 -- the loops

@@ -8,7 +8,7 @@ use borrow.Author.Tests.{eq-eqb, ne-eqb, le-leb, lt-leb}
 use lib.Dec.{eqb, leb}
 use lib.ListN.{length, take, drop, length-map, length-take, length-drop, take-append-drop}
 use lib.Seq.{sets-eq}
-use Rattle.words.specs.Words.{words, tail}
+use Rattle.words.specs.Words.{words, tail, Filled}
 use Rattle.words.proofs.Laws.{count-words}
 use Rattle.model.specs.declared.Value.{Value}
 use Rattle.model.specs.Base.{if_then_else_}
@@ -22,8 +22,8 @@ use Rattle.units.specs.View.{units}
 use Rattle.log.specs.declared.Head.{Head}
 use Rattle.log.specs.declared.Written.the-variants.{Fits, Full}
 use Rattle.log.specs.Log.{record-of, fits, written-as, Writes}
-use Rattle.log.specs.Rows.{Filled, head-row, begun-first, carried-first, entries-in, outs-in}
-use Rattle.log.proofs.Filling.{filled-more}
+use Rattle.log.specs.Rows.{head-row, begun-first, carried-first, entries-in, outs-in}
+use Rattle.words.proofs.Filling.{filled-more}
 use Rattle.log.proofs.Held.{outs-are, outs-in-length, entries-length, begun-is, carried-is}
 
 -- ---- two rows

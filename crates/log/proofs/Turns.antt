@@ -4,7 +4,7 @@ use mathlib.Core.Path.{_≡_, ap, ap₂, _∙_}
 use mathlib.Core.List.{List, map}
 use native.Mathlib.Omega.{arith}
 use lib.ListN.{length, getD}
-use Rattle.words.specs.Words.{words, Stored}
+use Rattle.words.specs.Words.{words, Stored, Filled}
 use Rattle.model.specs.declared.Value.{Value}
 use Rattle.model.specs.Value.{kind-of, content-of}
 use Rattle.model.specs.Record.{Listed}
@@ -12,8 +12,8 @@ use Rattle.wires.specs.Held.{held}
 use Rattle.wires.specs.View.{out-tags-at, out-contents-at}
 use Rattle.units.specs.View.{listed-of}
 use Rattle.log.specs.declared.Head.{Head}
-use Rattle.log.specs.Rows.{Filled, head-row, entries-in, outs-in}
-use Rattle.log.proofs.Filling.{Filling, filling-next, filling-last}
+use Rattle.log.specs.Rows.{head-row, entries-in, outs-in}
+use Rattle.words.proofs.Filling.{Filling, filling-next, filling-last}
 use Rattle.log.proofs.Held.{outs-in-length, outs-at, entries-length, entries-at}
 
 -- ---- the head

@@ -1,10 +1,8 @@
--- A row of words that is written to the log, and what the rows of a record are.
+-- What the rows of a record are.
 use Prim.Native.Nat.{ℕ, _+_, _-_}
-use mathlib.Core.Path.{_≡_}
 use mathlib.Core.List.{List, [], _∷_, map}
 use lib.ListN.{getD, take}
-use lib.Seq.{sets}
-use Rattle.words.specs.Words.{words, tail}
+use Rattle.words.specs.Words.{words}
 use Rattle.words.specs.Tables.{base}
 use Rattle.model.specs.declared.Value.{Value}
 use Rattle.model.specs.Base.{both, from}
@@ -13,11 +11,6 @@ use Rattle.wires.specs.Held.{held}
 use Rattle.wires.specs.View.{cut as cut-values}
 use Rattle.units.specs.View.{sizes, listed-of}
 use Rattle.log.specs.declared.Head.{Head}
-
--- The bytes `after` are `before` with the words from word p on made xs, and the same elsewhere.
-pub record Filled (before after : List ℕ) (p : ℕ) (xs : List ℕ) : Type 0 where
-  pub words : words after ≡ sets (words before) p xs
-  pub tail : tail after ≡ tail before
 
 -- the head, where n units have begun, the late ones of them at most n, and k are carried
 unfoldable pub head-row : Head → ℕ → ℕ → List ℕ

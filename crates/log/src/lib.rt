@@ -4,6 +4,7 @@ ghost use mathlib.Core.List.{map};
 ghost use Prim.Native.Nat.{_+_, _*_, _<_, _≤_};
 ghost use lib.Dec.{eqb};
 ghost use lib.ListN.{length, getD};
+ghost use Rattle.words.specs.Words.{Filled};
 ghost use Rattle.words.specs.Slices.{before, after, was, Has-words};
 ghost use Rattle.model.specs.Base.{if_then_else_};
 // The definitions `values` and `units` are named for what they hold, beside the slices of their names.
@@ -14,9 +15,10 @@ ghost use Rattle.links.specs.Links.{most-outputs};
 ghost use Rattle.wires.specs.Held.{held};
 ghost use Rattle.wires.specs.View.{out-tags-at, out-contents-at};
 ghost use Rattle.log.specs.Log.{fits, written-as, Writes};
-ghost use Rattle.log.specs.Rows.{Filled, head-row, entries-in, outs-in};
+ghost use Rattle.log.specs.Rows.{head-row, entries-in, outs-in};
 ghost use Rattle.log.specs.Lent.{record-in};
 use links::outputs;
+use records::head::HEAD;
 use units::begun::begun;
 use units::entries::form_of;
 use units::entries::gate_of;
@@ -46,9 +48,6 @@ pub enum Written {
     Fits(usize),
     Full,
 }
-
-// How many words a head has.
-pub const HEAD: usize = 7;
 
 // Where the entries of the units begun and of those carried begin in the area `units`, in words: behind their counts.
 const BEGUN: usize = BEGUN_COUNT + 1;

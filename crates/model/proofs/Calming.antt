@@ -28,8 +28,9 @@ use Rattle.model.proofs.Kept.{last-sized, pulses-sized, publish-writes-
 use Rattle.model.proofs.Reals.{Real, truth-real}
 use Rattle.model.proofs.Wired.{Wired}
 use Rattle.model.proofs.Right.{Except, taking, all-fresh, Other, All-right, alike-but, alike, to-mark, mark-readers-for-right}
-use Rattle.model.proofs.Fine.{Fine, Alike, alike-itself, alike-again, marked-for-alike, set-out-fine, refresh-all-fine, refreshed-clean, clean-fine, read-fine, read-real}
-use Rattle.model.proofs.Sound.{buffer-fine, Sound, Brings, brings-none, other-output, wires-sound, delay-sound, count-sound, delay-of}
+use Rattle.model.proofs.Fine.{Fine, fine-aside, Alike, alike-itself, alike-again, marked-for-alike, set-out-fine, refresh-all-fine, refreshed-clean, clean-fine, read-fine, read-real}
+use Rattle.model.proofs.Underway.{buffer-held, delay-held, count-held, delay-of}
+use Rattle.model.proofs.Sound.{Sound, Brings, brings-none, other-output, wires-sound}
 use Rattle.model.proofs.Stepping.{Going}
 
 pub set-pulses :
@@ -80,17 +81,8 @@ module _ (c : Circuit) (W : Wired c) where
         }
 
     noted-fine : (w : Wires) (i : ℕ) (v : Option Value) → Fine c t late w → Fine c t late (last≔ w (set (w .last) i v))
-    unfolding last≔ shown
-    noted-fine w i v f =
-        record {
-          sized = last-sized c i v (f .sized);
-          written = f .written;
-          pulses = f .pulses;
-          real = f .real;
-          length-finite = f .length-finite;
-          uptime-real = f .uptime-real;
-          right = alike c t late [] w (last≔ w (set (w .last) i v)) refl refl refl refl refl (f .right);
-        }
+    unfolding last≔
+    noted-fine w i v f = fine-aside c w _ refl refl refl refl refl refl refl (last-sized c i v (f .sized)) f
 
     taken-fine : (w : Wires) (i : ℕ) (is : List ℕ) → w .to-check ≡ i ∷ is → Fine c t late w → Fine c (taking i t) late (taken w i is)
     unfolding taken to-check≔ late-checks≔ shown
@@ -140,7 +132,7 @@ module _ (c : Circuit) (W : Wired c) where
         λ _. if-by Settled-sound (eqb k 8)
         (λ e. pulsed-sound _ (other-output c (W .laid) g 8 0 (eqb-true k 8 e) refl (omega arith)) z)
         λ _. if-both Settled-sound _ (edge-sound was now _ z (raise-sound _ g _ z) (raise-sound _ g _ z))
-        (if-both Settled-sound _ (calm-sound (count-sound c _ (delay-sound c g _ (buffer-fine _ now _ r (delay-of c s z g)) z)))
+        (if-both Settled-sound _ (calm-sound (count-held _ (delay-held c g _ (buffer-held _ now _ r (delay-of c s z g)) z)))
         (if-both Settled-sound _ (raise-sound _ g _ z) (calm-sound z))))
 
     -- of an input that was taken

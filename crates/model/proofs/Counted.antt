@@ -67,8 +67,8 @@ module _ (c : Circuit) (b : ℕ) where
   -- ---- what may still be counted
 
   -- with n more to come the count is b at the most
-  record Counts (n : ℕ) (s : State) : Type 0 where
-    few : s .changed + n ≤ b
+  pub record Counts (n : ℕ) (s : State) : Type 0 where
+    pub few : s .changed + n ≤ b
 
   module _ {n : ℕ} {s : State} where
     fewer : Counts (suc n) s → Counts n s
@@ -208,8 +208,8 @@ module _ (c : Circuit) where
 
   module _ (most : ℕ) where
     -- in a tick that counts so many at the most: its steps may still be made, and n units begin and settle
-    record Spare (n : ℕ) (w : World) : Type 0 where
-      few : w .state .changed + w .left + n * most-checks c ≤ most
+    pub record Spare (n : ℕ) (w : World) : Type 0 where
+      pub few : w .state .changed + w .left + n * most-checks c ≤ most
 
     spared :
         {P : Type 0} (n b : ℕ) (w : World) (left : ℕ) (rs : List (Raise State Act P)) → b + left + n * most-checks c ≤ most →
@@ -217,7 +217,7 @@ module _ (c : Circuit) where
     unfolding raises-in state≔
     spared n b w left rs l a = map-all _ _ (all-map (λ r z. record { few = omega (arith, l, z .few) }) a)
 
-    body-spares : (n : ℕ) (w : World) (a : Act) → Spare (suc n) w → Did-keep (Spare n) (body c w a)
+    pub body-spares : (n : ℕ) (w : World) (a : Act) → Spare (suc n) w → Did-keep (Spare n) (body c w a)
     unfolding body finish-chain run-unit state≔ settle
     body-spares n w a z =
         let r = run-unit c w a in
@@ -230,21 +230,21 @@ module _ (c : Circuit) where
         (record { world = record { few = omega (arith, l, y .state .few) }; raises = spared n b w (r .left) _ l (y .raises) })
         (record { world = record { few = omega (arith, l) }; raises = [·] })
 
-    opening-spares : (w : World) (i : Allowed) → 1 + moving c (most-checks c) + i .limit + most-units * most-checks c ≤ most → Did-keep (Spare most-units) (opening c w i)
+    pub opening-spares : (w : World) (i : Allowed) → 1 + moving c (most-checks c) + i .limit + most-units * most-checks c ≤ most → Did-keep (Spare most-units) (opening c w i)
     unfolding opening state≔
     opening-spares w i l =
         let b = 1 + moving c (most-checks c) in
         let y = opened c b (w .state) (i .given) (omega arith) in
         record { world = record { few = omega (arith, l, y .state .few) }; raises = spared most-units b w (i .limit) _ l (y .raises) }
 
-    closing-spares : (n : ℕ) (w : World) (i : Allowed) (o : Outcome Act) → Spare n w → Counts c most 0 (closing c w i o .world .state)
+    pub closing-spares : (n : ℕ) (w : World) (i : Allowed) (o : Outcome Act) → Spare n w → Counts c most 0 (closing c w i o .world .state)
     unfolding closing close write state≔ read-outputs
     closing-spares n w i o z =
         let x : Counts c most 0 (w .state) = record { few = omega (arith, z .few) } in
         let y = if-both (Counts c most 0) _ (put c most _ x) x in
         if-both (λ (k : Closed World). Counts c most 0 (k .world .state)) _ y y
 
-    one-spared : (n : ℕ) (w : World) → Spare (suc n) w → Spare 1 w
+    pub one-spared : (n : ℕ) (w : World) → Spare (suc n) w → Spare 1 w
     one-spared n w z = record { few = omega (arith, z .few, suc-mul n (most-checks c)) }
 
   -- ---- a tick
@@ -281,14 +281,14 @@ module _ (c : Circuit) where
 -- ---- the sizes
 
 module _ (ws : List ℕ) (f : Few (circuit ws)) where
-  few-checks : most-checks (circuit ws) ≤ 641 * 577
+  pub few-checks : most-checks (circuit ws) ≤ 641 * 577
   few-checks = mul-le-mul {n₂ = 641} {m₂ = 577} (omega (arith, f .inputs)) (omega (arith, f .outputs))
 
   few-such : (p : ℕ → Bool) → length (gates-such p (circuit ws .kinds)) ≤ most-gates
   unfolding gates-such
   few-such p = let ks = circuit ws .kinds in omega (arith, f .gates, keep-most (λ g. p (getD ks g 0)) (from 0 (length ks)), from-length 0 (length ks))
 
-  few-moving : (n : ℕ) → moving (circuit ws) n ≤ 3 * most-gates + n
+  pub few-moving : (n : ℕ) → moving (circuit ws) n ≤ 3 * most-gates + n
   unfolding circuit
   few-moving n = omega (arith, few-such buffering, few-such (λ k. eqb k 14), few-such (λ k. eqb k 15))
 

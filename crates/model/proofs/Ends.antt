@@ -26,7 +26,7 @@ use Rattle.model.proofs.Chains.{finish-stop}
 
 -- ---- a stop of the machine: one of 0, 11, 12, 13
 
-module _ (Q : ℕ → Type 0) (z : Q 0) (r : Q runaway) (f : Q list-full) (l : Q log-full) where
+module _ (Q : ℕ → Type 0) (z : Q 0) (r : Q runaway) (f : Q list-full) where
   by-fit : (b : Bool) → Q (if b then 0 else list-full)
   by-fit b = if-both Q b z f
 
@@ -95,36 +95,58 @@ module _ (Q : ℕ → Type 0) (z : Q 0) (r : Q runaway) (f : Q list-full) (l : Q
         go rec (took u q₁) = rec _ _ _ _ (raise-stop (activate u) _ _ _ _ _ (body-stop w (u .act)))
     pass-stop next activate (suc n) t q w (suc s) k = k
 
-    closed-stop : (b : Bool) (s : ℕ) → Q s → Q (cond b s log-full)
-    closed-stop true s k = k
-    closed-stop false s k = l
+    -- how the tick k ended: before its record was written, in which world, with which stop, and what came of it
+    pub record Ended (i : Allowed) (k : Tick S) : Type 0 where
+      pub before : World
+      pub reached : ℕ
+      pub stops : Q reached
+      pub world : k .world ≡ closing c before i (outcome S (k .late) (k .main) (k .carried) reached) .world
+      pub stop : k .stop ≡ cond (closing c before i (outcome S (k .late) (k .main) (k .carried) reached) .fits) reached log-full
 
-    tick-stop : (w : World) (i : Allowed) (came : List (Activation S)) (t : Unit {0}) → Q (tick S w i came t .stop)
+    pub tick-ended : (w : World) (i : Allowed) (came : List (Activation S)) (t : Unit {0}) → Ended i (tick S w i came t)
     unfolding tick late-pass main-pass opening
-    tick-stop w i came t =
+    tick-ended w i came t =
         let d = opening c w i in
         let o = raise-all S (activate-open S) (d .raises) t (record { lateq = record { late = push-all S came []; delivered = [] }; pending = [] }) (d .world) (d .stop) in
         let l = late-pass S most-units (o .next) (o .queue .lateq) (o .world) (o .stop) in
         let m = main-pass S (l .left) (l .next) (record { pending = o .queue .pending; carried = [] }) (l .world) (l .stop) in
-        closed-stop (closing c (m .world) i (outcome S (l .turns) (m .turns) (m .queue .carried) (m .stop)) .fits) (m .stop)
-        (pass-stop (next-main S) (activate-main S) (l .left) (l .next) (record { pending = o .queue .pending; carried = [] }) (l .world) (l .stop)
-        (pass-stop (next-late S) (activate-late S) most-units (o .next) (o .queue .lateq) (o .world) (o .stop)
-        (raise-stop (activate-open S) (d .raises) t (record { lateq = record { late = push-all S came []; delivered = [] }; pending = [] }) (d .world) (d .stop) z)))
+        record {
+          before = m .world;
+          reached = m .stop;
+          stops =
+              pass-stop (next-main S) (activate-main S) (l .left) (l .next) (record { pending = o .queue .pending; carried = [] }) (l .world) (l .stop)
+              (pass-stop (next-late S) (activate-late S) most-units (o .next) (o .queue .lateq) (o .world) (o .stop)
+              (raise-stop (activate-open S) (d .raises) t (record { lateq = record { late = push-all S came []; delivered = [] }; pending = [] }) (d .world) (d .stop) z));
+          world = refl;
+          stop = refl;
+        }
 
-    last-of : (ts : List (Tick S)) → All (λ t. Q (t .stop)) ts → Q (last-stop c ts)
-    unfolding last-stop
-    last-of [] a = z
-    last-of (t ∷ ts) (_∷·_ h a) = if-both Q (eqb (t .stop) 0) (last-of ts a) h
+    -- where a full log may stop it too
+    module _ (l : Q log-full) where
+      closed-stop : (b : Bool) (s : ℕ) → Q s → Q (cond b s log-full)
+      closed-stop true s k = k
+      closed-stop false s k = l
 
-    run-stop : (room : ℕ) (is : List Allowed) → Q (seen c (ticks-of c room is) .stop)
-    unfolding seen ticks-of
-    run-stop room is = last-of _ (every S (λ t. Q (t .stop)) tick-stop is _)
+      tick-stop : (w : World) (i : Allowed) (came : List (Activation S)) (t : Unit {0}) → Q (tick S w i came t .stop)
+      tick-stop w i came t =
+          let k = tick S w i came t in
+          let e = tick-ended w i came t in
+          subst Q (sym (e .stop)) (closed-stop (closing c (e .before) i (outcome S (k .late) (k .main) (k .carried) (e .reached)) .fits) (e .reached) (e .stops))
+
+      last-of : (ts : List (Tick S)) → All (λ t. Q (t .stop)) ts → Q (last-stop c ts)
+      unfolding last-stop
+      last-of [] a = z
+      last-of (t ∷ ts) (_∷·_ h a) = if-both Q (eqb (t .stop) 0) (last-of ts a) h
+
+      run-stop : (room : ℕ) (is : List Allowed) → Q (seen c (ticks-of c room is) .stop)
+      unfolding seen ticks-of
+      run-stop room is = last-of _ (every S (λ t. Q (t .stop)) tick-stop is _)
 
 -- so of the run of a script
 pub stop-as :
     (Q : ℕ → Type 0) → Q 0 → Q runaway → Q list-full → Q log-full → (room : ℕ) (c : Circuit) (ws : List ℕ) → Q (play room c ws .stop)
 unfolding play
-stop-as Q z r f l room c ws = run-stop Q z r f l c room (ticks-get c ws)
+stop-as Q z r f l room c ws = run-stop Q z r f c l room (ticks-get c ws)
 
 -- ---- a refusal
 

@@ -24,7 +24,7 @@ use Rattle.model.proofs.Sized.{Sized-wires, watch-sized, recompute-size
 use Rattle.model.proofs.Stale.{Due, Refreshed, done, next, refresh-to-refreshed, all-clean}
 use Rattle.model.proofs.Reals.{Real, finite-real}
 use Rattle.model.proofs.Wired.{Wired}
-use Rattle.model.proofs.Right.{Except, taking, all-fresh, Other, All-right, watch-right, set-out-right, recompute-right}
+use Rattle.model.proofs.Right.{Except, taking, all-fresh, Other, All-right, alike, watch-right, set-out-right, recompute-right}
 
 -- a list without a NaN
 pub set-real : (vs : List Value) (i : ℕ) (v : Value) → Real v → ((o : ℕ) → Real (getD vs o Nothing)) → (o : ℕ) → Real (getD (set vs i v) o Nothing)
@@ -92,7 +92,7 @@ unfolding soil dirty≔
 soil-alike w g =
     record { apart = record { tick = refl; dt = refl; uptime = refl; last = refl; pulses = refl; written = refl; outside = refl; passed = refl; breaking = refl; runs = refl }; outs = refl }
 
-watch-alike : (w : Wires) (i : ℕ) → Alike w (watch w i)
+pub watch-alike : (w : Wires) (i : ℕ) → Alike w (watch w i)
 unfolding watch to-check≔
 watch-alike w i =
     if-both (Alike w) _ (alike-itself w)
@@ -113,6 +113,22 @@ module _ (c : Circuit) where
     pub length-finite : finite (w .dt) ≡ true
     pub uptime-real : Real (Float (w .uptime))
     pub right : All-right c t late [] w
+
+  -- wires that are sized, and as fine ones are in the rest that `Fine` speaks of
+  pub fine-aside :
+      {t : Except} {late : List ℕ} (w v : Wires) → v .outs ≡ w .outs → v .dirty ≡ w .dirty → v .queued ≡ w .queued → v .dt ≡ w .dt → v .uptime ≡ w .uptime →
+      v .pulses ≡ w .pulses → v .written ≡ w .written → Sized-wires c v → Fine t late w → Fine t late v
+  unfolding shown
+  fine-aside {t} {late} w v outs dirty queued dt uptime pulses written z f =
+      record {
+        sized = z;
+        written = written ∙ f .written;
+        pulses = λ o l. f .pulses o (subst (λ (ps : List ℕ). 0 < getD ps o 0) pulses l);
+        real = λ o. subst (λ (vs : List Value). Real (getD vs o Nothing)) (sym outs) (f .real o);
+        length-finite = ap finite dt ∙ f .length-finite;
+        uptime-real = subst (λ x. Real (Float x)) (sym uptime) (f .uptime-real);
+        right = alike c t late [] w v outs dirty dt uptime queued (f .right);
+      }
 
   -- other wires, which are sized and right
   pub fine-as :

@@ -20,8 +20,7 @@ use Rattle.model.specs.Circuit.{Circuit, most-gates, kind-of-gate, gate-
 use Rattle.model.specs.Script.{Given}
 use Rattle.model.specs.State.{Wires, State, Delay, Act, Send, times≔, last≔, pulses≔, written≔, written-outside≔, unions-passed≔, breaking≔, runs-left≔, wires≔, delays≔, outbox≔, changed≔}
 use Rattle.model.specs.Wires.{is-dirty, watch, ready, invalidate}
-use Rattle.model.specs.Delays.{Started}
-use Rattle.model.specs.Exec.{Stepped, fires-next, ends, count-changed, delay≔, set-output, readied, var, write-once, record-write, exec-Buffer, exec-Stopwatch, exec-Queue, exec-VarGet, exec-VarSet, exec-Branch, exec-Union, exec-Toggle, exec-Cycle, exec-SendEvent, exec-Break, exec-kind, exec-gate}
+use Rattle.model.specs.Exec.{Stepped, fires-next, ends, count-changed, delay≔, set-output, readied, var, write-once, record-write, exec-Buffer, exec-Stopwatch, exec-Queue, exec-VarGet, exec-VarSet, exec-Branch, exec-Union, exec-Toggle, exec-Cycle, exec-SendEvent, exec-gate}
 use Rattle.model.specs.Chain.{Calls}
 use Rattle.model.specs.Loops.{no-unions, unions-of, runs-left-to, break-set, show-loop, run-chain}
 use Rattle.model.specs.Settle.{Settled, calm, raise, none-written, publish-write, publish-writes, pulse, compared, check, check-on, settle}
@@ -29,7 +28,7 @@ use Rattle.model.specs.Opening.{wires-stale, wires-fresh, wires-at-start
 use Rattle.model.specs.Unit.{World, enter, run-unit}
 use Rattle.model.specs.Closing.{read-outputs}
 use Rattle.model.proofs.Lists.{if-both, if-by, each-keeps, each-keeps-all, all-keep, among-from, either-false}
-use Rattle.model.proofs.Running.{Steps-keep, run-chain-keeps}
+use Rattle.model.proofs.Running.{Kinds-keep, exec-gate-keeps, Steps-keep, run-chain-keeps}
 use Rattle.model.proofs.Walks.{check-on-keeps, Opened-keeps, Opening-keeps, before-settling-keeps, open-tick-keeps}
 use Rattle.model.proofs.Checks.{detect-keeps}
 use Rattle.model.proofs.Laid.{Laid}
@@ -128,46 +127,16 @@ module _ (c : Circuit) where
   abbrev Stepped-sized : Stepped → Type 0
   Stepped-sized d = Sized c (d .state)
 
-  Buffer-sized : (s : State) (g : ℕ) → Sized c s → Stepped-sized (exec-Buffer c s g)
-  unfolding exec-Buffer ends
-  Buffer-sized s g z = let y = count-sized _ z in if-both Stepped-sized _ (delay-sized _ _ y) y
-
-  Stopwatch-sized : (s : State) (g p : ℕ) → Sized c s → Stepped-sized (exec-Stopwatch c s g p)
-  unfolding exec-Stopwatch ends
-  Stopwatch-sized s g p z = if-both (Sized c) _ (set-output-sized _ _ (delay-sized _ _ z)) (delay-sized _ _ z)
-
-  Queue-sized : (s : State) (g : ℕ) (k : Value → Started) → Sized c s → Stepped-sized (exec-Queue c s g k)
-  unfolding exec-Queue ends
-  Queue-sized s g k z = count-sized _ (delay-sized _ _ (readied-sized _ _ _ z))
-
   pub write-once-sized : {w : Wires} (g : ℕ) → eqb (kind-of-gate c g) 0 ≡ false → Sized-wires c w → Sized-wires c (write-once c w (var c g))
   unfolding write-once
   write-once-sized {w} g h z =
       if-by (Sized-wires c) (among (var c g) (w .written) || leb most-gates (length (w .written))) (λ _. z)
       λ e. written-sized _ (added (var c g) (z .memory .written) (among-map (var c) g (gates c) (gate-in g h)) (either-false (among (var c g) (w .written)) _ e .0)) z
 
-  record-write-sized :
+  pub record-write-sized :
       {w : Wires} (inside : Bool) (g : ℕ) → eqb (kind-of-gate c g) 0 ≡ false → Sized-wires c w → Sized-wires c (record-write c inside w (var c g))
   unfolding record-write
   record-write-sized {w} inside g h z = write-once-sized g h (if-both (Sized-wires c) inside z (outside-sized _ (length-set (w .written-outside) _ true) z))
-
-  VarSet-sized : (inside : Bool) (s : State) (g : ℕ) → eqb (kind-of-gate c g) 0 ≡ false → Sized c s → Stepped-sized (exec-VarSet c inside s g)
-  unfolding exec-VarSet fires-next
-  VarSet-sized inside s g h z =
-      let y = readied-sized _ _ _ z in
-      wires-sized y (record-write-sized inside g h (show-sized c _ _ _ (y .wires)))
-
-  Union-sized : (s : State) (g : ℕ) → Sized c s → Stepped-sized (exec-Union c s g)
-  unfolding exec-Union fires-next ends
-  Union-sized s g z = if-both Stepped-sized _ z (wires-sized z (passed-sized _ (length-set (s .wires .unions-passed) g true) (z .wires)))
-
-  SendEvent-sized : (s : State) (g : ℕ) → eqb (kind-of-gate c g) 0 ≡ false → Sized c s → Stepped-sized (exec-SendEvent c s g)
-  unfolding exec-SendEvent fires-next readied wires≔
-  SendEvent-sized s g h z =
-      let y = readied-sized g 2 8 z in
-      let gs = map (λ (m : Send). m .gate) (s .outbox) in
-      if-by (Sized c) (among g gs || leb most-gates (length (s .outbox))) (λ _. y)
-      λ e. outbox-sized _ (rw map-snoc (added g (z .outbox) (gate-in g h) (either-false (among g gs) _ e .0))) y
 
   -- a kind that a test names is not 0
   pub named : (k n : ℕ) → 0 < n → eqb k n ≡ true → eqb k 0 ≡ false
@@ -180,26 +149,31 @@ module _ (c : Circuit) where
       go true h e = named k 24 (omega arith) h
       go false h e = named k 25 (omega arith) e
 
-  exec-kind-sized : (inside : Bool) (s : State) (g p : ℕ) → Sized c s → Stepped-sized (exec-kind c inside (kind-of-gate c g) s g p)
-  unfolding exec-kind fires-next ends exec-VarGet exec-Branch exec-Toggle exec-Cycle exec-Break
-  exec-kind-sized inside s g p z =
-      if-both Stepped-sized _ z
-      (if-both Stepped-sized _ (Buffer-sized s g z)
-      (if-both Stepped-sized _ (Stopwatch-sized s g p z)
-      (if-both Stepped-sized _ (Queue-sized s g _ z)
-      (if-both Stepped-sized _ (Queue-sized s g _ z)
-      (if-both Stepped-sized _ (set-output-sized _ _ z)
-      (if-by Stepped-sized (eqb (kind-of-gate c g) 19) (λ e. VarSet-sized inside s g (named (kind-of-gate c g) 19 (omega arith) e) z) λ _.
-      (if-both Stepped-sized _ (readied-sized _ _ _ z)
-      (if-both Stepped-sized _ (Union-sized s g z)
-      (if-both Stepped-sized _ (set-output-sized _ _ z)
-      (if-both Stepped-sized _ (set-output-sized _ _ (readied-sized _ _ _ z))
-      (if-by Stepped-sized (eqb (kind-of-gate c g) 24 || eqb (kind-of-gate c g) 25) (λ e. SendEvent-sized s g (sends (kind-of-gate c g) e) z) λ _.
-      (if-both Stepped-sized _ (wires-sized z (break-sized true (z .wires))) z))))))))))))
+  kinds-sized : Kinds-keep c (Sized c)
+  unfolding exec-Buffer exec-Stopwatch exec-Queue exec-VarGet exec-VarSet exec-Branch exec-Union exec-Toggle exec-Cycle exec-SendEvent fires-next ends readied wires≔ break-set
+  kinds-sized =
+      record {
+        Buffer = λ s g z. let y = count-sized _ z in if-both Stepped-sized _ (delay-sized _ _ y) y;
+        Stopwatch = λ s g p k z. if-both (Sized c) _ (set-output-sized _ _ (delay-sized _ _ z)) (delay-sized _ _ z);
+        Queue = λ s g k z. count-sized _ (delay-sized _ _ (readied-sized _ _ _ z));
+        VarGet = λ s g k z. set-output-sized _ _ z;
+        VarSet = λ inside s g e z.
+            let y = readied-sized _ _ _ z in
+            wires-sized y (record-write-sized inside g (named (kind-of-gate c g) 19 (omega arith) e) (show-sized c _ _ _ (y .wires)));
+        Branch = λ s g z. readied-sized _ _ _ z;
+        Union = λ s g z. if-both Stepped-sized _ z (wires-sized z (passed-sized _ (length-set (s .wires .unions-passed) g true) (z .wires)));
+        Toggle = λ s g k z. set-output-sized _ _ z;
+        Cycle = λ s g p k z. set-output-sized _ _ (readied-sized _ _ _ z);
+        SendEvent = λ s g e z.
+            let y = readied-sized g 2 8 z in
+            let gs = map (λ (m : Send). m .gate) (s .outbox) in
+            if-by (Sized c) (among g gs || leb most-gates (length (s .outbox))) (λ _. y)
+            λ h. outbox-sized _ (rw map-snoc (added g (z .outbox) (gate-in g (sends (kind-of-gate c g) e)) (either-false (among g gs) _ h .0))) y;
+        Break = λ s z. wires-sized z (break-sized true (z .wires));
+      }
 
   pub exec-gate-sized : (inside : Bool) (s : State) (i : ℕ) → Sized c s → Stepped-sized (exec-gate c inside s i)
-  unfolding exec-gate
-  exec-gate-sized inside s i z = exec-kind-sized inside s _ _ z
+  exec-gate-sized = exec-gate-keeps c (Sized c) kinds-sized
 
   -- ---- a chain, and the Loops that it runs
 

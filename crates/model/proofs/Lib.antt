@@ -10,13 +10,15 @@ pub mod Once
 pub mod Laid
 -- a call that is not refused: `accepted`
 pub mod Asked
+-- what holds of each length and stimulus of a script holds of all that it gives: `script-all`
+pub mod Scripts
 -- question 6 and an order of the pure gates: `ordered`, `order-suffices`
 pub mod Placing
 -- the sizes of the wires, and what keeps them
 pub mod Sized
 -- what one check does, by kind
 pub mod Checks
--- what small changes keep, a chain keeps, with all that its Loops run
+-- what small changes keep, a chain keeps, with all that its Loops run; and what steps of each kind keep, a step
 pub mod Running
 -- and settling and the opening of a tick
 pub mod Walks
@@ -56,6 +58,8 @@ pub mod Counted
 pub mod Wired
 -- no NaN comes of what is none
 pub mod Reals
+-- what holds of all that gates have under way
+pub mod Underway
 -- a pure gate that is not stale shows what it gives, an input with a stale source waits: kept by the functions of the wires
 pub mod Right
 -- and with it the rest of what holds of the wires
@@ -72,7 +76,7 @@ pub mod Starting
 pub mod Afresh
 -- every unit begins in a sound state
 pub mod Beginning
--- a circuit that is not refused is wired so, and what a script gives: `wired`, `given-fine`
+-- a circuit that is not refused is wired so, and what a script gives: `wired`, `gets-fine`
 pub mod Wiring
 -- the theorems: `begins-fresh`, `each-unit`, `afresh-is`
 pub mod Fresh
@@ -90,7 +94,5 @@ pub mod Unread
 pub mod Visiting
 -- the start is noticed in tick 1: `noticed`, `as-change`, `begins-first`
 pub mod Noticing
--- all that is promised of a call: `promised`
-pub mod Promises
 -- a class: `leaves-refused`
 pub mod Classes

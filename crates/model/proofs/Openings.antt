@@ -25,11 +25,12 @@ use Rattle.model.specs.Settle.{Settled, calm, check-on, most-checks, set
 use Rattle.model.specs.Opening.{Opened, raised-to, pending, fire, begin-tick, enabled, delivered, lower, advanced, advance-buffer, advance-clock, advance-timer, before-settling, open-tick}
 use Rattle.model.specs.Questions.{finite}
 use Rattle.model.proofs.Lists.{if-alike, each-alike, all-pass, among-from}
-use Rattle.model.proofs.Reals.{plus-real, as-float-real}
+use Rattle.model.proofs.Reals.{zero-real, plus-real, as-float-real}
 use Rattle.model.proofs.Wired.{Wired}
 use Rattle.model.proofs.Right.{Except, no-exception, until-timed, Other}
 use Rattle.model.proofs.Fine.{not-apart}
-use Rattle.model.proofs.Sound.{Moved-fine, advance-flight-fine, advance-fires-fine, advance-records-fine, advance-elapsed-fine, advance-time-fine, Sound, Brings, wires-sound, other-outputs, delay-of, readied-sound, read-is-real}
+use Rattle.model.proofs.Underway.{advance-flight-held, advance-fires-held, advance-records-held, advance-elapsed-held, advance-time-held, delay-of}
+use Rattle.model.proofs.Sound.{Moved-fine, Sound, Brings, wires-sound, other-outputs, readied-sound, read-is-real}
 use Rattle.model.proofs.Starting.{Given-fine, Opened-sound, begin-tick-sound, raised-brings, all-delivered, advance-buffer-sound, advance-clock-sound, advance-timer-sound, buffer-other, queue-others}
 use Rattle.model.proofs.Twins.{Near, Twin, set-outs-twin, lower-twin, next-tick-twin, readied-twins, invalidated-same}
 
@@ -96,7 +97,7 @@ module _ (c : Circuit) (W : Wired c) where
       State-near s v → Moved-fine n m → ((i : ℕ) → i < n → Other c (output c g p + i)) → Opened-near (advanced c z s place g p m) (advanced c y v place g p m′)
   unfolding advanced wires≔ delay≔ delays≔ count-changed changed≔
   advanced-near z y s v place g p n m m′ e r a b h f k =
-      let t = set-outs-twin c W (m .row) (output c g p) (λ i l. k i (omega (arith, f .few))) (f .real) (twin a b h) in
+      let t = set-outs-twin c W (m .row) (output c g p) (λ i l. k i (omega (arith, f .few))) (f .each) (twin a b h) in
       let x : tally (v .changed) (m .changed) ≡ tally (s .changed) (m .changed) = ap (λ (n : ℕ). tally n (m .changed)) (h .changed) in
       subst (λ x. Opened-near (advanced c z s place g p m) (advanced c y v place g p x)) (sym e)
       (record {
@@ -115,11 +116,11 @@ module _ (c : Circuit) (W : Wired c) where
       let e = delay-same h g in
       if-alike Opened-near (eqb k 10 || eqb k 12) (eqb k 10 || eqb k 12) refl
       (λ q. advanced-near z y _ _ to-late g 0 1 _ _ (ap (λ x. advance-flight (λ v. countdown c g (truthy v)) dt x) e) (t .near .raises) a b h
-      (advance-flight-fine _ dt _ d) (buffer-other c W [] g q))
+      (advance-flight-held _ dt _ d) (buffer-other c W [] g q))
       λ _. if-alike Opened-near (eqb k 11 || eqb k 13) (eqb k 11 || eqb k 13) refl
-      (λ _. advanced-near z y _ _ to-late g 0 0 _ _ (ap (advance-fires dt) e) (t .near .raises) a b h (advance-fires-fine dt _ d) (λ i l. absurd (omega arith)))
+      (λ _. advanced-near z y _ _ to-late g 0 0 _ _ (ap (advance-fires dt) e) (t .near .raises) a b h (advance-fires-held dt _ d) (λ i l. absurd (omega arith)))
       λ _. if-alike Opened-near (eqb k 16 || eqb k 17) (eqb k 16 || eqb k 17) refl
-      (λ q. advanced-near z y _ _ to-late g 1 8 _ _ (ap (advance-records dt) e) (t .near .raises) a b h (advance-records-fine dt _ d) (queue-others c W [] g q))
+      (λ q. advanced-near z y _ _ to-late g 1 8 _ _ (ap (advance-records dt) e) (t .near .raises) a b h (advance-records-held dt _ d) (queue-others c W [] g q))
       λ _. t .near
 
   -- n inputs of gate g from p on, read in both
@@ -155,7 +156,7 @@ module _ (c : Circuit) (W : Wired c) where
       let second = r .reads 1 (omega arith) in
       advanced-near z y _ _ to-pending g 0 0 _ _
       (λ j. advance-elapsed (r .dt j) (as-float (as-float one-point-zero (setting c g 2)) (second j)) (enabled (first j)) (e j)) (t .near .raises) a b (r .near)
-      (advance-elapsed-fine _ _ _ _ (plus-real _ _ (d .elapsed) (a .wires .length-finite)) d) (λ i l. absurd (omega arith))
+      (advance-elapsed-held zero-real _ _ _ _ (plus-real _ _ (d .elapsed) (a .wires .length-finite)) d) (λ i l. absurd (omega arith))
 
   advance-timer-near : (z y : Opened) (g : ℕ) → eqb (kind-of-gate c g) 15 ≡ true → Opened-twins z y → Opened-near (advance-timer c z g) (advance-timer c y g)
   unfolding advance-timer kinds-opened
@@ -167,7 +168,7 @@ module _ (c : Circuit) (W : Wired c) where
       let e = delay-same (r .near) g in
       let limit = r .reads 0 (omega arith) in
       advanced-near z y _ _ to-late g 0 1 _ _ (λ j. advance-time (r .dt j) (as-float 0 (limit j)) (e j)) (t .near .raises) a b (r .near)
-      (advance-time-fine _ _ _ (as-float-real _ (read-is-real c W _ g 3 a)) (plus-real _ _ (d .elapsed) (a .wires .length-finite)) d)
+      (advance-time-held _ _ _ (λ _. as-float-real _ (read-is-real c W _ g 3 a)) (plus-real _ _ (d .elapsed) (a .wires .length-finite)) (λ _ r. r) d)
       (other-outputs c (W .laid) g 15 0 1 (eqb-true _ 15 q) refl (omega arith))
 
   -- ---- settling begins with all gates fresh

@@ -44,7 +44,7 @@ units-of [] = refl
 units-of (u ∷ us) = λ j. u ∷ units-of us j
 
 -- a value is that of its kind and content
-value-again : (v : Value) → value-of (kind-of v) (content-of v) ≡ v
+pub value-again : (v : Value) → value-of (kind-of v) (content-of v) ≡ v
 unfolding value-of kind-of content-of bit
 value-again Nothing = refl
 value-again (Int b) = refl
@@ -71,12 +71,6 @@ units-back ws p s us k n e lp le =
     let r = rows ws p (map (λ (u : Listed). u .gate) us) (map (λ (u : Listed). u .form) us) s k n e lp (length-map us (λ (u : Listed). u .gate) ∙ le) (length-map us (λ (u : Listed). u .form) ∙ le) in
     (λ j. both listed (r .0 j) (r .1 j)) ∙ units-of us
 
-outputs-back : (ws p s : List ℕ) (vs : List Value) (k n : ℕ) → ws ≡ p ++ (kinds-and-contents vs ++ s) → length p ≡ k → length vs ≡ n → outputs-at ws k n ≡ vs
-unfolding kinds-and-contents outputs-at
-outputs-back ws p s vs k n e lp le =
-    let r = rows ws p (map kind-of vs) (map content-of vs) s k n e lp (length-map vs kind-of ∙ le) (length-map vs content-of ∙ le) in
-    (λ j. both value-of (r .0 j) (r .1 j)) ∙ outputs-of vs
-
 -- ---- a record, and what follows it
 
 module _ (r : Log-record) (s : List ℕ) where
@@ -95,7 +89,7 @@ module _ (r : Log-record) (s : List ℕ) where
       (append-assoc (gates-and-forms begun) (gates-and-forms (r .carried) ++ kinds-and-contents (r .outs)) s
       ∙ ap (λ (l : List ℕ). gates-and-forms begun ++ l) (append-assoc (gates-and-forms (r .carried)) (kinds-and-contents (r .outs)) s))
 
-  begun-is : begun-count ws ≡ length begun
+  pub begun-is : begun-count ws ≡ length begun
   unfolding begun-count word-at record-words head
   begun-is = sym (length-append (r .late) (r .main))
 
@@ -107,7 +101,7 @@ module _ (r : Log-record) (s : List ℕ) where
   unfolding shown-at carried-count word-at record-words head
   shown-is = ap (λ (x : ℕ). x + 2 * length (r .carried)) carried-is
 
-  begun-back : units-at ws head-size (begun-count ws) ≡ begun
+  pub begun-back : units-at ws head-size (begun-count ws) ≡ begun
   begun-back =
       units-back ws (head r) (gates-and-forms (r .carried) ++ (kinds-and-contents (r .outs) ++ s)) begun head-size (begun-count ws) layout (unfold head in refl) (sym begun-is)
 
@@ -143,8 +137,16 @@ module _ (r : Log-record) (s : List ℕ) where
     front-length =
         omega (arith, length-append (head r) (gates-and-forms begun ++ gates-and-forms (r .carried)), length-append (gates-and-forms begun) (gates-and-forms (r .carried)), length-units begun, length-units (r .carried), shown-is)
 
+    -- the two rows of its outputs,
+    pub rows-back : (part ws (shown-at ws) (shown-count n ws) ≡ map kind-of (r .outs)) × (part ws (shown-at ws + shown-count n ws) (shown-count n ws) ≡ map content-of (r .outs))
+    unfolding kinds-and-contents
+    rows-back =
+        rows ws front (map kind-of (r .outs)) (map content-of (r .outs)) s (shown-at ws) (shown-count n ws) in-front front-length
+        (length-map (r .outs) kind-of ∙ sym count-is) (length-map (r .outs) content-of ∙ sym count-is)
+
     outs-back : outputs-at ws (shown-at ws) (shown-count n ws) ≡ r .outs
-    outs-back = outputs-back ws front s (r .outs) (shown-at ws) (shown-count n ws) in-front front-length (sym count-is)
+    unfolding outputs-at
+    outs-back = (λ j. both value-of (rows-back .0 j) (rows-back .1 j)) ∙ outputs-of (r .outs)
 
     -- its parts are read back,
     pub parts-back : record-at n ws ≡ r

@@ -1,6 +1,6 @@
 -- What every small change of a chain keeps, the chain keeps, with its forks and all that its Loops run: one walk over chain, operation, Loop and body.
 use mathlib.Core.Path.{_≡_, refl, subst}
-use mathlib.Core.Bool.{Bool, true, false}
+use mathlib.Core.Bool.{Bool, true, false, _||_}
 use mathlib.Core.Option.{Option, none, some}
 use Prim.Native.Nat.{ℕ, zero, suc, _≤_}
 use native.Mathlib.Omega.{arith}
@@ -9,13 +9,15 @@ use lib.IntN.{ℤ}
 use lib.ListN.{length}
 use borrow.Author.Tests.{eqb-true}
 use Rattle.schedule.specs.Schedule.{list-full}
+use Rattle.model.specs.declared.Value.{Value}
 use Rattle.model.specs.declared.Value.the-variants.{Int}
 use Rattle.model.specs.Circuit.{Circuit, kind-of-gate, entry-of-loop, output, gate-at-input}
 use Rattle.model.specs.State.{State}
-use Rattle.model.specs.Exec.{set-output, readied, exec-gate}
+use Rattle.model.specs.Delays.{Started}
+use Rattle.model.specs.Exec.{Stepped, fires-next, ends, set-output, readied, exec-Buffer, exec-Stopwatch, exec-Queue, exec-VarGet, exec-VarSet, exec-Branch, exec-Union, exec-Toggle, exec-Cycle, exec-SendEvent, exec-Break, exec-kind, exec-gate}
 use Rattle.model.specs.Chain.{Calls, Popped, pop, Chained, chained, with-state, unless-stopped, next, make-step, run-calls, fire-output, make-call, runaway}
 use Rattle.model.specs.Loops.{index, no-unions, unions-of, runs-left-to, break-set, Looped, looped, goes-on, Body, loop-on, show-loop, loop-over, run-loop, operate, run-nested, begin-body, run-body, run-chain}
-use Rattle.model.proofs.Lists.{if-by}
+use Rattle.model.proofs.Lists.{if-both, if-by}
 
 -- where it may have stopped
 pub unless-both : (P : Chained → Type 0) (f : Chained → Chained) (r : Chained) → (r .stop ≡ 0 → P (f r)) → P r → P (unless-stopped f r)
@@ -217,3 +219,39 @@ Steps-keep c P = Steps-spend c (λ _. P)
 
 pub run-chain-keeps : (c : Circuit) (P : State → Type 0) → Steps-keep c P → (left : ℕ) (q : Calls) (s : State) → P s → P (run-chain c left q s .state)
 run-chain-keeps c P k = run-chain-spends c (λ _. P) k
+
+-- ---- a step, by kind
+
+-- What a step of a gate of each kind keeps. A Reroute changes nothing, and so does a gate of any other kind.
+pub record Kinds-keep (c : Circuit) (P : State → Type 0) : Type 0 where
+  pub Buffer : (s : State) (g : ℕ) → P s → P (exec-Buffer c s g .state)
+  pub Stopwatch : (s : State) (g p : ℕ) → kind-of-gate c g ≡ 15 → P s → P (exec-Stopwatch c s g p .state)
+  pub Queue : (s : State) (g : ℕ) (start : Value → Started) → P s → P (exec-Queue c s g start .state)
+  pub VarGet : (s : State) (g : ℕ) → kind-of-gate c g ≡ 18 → P s → P (exec-VarGet c s g .state)
+  pub VarSet : (inside : Bool) (s : State) (g : ℕ) → eqb (kind-of-gate c g) 19 ≡ true → P s → P (exec-VarSet c inside s g .state)
+  pub Branch : (s : State) (g : ℕ) → P s → P (exec-Branch c s g .state)
+  pub Union : (s : State) (g : ℕ) → P s → P (exec-Union c s g .state)
+  pub Toggle : (s : State) (g : ℕ) → kind-of-gate c g ≡ 22 → P s → P (exec-Toggle c s g .state)
+  pub Cycle : (s : State) (g p : ℕ) → kind-of-gate c g ≡ 23 → P s → P (exec-Cycle c s g p .state)
+  pub SendEvent : (s : State) (g : ℕ) → (eqb (kind-of-gate c g) 24 || eqb (kind-of-gate c g) 25) ≡ true → P s → P (exec-SendEvent c s g .state)
+  pub Break : (s : State) → P s → P (break-set true s)
+
+pub exec-gate-keeps : (c : Circuit) (P : State → Type 0) → Kinds-keep c P → (inside : Bool) (s : State) (i : ℕ) → P s → P (exec-gate c inside s i .state)
+unfolding exec-gate exec-kind fires-next ends exec-Break break-set
+exec-gate-keeps c P keep inside s i z =
+    let g = gate-at-input c i in
+    let k = kind-of-gate c g in
+    let S : Stepped → Type 0 = λ d. P (d .state) in
+    if-both S _ z
+    (if-both S _ (keep .Buffer s g z)
+    (if-by S (eqb k 15) (λ e. keep .Stopwatch s g _ (eqb-true k 15 e) z) λ _.
+    (if-both S _ (keep .Queue s g _ z)
+    (if-both S _ (keep .Queue s g _ z)
+    (if-by S (eqb k 18) (λ e. keep .VarGet s g (eqb-true k 18 e) z) λ _.
+    (if-by S (eqb k 19) (λ e. keep .VarSet inside s g e z) λ _.
+    (if-both S _ (keep .Branch s g z)
+    (if-both S _ (keep .Union s g z)
+    (if-by S (eqb k 22) (λ e. keep .Toggle s g (eqb-true k 22 e) z) λ _.
+    (if-by S (eqb k 23) (λ e. keep .Cycle s g _ (eqb-true k 23 e) z) λ _.
+    (if-by S (eqb k 24 || eqb k 25) (λ e. keep .SendEvent s g e z) λ _.
+    (if-both S _ (keep .Break s z) z))))))))))))

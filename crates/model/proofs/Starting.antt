@@ -36,17 +36,18 @@ use Rattle.model.proofs.Reals.{Real, nothing-real, truth-real, zero-rea
 use Rattle.model.proofs.Wired.{Wired}
 use Rattle.model.proofs.Right.{Except, no-exception, until-timed, Other, alike, invalidate-right}
 use Rattle.model.proofs.Fine.{set-real, Fine, Alike, alike-itself, alike-again, fine-as, soil-alike, marked-alike, watch-fine, set-out-fine, set-outs-fine, refresh-all-fine, refreshed-clean, clean-fine}
-use Rattle.model.proofs.Sound.{Row, Delay-fine, idle-fine, Moved-fine, advance-flight-fine, advance-fires-fine, advance-records-fine, advance-elapsed-fine, advance-time-fine, Sound, Brings, brings-none, other-outputs, wires-sound, delay-sound, outbox-sound, changed-sound, count-sound, delay-of, readied-sound, read-is-real}
+use Rattle.model.proofs.Underway.{Row, idle-held, advance-flight-held, advance-fires-held, advance-records-held, advance-elapsed-held, advance-time-held, delay-held, outbox-held, changed-held, count-held, delay-of, Sends-held}
+use Rattle.model.proofs.Sound.{Delay-fine, Moved-fine, Sound, Brings, brings-none, other-outputs, wires-sound, readied-sound, read-is-real}
 use Rattle.model.proofs.Calming.{set-pulses, settle-sound}
+use Rattle.model.proofs.Scripts.{Given-so}
 
 zero-finite : finite 0 ≡ true
 unfolding finite value-opened
 zero-finite = refl
 
 -- what the script gives to a tick: a length that is finite, and stimuli that bring values only where they may
-pub record Given-fine (c : Circuit) (i : Given) : Type 0 where
-  pub length : finite (i .dt) ≡ true
-  pub stimuli : All (Brings c) (i .stimuli)
+abbrev pub Given-fine : Circuit → Given → Type 0
+Given-fine c = Given-so (λ dt. finite dt ≡ true) (Brings c)
 
 abbrev pub Allowed-fine : Circuit → Allowed → Type 0
 Allowed-fine c i = Given-fine c (i .given)
@@ -97,7 +98,7 @@ module _ (c : Circuit) (W : Wired c) where
   start-sound =
       record {
         wires = wires-at-start-fine;
-        delays = λ g. subst Delay-fine (sym (all-same (length (c .kinds)) g idle)) idle-fine;
+        delays = λ g. subst Delay-fine (sym (all-same (length (c .kinds)) g idle)) (idle-held zero-real);
         outbox = [·];
       }
 
@@ -162,7 +163,7 @@ module _ (c : Circuit) (W : Wired c) where
 
     pub begin-tick-sound : (s : State) (dt : ℕ) → finite dt ≡ true → Sound c no-exception late s → Sound c T late (begin-tick s dt)
     unfolding begin-tick
-    begin-tick-sound s dt q z = changed-sound c _ (outbox-sound c [] [·] (wires-sound c z (next-tick-fine (s .wires) dt q (z .wires))))
+    begin-tick-sound s dt q z = changed-held _ (outbox-held [] [·] (wires-sound c z (next-tick-fine (s .wires) dt q (z .wires))))
 
     -- ---- what came
 
@@ -171,7 +172,7 @@ module _ (c : Circuit) (W : Wired c) where
     raised-brings p s acts a = map-all (λ (r : Raise State Act Place). Brings c (r .act)) _ a
 
     -- of those that pass another test too
-    kept-all :
+    pub kept-all :
         {A : Type 0} (P : A → Type 0) (f : ℕ → A) (q p : ℕ → Bool) → ((x : ℕ) → q x ≡ true → P (f x)) → (xs : List ℕ) → all q xs ≡ true → All P (map f (keep p xs))
     unfolding keep all if_then_else_
     kept-all P f q p k [] h = [·]
@@ -191,13 +192,13 @@ module _ (c : Circuit) (W : Wired c) where
         go (inl h) = other-outputs c (W .laid) g 26 1 8 (eqb-true _ 26 h) refl (omega arith)
         go (inr h) = other-outputs c (W .laid) g 27 1 8 (eqb-true _ 27 h) refl (omega arith)
 
-    delivered-brings : (m : Send) → Row (m .row) → All (Brings c) (delivered c m)
+    delivered-brings : (m : Send) → Row Real (m .row) → All (Brings c) (delivered c m)
     unfolding delivered
     delivered-brings m r =
         kept-all (Brings c) _ (λ g. receiving (kind-of-gate c g)) _
-        (λ g e. record { others = λ k l. receiver-others g e k (omega (arith, r .few)); real = r .real }) (c .receivers) (W .receivers)
+        (λ g e. record { others = λ k l. receiver-others g e k (omega (arith, r .few)); real = r .each }) (c .receivers) (W .receivers)
 
-    pub all-delivered : (ms : List Send) → All (λ (m : Send). Row (m .row)) ms → All (Brings c) (joined (map (delivered c) ms))
+    pub all-delivered : (ms : List Send) → Sends-held Real ms → All (Brings c) (joined (map (delivered c) ms))
     unfolding joined
     all-delivered [] [·] = [·]
     all-delivered (m ∷ ms) (_∷·_ r a) = all-append (delivered-brings m r) (all-delivered ms a)
@@ -245,8 +246,8 @@ module _ (c : Circuit) (W : Wired c) where
     advanced-sound z s place g p n m y x f k =
         record {
           state =
-              count-sound c (m .changed) (wires-sound c (delay-sound c g (m .state) (f .state) x)
-              (set-outs-fine c W T late (m .row) (s .wires) (output c g p) (λ i l. k i (omega (arith, f .few))) (f .real) (x .wires)));
+              count-held (m .changed) (wires-sound c (delay-held c g (m .state) (f .state) x)
+              (set-outs-fine c W T late (m .row) (s .wires) (output c g p) (λ i l. k i (omega (arith, f .few))) (f .each) (x .wires)));
           raises = all-append (y .raises) (raised-brings place _ (fire (m .fires) g) (fires-bring (m .fires) g));
         }
 
@@ -274,11 +275,11 @@ module _ (c : Circuit) (W : Wired c) where
         let s = y .state in
         let d = delay-of c (z .state) s g in
         if-by (Opened-sound T) (eqb k 10 || eqb k 12)
-        (λ e. advanced-sound z _ _ g 0 1 _ y s (advance-flight-fine _ dt _ d) (buffer-other g e))
+        (λ e. advanced-sound z _ _ g 0 1 _ y s (advance-flight-held _ dt _ d) (buffer-other g e))
         λ _. if-both (Opened-sound T) _
-        (advanced-sound z _ _ g 0 0 _ y s (advance-fires-fine dt _ d) (λ i l. absurd (omega arith)))
+        (advanced-sound z _ _ g 0 0 _ y s (advance-fires-held dt _ d) (λ i l. absurd (omega arith)))
         (if-by (Opened-sound T) (eqb k 16 || eqb k 17)
-        (λ e. advanced-sound z _ _ g 1 8 _ y s (advance-records-fine dt _ d) (queue-others g e))
+        (λ e. advanced-sound z _ _ g 1 8 _ y s (advance-records-held dt _ d) (queue-others g e))
         λ _. y)
 
     pub advance-clock-sound : (z : Opened) (g : ℕ) → Opened-sound T z → Opened-sound T (advance-clock c z g)
@@ -286,7 +287,7 @@ module _ (c : Circuit) (W : Wired c) where
     advance-clock-sound z g y =
         let s = readied-sound c W g 0 2 (y .state) in
         let d = delay-of c _ s g in
-        advanced-sound z _ _ g 0 0 _ y s (advance-elapsed-fine _ _ _ _ (plus-real _ _ (d .elapsed) (s .wires .length-finite)) d) (λ i l. absurd (omega arith))
+        advanced-sound z _ _ g 0 0 _ y s (advance-elapsed-held zero-real _ _ _ _ (plus-real _ _ (d .elapsed) (s .wires .length-finite)) d) (λ i l. absurd (omega arith))
 
     pub advance-timer-sound : (z : Opened) (g : ℕ) → eqb (kind-of-gate c g) 15 ≡ true → Opened-sound T z → Opened-sound T (advance-timer c z g)
     unfolding advance-timer kinds-opened
@@ -294,7 +295,7 @@ module _ (c : Circuit) (W : Wired c) where
         let s = readied-sound c W g 3 1 (y .state) in
         let d = delay-of c _ s g in
         advanced-sound z _ _ g 0 1 _ y s
-        (advance-time-fine _ _ _ (as-float-real _ (read-is-real c W _ g 3 s)) (plus-real _ _ (d .elapsed) (s .wires .length-finite)) d)
+        (advance-time-held _ _ _ (λ _. as-float-real _ (read-is-real c W _ g 3 s)) (plus-real _ _ (d .elapsed) (s .wires .length-finite)) (λ _ r. r) d)
         (other-outputs c (W .laid) g 15 0 1 (eqb-true _ 15 e) refl (omega arith))
 
     -- ---- the time sources become stale

@@ -15,20 +15,20 @@ use Rattle.model.specs.Kinds.{kinds-opened}
 use Rattle.model.specs.Circuit.{Circuit, kind-of-gate, output, gate-at-output}
 use Rattle.model.specs.State.{Wires, State, outs≔, written≔, written-outside≔, unions-passed≔, breaking≔, runs-left≔, wires≔}
 use Rattle.model.specs.Wires.{shown, show}
-use Rattle.model.specs.Delays.{Started}
-use Rattle.model.specs.Exec.{Stepped, fires-next, ends, set-output, var, write-once, record-write, exec-Buffer, exec-Stopwatch, exec-Queue, exec-VarGet, exec-VarSet, exec-Branch, exec-Union, exec-Toggle, exec-Cycle, exec-SendEvent, exec-Break, exec-kind, exec-gate}
+use Rattle.model.specs.Exec.{Stepped, fires-next, ends, set-output, var, write-once, record-write, exec-Buffer, exec-Stopwatch, exec-Queue, exec-VarGet, exec-VarSet, exec-Branch, exec-Union, exec-Toggle, exec-Cycle, exec-SendEvent}
 use Rattle.model.specs.Chain.{Calls}
 use Rattle.model.specs.Loops.{no-unions, unions-of, runs-left-to, break-set, show-loop, run-chain}
-use Rattle.model.proofs.Lists.{if-both, if-by, among-first}
+use Rattle.model.proofs.Lists.{if-both, among-first}
 use Rattle.model.proofs.Sized.{Sized-wires, show-sized}
-use Rattle.model.proofs.Running.{Steps-keep, run-chain-keeps}
+use Rattle.model.proofs.Running.{Kinds-keep, exec-gate-keeps, Steps-keep, run-chain-keeps}
 use Rattle.model.proofs.Kept.{outside-sized, passed-sized, break-sized, runs-sized, write-once-sized, named}
 use Rattle.model.proofs.Roomy.{few-roomy}
 use Rattle.model.proofs.Reals.{Real, truth-real, int-real, zero-real}
 use Rattle.model.proofs.Wired.{Wired}
 use Rattle.model.proofs.Right.{Except, Other, alike, excused, show-late}
-use Rattle.model.proofs.Fine.{Fine, set-real}
-use Rattle.model.proofs.Sound.{fires-fine, pressed-fine, queue-fine, Sound, other-output, wires-sound, delay-sound, outbox-sound, count-sound, delay-of, set-output-sound, readied-sound, read-is-real, read-row-fine}
+use Rattle.model.proofs.Fine.{Fine, fine-aside, set-real}
+use Rattle.model.proofs.Underway.{fires-held, pressed-held, queue-held, delay-held, outbox-held, count-held, delay-of}
+use Rattle.model.proofs.Sound.{Sound, other-output, wires-sound, set-output-sound, readied-sound, read-is-real, read-row-fine}
 
 among-snoc : (x : ℕ) (xs : List ℕ) (y : ℕ) → among x xs ≡ true → among x (snoc xs y) ≡ true
 unfolding among snoc
@@ -110,17 +110,8 @@ module _ (c : Circuit) (W : Wired c) where
             )
 
     outside-fine : (late : List ℕ) (w : Wires) (g : ℕ) → Fine c t late w → Fine c t late (written-outside≔ w (set (w .written-outside) g true))
-    unfolding written-outside≔ shown
-    outside-fine late w g f =
-        record {
-          sized = outside-sized c _ (length-set (w .written-outside) g true) (f .sized);
-          written = f .written;
-          pulses = f .pulses;
-          real = f .real;
-          length-finite = f .length-finite;
-          uptime-real = f .uptime-real;
-          right = alike c t late [] w (written-outside≔ w (set (w .written-outside) g true)) refl refl refl refl refl (f .right);
-        }
+    unfolding written-outside≔
+    outside-fine late w g f = fine-aside c w _ refl refl refl refl refl refl refl (outside-sized c _ (length-set (w .written-outside) g true) (f .sized)) f
 
     recorded-fine :
         (inside : Bool) (late : List ℕ) (w : Wires) (g : ℕ) (v : Value) → eqb (kind-of-gate c g) 19 ≡ true → Real v → Fine c t late w →
@@ -132,43 +123,16 @@ module _ (c : Circuit) (W : Wired c) where
     -- ---- what a Loop notes of its runs
 
     passed-fine : (late : List ℕ) (w : Wires) (x : List Bool) → length x ≡ length (w .unions-passed) → Fine c t late w → Fine c t late (unions-passed≔ w x)
-    unfolding unions-passed≔ shown
-    passed-fine late w x e f =
-        record {
-          sized = passed-sized c x e (f .sized);
-          written = f .written;
-          pulses = f .pulses;
-          real = f .real;
-          length-finite = f .length-finite;
-          uptime-real = f .uptime-real;
-          right = alike c t late [] w (unions-passed≔ w x) refl refl refl refl refl (f .right);
-        }
+    unfolding unions-passed≔
+    passed-fine late w x e f = fine-aside c w _ refl refl refl refl refl refl refl (passed-sized c x e (f .sized)) f
 
     break-fine : (late : List ℕ) (w : Wires) (b : Bool) → Fine c t late w → Fine c t late (breaking≔ w b)
-    unfolding breaking≔ shown
-    break-fine late w b f =
-        record {
-          sized = break-sized c b (f .sized);
-          written = f .written;
-          pulses = f .pulses;
-          real = f .real;
-          length-finite = f .length-finite;
-          uptime-real = f .uptime-real;
-          right = alike c t late [] w (breaking≔ w b) refl refl refl refl refl (f .right);
-        }
+    unfolding breaking≔
+    break-fine late w b f = fine-aside c w _ refl refl refl refl refl refl refl (break-sized c b (f .sized)) f
 
     runs-fine : (late : List ℕ) (w : Wires) (n : ℕ) → Fine c t late w → Fine c t late (runs-left≔ w n)
-    unfolding runs-left≔ shown
-    runs-fine late w n f =
-        record {
-          sized = runs-sized c n (f .sized);
-          written = f .written;
-          pulses = f .pulses;
-          real = f .real;
-          length-finite = f .length-finite;
-          uptime-real = f .uptime-real;
-          right = alike c t late [] w (runs-left≔ w n) refl refl refl refl refl (f .right);
-        }
+    unfolding runs-left≔
+    runs-fine late w n f = fine-aside c w _ refl refl refl refl refl refl refl (runs-sized c n (f .sized)) f
 
     -- ---- a step, by kind
 
@@ -188,78 +152,30 @@ module _ (c : Circuit) (W : Wired c) where
     unfolding break-set
     break-going s b z = going (wires-sound c (z .sound) (break-fine (z .late) (s .wires) b (z .sound .wires)))
 
-    Buffer-going : (s : State) (g : ℕ) → Going t s → Stepped-going (exec-Buffer c s g)
-    unfolding exec-Buffer ends
-    Buffer-going s g z =
-        let y = count-sound c _ (z .sound) in
-        if-both Stepped-going _ (going (delay-sound c g _ (fires-fine _ (delay-of c _ y g)) y)) (going y)
-
-    Stopwatch-going : (s : State) (g p : ℕ) → kind-of-gate c g ≡ 15 → Going t s → Stepped-going (exec-Stopwatch c s g p)
-    unfolding exec-Stopwatch ends kinds-opened
-    Stopwatch-going s g p k z =
-        let y = delay-sound c g _ (pressed-fine p (delay-of c s (z .sound) g)) (z .sound) in
-        if-both (Going t) _ (going (set-output-sound c W _ _ (other-output c (W .laid) g 15 0 k refl (omega arith)) zero-real y)) (going y)
-
-    Queue-going : (s : State) (g : ℕ) (k : Value → Started) → Going t s → Stepped-going (exec-Queue c s g k)
-    unfolding exec-Queue ends
-    Queue-going s g k z =
-        let y = readied-sound c W g 1 9 (z .sound) in
-        going (count-sound c _ (delay-sound c g _ (queue-fine _ _ (read-row-fine c W _ g 1 8 (omega arith) y) (delay-of c _ y g)) y))
-
-    VarGet-going : (s : State) (g : ℕ) → kind-of-gate c g ≡ 18 → Going t s → Stepped-going (exec-VarGet c s g)
-    unfolding exec-VarGet fires-next kinds-opened
-    VarGet-going s g k z =
-        going (set-output-sound c W _ _ (other-output c (W .laid) g 18 1 k refl (omega arith)) (z .sound .wires .real (var c g)) (z .sound))
-
-    VarSet-going : (inside : Bool) (s : State) (g : ℕ) → eqb (kind-of-gate c g) 19 ≡ true → Going t s → Stepped-going (exec-VarSet c inside s g)
-    unfolding exec-VarSet fires-next
-    VarSet-going inside s g e z =
-        let y = readied-sound c W g 2 1 (z .sound) in
-        going (wires-sound c y (recorded-fine inside (z .late) _ g _ e (read-is-real c W _ g 2 y) (y .wires) .1))
-
-    Branch-going : (s : State) (g : ℕ) → Going t s → Stepped-going (exec-Branch c s g)
-    unfolding exec-Branch fires-next
-    Branch-going s g z = going (readied-sound c W g 1 1 (z .sound))
-
-    Union-going : (s : State) (g : ℕ) → Going t s → Stepped-going (exec-Union c s g)
-    unfolding exec-Union fires-next ends
-    Union-going s g z = if-both Stepped-going _ z (passed-going s _ (length-set (s .wires .unions-passed) g true) z)
-
-    Toggle-going : (s : State) (g : ℕ) → kind-of-gate c g ≡ 22 → Going t s → Stepped-going (exec-Toggle c s g)
-    unfolding exec-Toggle fires-next kinds-opened
-    Toggle-going s g k z = going (set-output-sound c W _ _ (other-output c (W .laid) g 22 1 k refl (omega arith)) (truth-real _) (z .sound))
-
-    Cycle-going : (s : State) (g p : ℕ) → kind-of-gate c g ≡ 23 → Going t s → Stepped-going (exec-Cycle c s g p)
-    unfolding exec-Cycle fires-next kinds-opened
-    Cycle-going s g p k z =
-        going (set-output-sound c W _ _ (other-output c (W .laid) g 23 2 k refl (omega arith)) (int-real _) (readied-sound c W g 2 1 (z .sound)))
-
-    SendEvent-going : (s : State) (g : ℕ) → Going t s → Stepped-going (exec-SendEvent c s g)
-    unfolding exec-SendEvent fires-next snoc
-    SendEvent-going s g z =
-        let y = readied-sound c W g 2 8 (z .sound) in
-        if-both (Going t) _ (going y) (going (outbox-sound c _ (all-append (y .outbox) (_∷·_ (read-row-fine c W _ g 2 8 (omega arith) y) [·])) y))
-
-    exec-kind-going : (inside : Bool) (s : State) (g p : ℕ) → Going t s → Stepped-going (exec-kind c inside (kind-of-gate c g) s g p)
-    unfolding exec-kind fires-next ends exec-Break break-set
-    exec-kind-going inside s g p z =
-        let k = kind-of-gate c g in
-        if-both Stepped-going _ z
-        (if-both Stepped-going _ (Buffer-going s g z)
-        (if-by Stepped-going (eqb k 15) (λ e. Stopwatch-going s g p (eqb-true k 15 e) z) λ _.
-        (if-both Stepped-going _ (Queue-going s g _ z)
-        (if-both Stepped-going _ (Queue-going s g _ z)
-        (if-by Stepped-going (eqb k 18) (λ e. VarGet-going s g (eqb-true k 18 e) z) λ _.
-        (if-by Stepped-going (eqb k 19) (λ e. VarSet-going inside s g e z) λ _.
-        (if-both Stepped-going _ (Branch-going s g z)
-        (if-both Stepped-going _ (Union-going s g z)
-        (if-by Stepped-going (eqb k 22) (λ e. Toggle-going s g (eqb-true k 22 e) z) λ _.
-        (if-by Stepped-going (eqb k 23) (λ e. Cycle-going s g p (eqb-true k 23 e) z) λ _.
-        (if-both Stepped-going _ (SendEvent-going s g z) (if-both Stepped-going _ (break-going s true z) z))))))))))))
-
-    pub exec-gate-going : (inside : Bool) (s : State) (i : ℕ) → Going t s → Stepped-going (exec-gate c inside s i)
-    unfolding exec-gate
-    exec-gate-going inside s i z = exec-kind-going inside s _ _ z
+    kinds-going : Kinds-keep c (Going t)
+    unfolding exec-Buffer exec-Stopwatch exec-Queue exec-VarGet exec-VarSet exec-Branch exec-Union exec-Toggle exec-Cycle exec-SendEvent fires-next ends snoc kinds-opened
+    kinds-going =
+        record {
+          Buffer = λ s g z. let y = count-held _ (z .sound) in if-both Stepped-going _ (going (delay-held c g _ (fires-held _ (delay-of c _ y g)) y)) (going y);
+          Stopwatch = λ s g p k z.
+              let y = delay-held c g _ (pressed-held zero-real p (delay-of c s (z .sound) g)) (z .sound) in
+              if-both (Going t) _ (going (set-output-sound c W _ _ (other-output c (W .laid) g 15 0 k refl (omega arith)) zero-real y)) (going y);
+          Queue = λ s g k z.
+              let y = readied-sound c W g 1 9 (z .sound) in
+              going (count-held _ (delay-held c g _ (queue-held _ _ (read-row-fine c W _ g 1 8 (omega arith) y) (delay-of c _ y g)) y));
+          VarGet = λ s g k z. going (set-output-sound c W _ _ (other-output c (W .laid) g 18 1 k refl (omega arith)) (z .sound .wires .real (var c g)) (z .sound));
+          VarSet = λ inside s g e z.
+              let y = readied-sound c W g 2 1 (z .sound) in
+              going (wires-sound c y (recorded-fine inside (z .late) _ g _ e (read-is-real c W _ g 2 y) (y .wires) .1));
+          Branch = λ s g z. going (readied-sound c W g 1 1 (z .sound));
+          Union = λ s g z. if-both Stepped-going _ z (passed-going s _ (length-set (s .wires .unions-passed) g true) z);
+          Toggle = λ s g k z. going (set-output-sound c W _ _ (other-output c (W .laid) g 22 1 k refl (omega arith)) (truth-real _) (z .sound));
+          Cycle = λ s g p k z. going (set-output-sound c W _ _ (other-output c (W .laid) g 23 2 k refl (omega arith)) (int-real _) (readied-sound c W g 2 1 (z .sound)));
+          SendEvent = λ s g _ z.
+              let y = readied-sound c W g 2 8 (z .sound) in
+              if-both (Going t) _ (going y) (going (outbox-held _ (all-append (y .outbox) (_∷·_ (read-row-fine c W _ g 2 8 (omega arith) y) [·])) y));
+          Break = λ s z. break-going s true z;
+        }
 
     -- ---- a chain, and the Loops that it runs
 
@@ -271,7 +187,7 @@ module _ (c : Circuit) (W : Wired c) where
     unfolding no-unions unions-of runs-left-to show-loop
     steps-going =
         record {
-          step = λ inside n s i z. exec-gate-going inside s i z;
+          step = λ inside n s i z. exec-gate-keeps c (Going t) kinds-going inside s i z;
           loop-step = λ n s z. z;
           inputs-read = λ n s g z. going (readied-sound c W g 1 3 (z .sound));
           broken = λ n s b z. break-going s b z;

@@ -9,26 +9,25 @@ use native.Mathlib.Nat.{zero-add}
 use native.Mathlib.Omega.{arith}
 use lib.Dec.{leb, ltb, eqb}
 use lib.IntN.{pos}
-use lib.ListN.{length, getD, take, drop, replicate, length-map, length-replicate, getD-replicate, List·getD-append, List·getD-map, List·getD-eq-default}
+use lib.ListN.{length, getD, replicate, length-map, length-replicate, getD-replicate, List·getD-append, List·getD-map, List·getD-eq-default}
 use lib.Seq.{getD-append-add}
 use mir.Syntax.{w64}
 use mir.ValLaws.{toZ-pos}
 use borrow.Author.Tests.{eqb-true, eq-eqb, leb-true, ltb-true, ltb-false}
 use Rattle.words.specs.Words.{words}
-use Rattle.schedule.specs.Promise.{All, [·], _∷·_}
+use Rattle.schedule.specs.Promise.{All}
 use Rattle.model.specs.declared.Value.{Value}
 use Rattle.model.specs.declared.Value.the-variants.{Nothing, Int, Float, Bool as Truth}
 use Rattle.model.specs.Base.{if_then_else_, keep, all, joined, among, both, from, sum, starts, owners}
 use Rattle.model.specs.Value.{as-int, le64, value-of}
 use Rattle.model.specs.Kinds.{In, value, kind-at, pure, time-source, receiving, kinds-opened}
 use Rattle.model.specs.Circuit.{Circuit, circuit, part, word-at, minus-one, source-of, reads, kind-of-gate, entry-of-loop, input, output, inputs-of, gate-at-input, source, stored-in, setting, gate-at-output, readers-of, gates-such}
-use Rattle.model.specs.Script.{stimulus, given, script}
+use Rattle.model.specs.Script.{stimulus}
 use Rattle.model.specs.Run.{allowed, ticks-get}
-use Rattle.model.specs.State.{Act}
 use Rattle.model.specs.Delays.{nat}
 use Rattle.model.specs.Exec.{var}
-use Rattle.model.specs.Questions.{Areas, within, finite, yes-all, question-1, question-3, good-constant, question-2, value-output, int-such-that, good-setting, good-input, names-constant, question-4, question-19, question-9, question-10, good-length}
-use Rattle.model.proofs.Lists.{if-both, both-true, all-keep, all-among, among-from, map-from, from-length, not-so, clash, among-either, among-none, among-keep, map-all}
+use Rattle.model.specs.Questions.{Areas, within, finite, yes-all, question-1, question-3, good-constant, question-2, value-output, int-such-that, good-setting, good-input, names-constant, question-4, question-19, good-length}
+use Rattle.model.proofs.Lists.{both-true, all-keep, all-among, among-from, map-from, from-length, not-so, clash, among-either, among-none, among-keep, map-all}
 use Rattle.model.proofs.Sizes.{sizes}
 use Rattle.model.proofs.Laid.{offset, starts-at, no-kind, Laid, laid, joined-length, kind-in, part-most, part-is, inputs-found}
 use Rattle.model.proofs.Asked.{Accepted}
@@ -38,7 +37,8 @@ use Rattle.model.proofs.Nesting.{loop-entered}
 use Rattle.model.proofs.Reals.{Real, nothing-real, truth-real, int-real, finite-real}
 use Rattle.model.proofs.Wired.{Wired}
 use Rattle.model.proofs.Sound.{Brings, other-outputs}
-use Rattle.model.proofs.Starting.{Given-fine, Allowed-fine}
+use Rattle.model.proofs.Scripts.{stimulus-few, stimulus-each, script-all}
+use Rattle.model.proofs.Starting.{Allowed-fine}
 
 -- ---- lists
 
@@ -62,15 +62,15 @@ map-real f k (x ∷ xs) (suc i) = map-real f k xs i
 
 -- ---- parts in a row: each place belongs to a part
 
-record Place-in (a : ℕ) (ks : List ℕ) (o : ℕ) : Type 0 where
-  index : ℕ
-  inside : ℕ
-  owner : getD (owners a ks) o 0 ≡ a + index
-  some-part : index < length ks
-  within : inside < getD ks index 0
-  place : o ≡ offset ks index + inside
+pub record Place-in (a : ℕ) (ks : List ℕ) (o : ℕ) : Type 0 where
+  pub index : ℕ
+  pub inside : ℕ
+  pub owner : getD (owners a ks) o 0 ≡ a + index
+  pub some-part : index < length ks
+  pub within : inside < getD ks index 0
+  pub place : o ≡ offset ks index + inside
 
-place-in : (a : ℕ) (ks : List ℕ) (o : ℕ) → o < sum ks → Place-in a ks o
+pub place-in : (a : ℕ) (ks : List ℕ) (o : ℕ) → o < sum ks → Place-in a ks o
 unfolding owners offset sum
 place-in a [] o l = absurd (omega arith)
 place-in a (k ∷ ks) o l = go (ltb o k) refl (λ q h. place-in (suc a) ks q h)
@@ -102,7 +102,7 @@ place-in a (k ∷ ks) o l = go (ltb o k) refl (λ q h. place-in (suc a) ks q h)
         }
 
 -- what stands in part g
-joined-at :
+pub joined-at :
     {A : Type 0} (f : ℕ → List A) (ks : List ℕ) (g p : ℕ) (d : A) → g < length ks → p < length (f (getD ks g 0)) →
     getD (joined (map f ks)) (offset (map (λ k. length (f k)) ks) g + p) d ≡ getD (f (getD ks g 0)) p d
 unfolding joined offset
@@ -134,7 +134,7 @@ time-inputs k e = go (eqb k 3) refl e
     go false h e = rw (eqb-true k 4 e)
 
 -- the size of a part, by its kind
-part-size : (size : ℕ → ℕ) → size 0 ≡ 0 → (ks : List ℕ) (g : ℕ) → getD (map size ks) g 0 ≡ size (getD ks g 0)
+pub part-size : (size : ℕ → ℕ) → size 0 ≡ 0 → (ks : List ℕ) (g : ℕ) → getD (map size ks) g 0 ≡ size (getD ks g 0)
 part-size size e ks g = ap (λ d. getD (map size ks) g d) (sym e) ∙ List·getD-map size ks g 0
 
 timed-in : (c : Circuit) (g : ℕ) → time-source (kind-of-gate c g) ≡ true → g < length (c .kinds)
@@ -328,7 +328,7 @@ module _ (ws : List ℕ) where
             let e : getD (starts 0 (map is ks)) g 0 ≡ offset (map is ks) g = omega (arith, starts-at 0 (map is ks) g (omega (arith, l, length-map ks is))) in
             rw e (joined-at (λ k. kind-at k .ins) ks g p value l h)
 
-        var-setting : (g : ℕ) → eqb (kind-of-gate (circuit ws) g) 19 ≡ true → int-such-that (λ h. eqb (kind-of-gate (circuit ws) h) 5) (setting (circuit ws) g 1) ≡ true
+        pub var-setting : (g : ℕ) → eqb (kind-of-gate (circuit ws) g) 19 ≡ true → int-such-that (λ h. eqb (kind-of-gate (circuit ws) h) 5) (setting (circuit ws) g 1) ≡ true
         unfolding setting good-setting kinds-opened
         var-setting g e =
             let c = circuit ws in
@@ -413,65 +413,26 @@ wired areas cb sb a =
 
 -- ---- the script
 
-module _ (c : Circuit) (constants : List Value) (real : (k : ℕ) → Real (getD constants k Nothing)) (laid : Laid c) where
-  -- a WorldEvent has one value output
-  stimulus-brings : (g k : ℕ) → eqb (kind-of-gate c g) 28 ≡ true → Brings c (stimulus constants g k)
-  unfolding stimulus kinds-opened
-  stimulus-brings g k e =
-      record {
-        others = λ i l. other-outputs c laid g 28 1 1 (eqb-true (kind-of-gate c g) 28 e) refl (omega arith) i (omega (arith, l, one (eqb k 0)));
-        real = if-both (λ (vs : List Value). All Real vs) (eqb k 0) [·] (_∷·_ (real k) [·]);
-      }
-    where
-      one : (b : Bool) → length (if b then [] else getD constants k Nothing ∷ []) ≤ 1
-      one b = if-both (λ (vs : List Value). length vs ≤ 1) b (omega arith) (omega arith)
+-- a WorldEvent has one value output
+stimulus-brings :
+    (c : Circuit) → Laid c → ((k : ℕ) → Real (getD (c .constants) k Nothing)) → (g k : ℕ) → eqb (kind-of-gate c g) 28 ≡ true → Brings c (stimulus (c .constants) g k)
+unfolding stimulus kinds-opened
+stimulus-brings c laid real g k e =
+    record {
+      others = λ i l. other-outputs c laid g 28 1 1 (eqb-true (kind-of-gate c g) 28 e) refl (omega arith) i (omega (arith, l, stimulus-few (c .constants) g k));
+      real = stimulus-each Real (c .constants) g k (real k);
+    }
 
-  stimuli-bring : (gs ks : List ℕ) → all (λ g. eqb (kind-of-gate c g) 28) gs ≡ true → All (Brings c) (both (stimulus constants) gs ks)
-  unfolding both all
-  stimuli-bring [] [] h = [·]
-  stimuli-bring [] (k ∷ ks) h = [·]
-  stimuli-bring (g ∷ gs) [] h = [·]
-  stimuli-bring (g ∷ gs) (k ∷ ks) h =
-      let t = both-true (eqb (kind-of-gate c g) 28) _ h in
-      _∷·_ (stimulus-brings g k (t .0)) (stimuli-bring gs ks (t .1))
-
-  take-all : (n : ℕ) {bs : List Act} → All (Brings c) bs → All (Brings c) (take n bs)
-  take-all zero a = [·]
-  take-all (suc n) [·] = [·]
-  take-all (suc n) (_∷·_ b a) = _∷·_ b (take-all n a)
-
-  drop-all : (n : ℕ) {bs : List Act} → All (Brings c) bs → All (Brings c) (drop n bs)
-  drop-all zero a = a
-  drop-all (suc n) [·] = [·]
-  drop-all (suc n) (_∷·_ b a) = drop-all n a
-
-  given-all : (ds ns : List ℕ) (bs : List Act) → all good-length ds ≡ true → All (Brings c) bs → All (Given-fine c) (given ds ns bs)
-  unfolding given all good-length
-  given-all [] [] bs h a = [·]
-  given-all [] (n ∷ ns) bs h a = [·]
-  given-all (d ∷ ds) [] bs h a = [·]
-  given-all (d ∷ ds) (n ∷ ns) bs h a =
-      let t = both-true (good-length d) _ h in
-      let f = both-true (finite d) _ (both-true (finite d && le64 0 d) _ (t .0) .0) .0 in
-      _∷·_ (record { length = f; stimuli = take-all n a }) (given-all ds ns (drop n bs) (t .1) (drop-all n a))
-
-given-fine :
-    (areas : Option Areas) (cb sb : List ℕ) → Accepted areas cb sb →
-    let c = circuit (words cb) in All (Given-fine c) (script (c .constants) (words sb))
-unfolding script question-9 question-10
-given-fine areas cb sb a =
-    let c = circuit (words cb) in
-    let ws = words sb in
-    let T = word-at ws 0 in
-    let S = word-at ws 1 in
-    let real = constants-real (words cb) (a .constants) in
-    let t = both-true (all good-length (part ws 2 T) && all (within 0 64) (part ws (2 + T) T)) _ (a .ticks) .0 in
-    let s = both-true (all (λ g. eqb (kind-of-gate c g) 28) (part ws (2 + 2 * T) S)) _ (a .stimuli) .0 in
-    given-all c (c .constants) real (laid (words cb)) (part ws 2 T) (part ws (2 + T) T) _ (both-true (all good-length (part ws 2 T)) _ t .0)
-    (stimuli-bring c (c .constants) real (laid (words cb)) (part ws (2 + 2 * T) S) (part ws (2 + 2 * T + S) S) s)
+-- and a length that question 9 lets through is finite
+length-finite : (d : ℕ) → good-length d ≡ true → finite d ≡ true
+unfolding good-length
+length-finite d h = both-true (finite d) _ (both-true (finite d && le64 0 d) _ h .0) .0
 
 pub gets-fine :
     (areas : Option Areas) (cb sb : List ℕ) → Accepted areas cb sb →
     let c = circuit (words cb) in All (Allowed-fine c) (ticks-get c (words sb))
 unfolding allowed
-gets-fine areas cb sb a = map-all (Allowed-fine (circuit (words cb))) _ (given-fine areas cb sb a)
+gets-fine areas cb sb a =
+    let c = circuit (words cb) in
+    map-all (Allowed-fine c) _
+    (script-all (λ dt. finite dt ≡ true) (Brings c) areas cb sb a (λ i. length-finite _) (stimulus-brings c (laid (words cb)) (constants-real (words cb) (a .constants))))

@@ -28,5 +28,4 @@ pub mod Noticed
 pub mod Fresh
 pub mod Unread
 pub mod Seen
-pub mod Promises
 pub mod Classes

@@ -13,6 +13,7 @@ use Rattle.model.specs.Base.{if_then_else_, keep, all, both, from, sum}
 use Rattle.model.specs.Value.{le64, kind-Int, kind-Float, kind-Bool}
 use Rattle.model.specs.Kinds.{In, value, Setting, anything, ticks, seconds, variable, channel, loop, fires, shows, passes, kind-at, Var, QueueInTicks, QueueInSeconds, WorldEvent, Loop, pure}
 use Rattle.model.specs.Circuit.{Circuit, circuit, part, word-at, minus-one, names, kind-of-gate, body-of-gate, inputs-of, gate-at-input, source, stored-in, gate-at-output, calls-of, gates, gates-of}
+use Rattle.model.specs.Script.{most-ticks}
 
 -- low to high
 unfoldable pub within : ℕ → ℕ → ℕ → Bool
@@ -177,7 +178,7 @@ question-7 (some a) c = leb (queues c) 8 && leb 65536 (a .values) && leb 65536 (
 -- 8. Is the script of whole words, at least two, T 0 to 100,000, S 0 to 65,535, length as these give?
 unfoldable pub question-8 : List ℕ → List ℕ → Bool
 question-8 bytes ws =
-    eqb (length bytes % 8) 0 && leb 2 (length ws) && within 0 100000 (word-at ws 0) && within 0 65535 (word-at ws 1)
+    eqb (length bytes % 8) 0 && leb 2 (length ws) && within 0 most-ticks (word-at ws 0) && within 0 65535 (word-at ws 1)
     && eqb (length ws) (2 + 2 * (word-at ws 0 + word-at ws 1))
 
 -- 9. Is each tick length finite and 0 (-0.0 too) to 3,600 (0x40AC200000000000), each count 0 to 64, their sum S?

@@ -9,6 +9,10 @@ use Rattle.model.specs.Base.{if_then_else_, both}
 use Rattle.model.specs.Circuit.{part, word-at}
 use Rattle.model.specs.State.{Act, form-World}
 
+-- the ticks of a script at the most
+abbrev pub most-ticks : ℕ
+most-ticks = 100000
+
 -- the length of a tick, as f64 bits, and its stimuli in order
 pub record Given : Type 0 where
   pub dt : ℕ

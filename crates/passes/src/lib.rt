@@ -21,6 +21,7 @@ ghost use Rattle.passes.specs.Lent.{Passes-late, Passes-main, Leaves-mai
 use chain::Ran;
 use links::rank_of_gate;
 use lists::Taken;
+use records::MOST_UNITS;
 use stops::LIST_FULL;
 use unit::Act;
 use unit::unit;
@@ -32,7 +33,6 @@ use units::counts::late;
 use units::counts::pending;
 use units::entries::entry;
 use units::entries::gate_of;
-use units::layout::MOST_UNITS;
 use units::raising::take_delivered;
 use units::raising::take_late;
 use units::raising::take_pending;

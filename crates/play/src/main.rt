@@ -3,14 +3,14 @@ ghost use Prim.Native.Nat.{_^_, _<_};
 ghost use Rattle.words.specs.Slices.{after};
 ghost use Rattle.io.specs.Counts.{Counts};
 
-mod records;
+mod outputs;
 mod text;
 
 use libc::STDOUT_FILENO;
-use records::outputs;
-use records::record_size;
+use outputs::outputs;
 use run::Answer;
 use text::add_word;
+use walk::record_size;
 use words::read;
 
 // What is printed where a file is missing or too long.

@@ -5,6 +5,7 @@ ghost use Rattle.words.specs.Slices.{before, after};
 ghost use Rattle.model.specs.Questions.{refusal};
 ghost use Rattle.run.specs.Call.{Right-call};
 ghost use Rattle.class.specs.Call.{Right as Right-class, call-of, left-of};
+ghost use Rattle.hours.specs.Call.{Right as Right-hours, call-of as hours-call, left-of as hours-left};
 ghost use Rattle.player.specs.Numbers.{Tells-host};
 use circuit::check;
 use telling::number_of;
@@ -53,4 +54,21 @@ pub extern "C" fn hazhirun_class(
     ensures { λ r. ⌜ Right-class (call-of circuit book log values units delays told) (left-of log values units delays told) r ⌝ }
 {
     class::class(circuit, book, log, values, units, delays, told)
+}
+
+// Asks the questions about the circuit, and 16, 17 and 18 of a finished log, of the outputs for driver and activity, the length of a tick in milliseconds, and the room;
+// where none of them refuses the call the report of the hours per driver is written. The number of the answer; the first word of `told` becomes the bytes of the report.
+#[no_mangle]
+pub extern "C" fn hazhirun_hours(
+    circuit: &[u8],
+    log: &[u8],
+    driver: u64,
+    activity: u64,
+    len: u64,
+    report: &mut [u8],
+    told: &mut [u64],
+) -> u64
+    ensures { λ r. ⌜ Right-hours (hours-call circuit log driver activity len report told) (hours-left report told) r ⌝ }
+{
+    hours::hours(circuit, log, driver, activity, len, report, told)
 }

@@ -8,7 +8,7 @@ use lib.Dec.{eqb}
 use borrow.Author.Tests.{eq-eqb, ne-eqb}
 use lib.ListN.{length, getD, take, drop, drop-of-length-le, length-drop}
 use lib.Seq.{drop-cons, take-length}
-use Rattle.replay.specs.Bytes.{alike, same, holds}
+use Rattle.replay.specs.Bytes.{alike, same, holds, answered}
 
 -- ---- one test after another
 
@@ -98,3 +98,23 @@ pub holds-rest : (b : ℕ) (log records : List ℕ) (t u : Bool) → t ≡ same 
 unfolding holds
 holds-rest b log records t u e h q =
     and-right t u (same (take (length records) log) records) (alike b (drop (length records) log)) e h (q ∙ ap (λ (r : List ℕ). alike b r) (take-rest (length records) log))
+
+-- ---- what a call answers and leaves
+
+module _ (n m : ℕ) (l b t w : List ℕ) where
+  -- another number
+  pub answered-other : (n ≡ m → ⊥) → false ≡ answered n m l b t w
+  unfolding answered
+  answered-other h = rw (ne-eqb n m h)
+
+  bytes-decide : n ≡ m → (same l b && same t w) ≡ answered n m l b t w
+  unfolding answered
+  bytes-decide e = rw (eq-eqb n m e)
+
+  -- the number, and other bytes
+  pub answered-bytes : (x : Bool) → n ≡ m → x ≡ same l b → not x ≡ true → false ≡ answered n m l b t w
+  answered-bytes x e h k = and-left x (same l b) (same t w) h k ∙ bytes-decide e
+
+  -- both, so that the words decide
+  pub answered-words : (x u : Bool) → n ≡ m → x ≡ same l b → not x ≡ false → u ≡ same t w → u ≡ answered n m l b t w
+  answered-words x u e h k q = and-right x u (same l b) (same t w) h k q ∙ bytes-decide e

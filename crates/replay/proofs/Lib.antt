@@ -5,3 +5,4 @@ mod Comparing
 mod Ending
 mod Fitting
 mod Meeting
+mod ReportMeeting

@@ -24,3 +24,7 @@ same (x ∷ xs) (y ∷ ys) = eqb x y && same xs ys
 -- a log holds these records, and behind them nothing but this byte
 unfoldable pub holds : ℕ → List ℕ → List ℕ → Bool
 holds b log records = same (take (length records) log) records && alike b (drop (length records) log)
+
+-- a call's number is the one due, and the bytes and the words that it leaves are these
+unfoldable pub answered : (number due : ℕ) → (left bytes told words : List ℕ) → Bool
+answered number due left bytes told words = eqb number due && (same left bytes && same told words)

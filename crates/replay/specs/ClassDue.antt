@@ -6,7 +6,7 @@ use lib.Dec.{eqb}
 use lib.ListN.{getD}
 use Rattle.model.specs.Base.{if_then_else_}
 use Rattle.replay.specs.declared.class_due.ClassDue.{ClassDue}
-use Rattle.replay.specs.Bytes.{all-alike, same}
+use Rattle.replay.specs.Bytes.{all-alike, answered}
 
 -- its numbers, from the words before its circuit
 unfoldable pub class-due-of : List ℕ → ClassDue
@@ -19,4 +19,4 @@ area-byte d = if eqb (d .cleared) 0 then 165 else 0
 
 -- all of it: the call's number, the log, the words told and the areas
 unfoldable pub class-as-due : ClassDue → ℕ → (records words log vs us ds told : List ℕ) → Bool
-class-as-due d n records words log vs us ds told = eqb n (d .number) && (same log records && (same told words && all-alike (area-byte d) vs us ds))
+class-as-due d n records words log vs us ds told = answered n (d .number) log records told words && all-alike (area-byte d) vs us ds

@@ -4,4 +4,6 @@ pub mod ClassDue
 pub mod ClassMet
 pub mod Due
 pub mod Met
+pub mod ReportDue
+pub mod ReportMet
 pub mod Tally

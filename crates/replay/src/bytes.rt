@@ -1,7 +1,7 @@
 // Bytes and words compared.
 ghost use mathlib.Core.Path.{_≡_};
 ghost use Rattle.words.specs.Slices.{before};
-ghost use Rattle.replay.specs.Bytes.{alike, all-alike, same, holds};
+ghost use Rattle.replay.specs.Bytes.{alike, all-alike, same, holds, answered};
 
 // Whether every byte of the area is this one.
 pub fn is_alike(area: &[u8], byte: u8) -> bool
@@ -79,4 +79,24 @@ pub fn is_holding(log: &[u8], records: &[u8], byte: u8) -> bool
         return false;
     }
     is_alike(&log[n..], byte)
+}
+
+// Whether a call's number is the one due, and the bytes and the words that it leaves are these.
+pub fn is_answered(
+    number: u64,
+    due: u64,
+    left: &[u8],
+    bytes: &[u8],
+    told: &[u64],
+    words: &[u64],
+) -> bool
+    ensures { λ r. ⌜ r ≡ answered number due (before left) (before bytes) (before told) (before words) ⌝ }
+{
+    if number != due {
+        return false;
+    }
+    if !is_same(left, bytes) {
+        return false;
+    }
+    is_same_words(told, words)
 }

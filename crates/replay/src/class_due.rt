@@ -3,8 +3,7 @@ ghost use mathlib.Core.Path.{_≡_};
 ghost use Rattle.words.specs.Slices.{before, was};
 ghost use Rattle.replay.specs.ClassDue.{class-due-of, area-byte, class-as-due};
 use crate::bytes::are_alike;
-use crate::bytes::is_same;
-use crate::bytes::is_same_words;
+use crate::bytes::is_answered;
 use crate::rooms::FILLED;
 use words::read;
 
@@ -69,13 +68,7 @@ pub fn is_class_as_due(
 ) -> bool
     ensures { λ r. ⌜ r ≡ class-as-due due number (before records) (before words) (before log) (before values) (before units) (before delays) (before told) ⌝ }
 {
-    if number != due.number {
-        return false;
-    }
-    if !is_same(log, records) {
-        return false;
-    }
-    if !is_same_words(told, words) {
+    if !is_answered(number, due.number, log, records, told, words) {
         return false;
     }
     are_alike(values, units, delays, area_byte(due))

@@ -1,15 +1,18 @@
-// Plays every run of runs.bin and every class of classes.bin, and compares what comes of each with what is due, byte by byte. Each file has first how many.
+// Plays every run of runs.bin, every class of classes.bin and every report of reports.bin, and compares what comes of each with what is due, byte by byte. Each file has first how many.
 ghost use mathlib.Core.Path.{_≡_};
 ghost use Rattle.words.specs.Slices.{before};
 ghost use Rattle.replay.specs.ClassMet.{class-met};
 ghost use Rattle.replay.specs.Met.{met};
+ghost use Rattle.replay.specs.ReportMet.{report-met};
 
 mod bytes;
 mod class_due;
 mod due;
+mod report_due;
 mod rooms;
 mod tally;
 
+use bytes::is_answered;
 use class_due::ClassDue;
 use class_due::class_numbers;
 use class_due::is_class_as_due;
@@ -17,6 +20,7 @@ use due::Due;
 use due::is_as_due;
 use due::numbers;
 use libc::STDOUT_FILENO;
+use report_due::ReportDue;
 use rooms::DELAYS;
 use rooms::FILLED;
 use rooms::ROOM;
@@ -27,6 +31,7 @@ use rooms::filled_words;
 use rooms::room;
 use tally::Tally;
 use words::read;
+use words::told::put_at;
 use words::write;
 
 // The bytes of the numbers before a run's circuit.
@@ -34,6 +39,9 @@ const RUN_HEAD: usize = 72;
 
 // The bytes of the numbers before a class's circuit. The last of them, the bytes of all records together, is not used.
 const CLASS_HEAD: usize = 104;
+
+// The bytes of the numbers before a report's circuit.
+const REPORT_HEAD: usize = 72;
 
 // ---- packed words, read from a file
 
@@ -138,7 +146,7 @@ fn print(text: &[u8], name: &[u8], number: u64, end: &[u8]) {
     io::write_all(STDOUT_FILENO, end);
 }
 
-// Prints the number of a run or a class that differs, from 0.
+// Prints the number of a run, a class or a report that differs, from 0.
 fn print_other(name: &[u8], number: u64) {
     print(b"differs: ", name, number, b"\n");
 }
@@ -204,7 +212,7 @@ fn play_one(tally: Tally, due: Due, circuit: &[u8], script: &[u8], records: &[u8
 }
 
 // Reads the next run, if there are buffers for it, and plays it.
-fn play_next(fd: i32, tally: Tally) -> Tally {
+fn play_next_run(fd: i32, tally: Tally) -> Tally {
     let mut head = [0u8; RUN_HEAD];
     if !next_bytes(fd, &mut head, RUN_HEAD) {
         return tally.with_cut();
@@ -229,17 +237,6 @@ fn play_next(fd: i32, tally: Tally) -> Tally {
         );
     }
     tally.with_cut()
-}
-
-// Plays this many runs, or up to the first that cannot be read whole.
-fn play_all(fd: i32, runs: u64) -> Tally {
-    let mut tally = Tally::new();
-    let mut left = runs;
-    while 0 < left && !tally.cut {
-        tally = play_next(fd, tally);
-        left -= 1;
-    }
-    tally
 }
 
 // ---- classes
@@ -354,18 +351,116 @@ fn play_next_class(fd: i32, tally: Tally) -> Tally {
     tally.with_cut()
 }
 
-// Plays this many classes, or up to the first that cannot be read whole.
-fn play_all_classes(fd: i32, classes: u64) -> Tally {
-    let mut tally = Tally::new();
-    let mut left = classes;
-    while 0 < left && !tally.cut {
-        tally = play_next_class(fd, tally);
-        left -= 1;
-    }
-    tally
+// ---- reports
+
+// Reports with this buffer and these words for what is told, and compares the buffer with `lines` and the words with `words`.
+fn play_report_lent(
+    due: ReportDue,
+    circuit: &[u8],
+    log: &[u8],
+    lines: &[u8],
+    words: &[u64],
+    report: &mut [u8],
+    told: &mut [u64],
+) -> bool
+    ensures { λ r. ⌜ r ≡ report-met due (before circuit) (before log) (before lines) (before words) (before report) (before told) ⌝ }
+{
+    let number = hours::hours(
+        circuit,
+        log,
+        due.driver,
+        due.activity,
+        due.length,
+        report,
+        told,
+    );
+    is_answered(number, due.number, report, lines, told, words)
 }
 
-// ---- both files
+// Reports with as many bytes and words of buffers as are lent; a report that lends more than there are is not as it should be.
+fn play_report(due: ReportDue, circuit: &[u8], log: &[u8], lines: &[u8], words: &[u64]) -> bool {
+    if ROOM < due.report || TOLD < due.told {
+        return false;
+    }
+    let mut report = filled_room();
+    let mut told = filled_words();
+    play_report_lent(
+        due,
+        circuit,
+        log,
+        lines,
+        words,
+        &mut report[..due.report],
+        &mut told[..due.told],
+    )
+}
+
+// The first of the words that are due, if there is one: how many bytes the lines have, unless the call is refused.
+fn tell_lines(due: ReportDue, words: &mut [u64]) {
+    if due.number != 0 {
+        return;
+    }
+    put_at(words, 0, due.lines as u64);
+}
+
+// Reads the lines that are due, and tells how many bytes they have: into buffers that are filled, so that these become the buffer and the words that are due. Plays the
+// report and counts it.
+fn play_one_report(
+    fd: i32,
+    tally: Tally,
+    due: ReportDue,
+    circuit: &[u8],
+    log: &[u8],
+    lines: &mut [u8],
+    words: &mut [u64],
+) -> Tally {
+    if !next_bytes(fd, lines, due.lines) {
+        return tally.with_cut();
+    }
+    tell_lines(due, words);
+    if play_report(due, circuit, log, lines, words) {
+        return tally.with_same();
+    }
+    print_other(b"report ", tally.played);
+    tally.with_other()
+}
+
+// Reads the next report, if there are buffers for it, and plays it.
+fn play_next_report(fd: i32, tally: Tally) -> Tally {
+    let mut head = [0u8; REPORT_HEAD];
+    if !next_bytes(fd, &mut head, REPORT_HEAD) {
+        return tally.with_cut();
+    }
+    let due = ReportDue::of(&head);
+    if ROOM < due.circuit || ROOM < due.log || ROOM < due.report || TOLD < due.told {
+        return tally.with_cut();
+    }
+    let mut circuit = room();
+    let mut log = room();
+    let mut lines = filled_room();
+    let mut words = filled_words();
+    if next_bytes(fd, &mut circuit, due.circuit) && next_bytes(fd, &mut log, due.log) {
+        return play_one_report(
+            fd,
+            tally,
+            due,
+            &circuit[..due.circuit],
+            &log[..due.log],
+            &mut lines[..due.report],
+            &mut words[..due.told],
+        );
+    }
+    tally.with_cut()
+}
+
+// ---- a file
+
+// What it has.
+pub enum Sort {
+    Run,
+    Class,
+    Report,
+}
 
 // Opens a file, which lies in the folder that the program runs in; below 0 where it cannot.
 fn open(name: &[u8]) -> i32 {
@@ -376,27 +471,39 @@ fn open(name: &[u8]) -> i32 {
     fd
 }
 
-fn play_runs() {
-    let fd = open(b"runs.bin");
-    if fd < 0 {
-        return;
+// Plays the next of these.
+fn play_next(fd: i32, sort: Sort, tally: Tally) -> Tally {
+    match sort {
+        Sort::Run => play_next_run(fd, tally),
+        Sort::Class => play_next_class(fd, tally),
+        Sort::Report => play_next_report(fd, tally),
     }
-    let tally = play_all(fd, next_word(fd).value);
-    print_tally(b"run ", tally, b" played, ");
-    libc::close(fd);
 }
 
-fn play_classes() {
-    let fd = open(b"classes.bin");
+// Plays so many, or up to the first that cannot be read whole.
+fn play_all(fd: i32, sort: Sort, count: u64) -> Tally {
+    let mut tally = Tally::new();
+    let mut left = count;
+    while 0 < left && !tally.cut {
+        tally = play_next(fd, sort, tally);
+        left -= 1;
+    }
+    tally
+}
+
+// Plays all of a file; `name` is one of them, and `played` stands behind how many there are.
+fn play_file(file: &[u8], sort: Sort, name: &[u8], played: &[u8]) {
+    let fd = open(file);
     if fd < 0 {
         return;
     }
-    let tally = play_all_classes(fd, next_word(fd).value);
-    print_tally(b"class ", tally, b" classes, ");
+    let tally = play_all(fd, sort, next_word(fd).value);
+    print_tally(name, tally, played);
     libc::close(fd);
 }
 
 fn main() {
-    play_runs();
-    play_classes();
+    play_file(b"runs.bin", Sort::Run, b"run ", b" played, ");
+    play_file(b"classes.bin", Sort::Class, b"class ", b" classes, ");
+    play_file(b"reports.bin", Sort::Report, b"report ", b" reports, ");
 }

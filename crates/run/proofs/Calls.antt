@@ -12,7 +12,7 @@ use Rattle.model.specs.Questions.{queues, circuit-refusal, script-refusal, refu
 use Rattle.model.specs.Run.{Played, most-steps, ticks-of}
 use Rattle.model.specs.Answer.{refused, played, play, answer-to, answer, log-after, area-after}
 use Rattle.model.proofs.Asked.{Accepted, accepted}
-use Rattle.model.proofs.Promises.{promised}
+use Rattle.promises.proofs.Promises.{promised}
 use Rattle.links.specs.Links.{net}
 use Rattle.links.specs.Lent.{least-area}
 use Rattle.circuit.proofs.Order.{asked-early, asked-late}

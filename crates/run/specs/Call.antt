@@ -9,7 +9,7 @@ use Rattle.words.specs.Words.{words}
 use Rattle.model.specs.Circuit.{circuit as circuit-of}
 use Rattle.model.specs.Questions.{Areas, circuit-refusal}
 use Rattle.model.specs.Answer.{Answer, answer, log-after, area-after}
-use Rattle.model.specs.Promises.{Promised}
+use Rattle.promises.specs.Promises.{Promised}
 use Rattle.links.specs.Links.{net}
 
 -- the bytes that a call is lent, as they are when it is made
@@ -46,7 +46,7 @@ pub record Right (k : Call) (l : Left) (Tells : Answer → Type 0) : Type 0 wher
   pub values : l .values ≡ area-after (call-answer k) (k .values)
   pub units : l .units ≡ area-after (call-answer k) (k .units)
   pub delays : l .delays ≡ area-after (call-answer k) (k .delays)
-  -- demands 1 and 3, and document 02, K2 and K13: which numbers are answered, and what holds of the whole run
+  -- demands 1 and 3, and document 02, K2, K3 and K13: which numbers are answered, and what holds of the whole run
   pub promised : Promised (lent k) (length (k .log)) (k .circuit) (k .script)
 
 -- the same of a contract's slices

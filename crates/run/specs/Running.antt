@@ -11,6 +11,7 @@ use Rattle.schedule.specs.Schedule.{run, run-on}
 use Rattle.model.specs.Base.{all, sum}
 use Rattle.model.specs.Kinds.{WorldEvent}
 use Rattle.model.specs.Circuit.{Circuit, part, word-at, kind-of-gate}
+use Rattle.model.specs.Script.{most-ticks}
 use Rattle.model.specs.Questions.{names-constant}
 use Rattle.model.specs.Opening.{start}
 use Rattle.model.specs.Unit.{World}
@@ -65,7 +66,7 @@ Zeroed s = after s ≡ replicate (length (before s)) 0
 
 -- a script that fits the circuit: few ticks, all words there, counts that add up, and stimuli of gates and constants that there are
 pub record Good-script (c : Circuit) (ws : List ℕ) : Type 0 where
-  pub ticks : word-at ws 0 ≤ 100000
+  pub ticks : word-at ws 0 ≤ most-ticks
   pub words : length ws ≡ 2 + 2 * (word-at ws 0 + word-at ws 1)
   pub counts : sum (part ws (2 + word-at ws 0) (word-at ws 0)) ≡ word-at ws 1
   pub gates : all (λ g. eqb (kind-of-gate c g) WorldEvent) (part ws (2 + 2 * word-at ws 0) (word-at ws 1)) ≡ true

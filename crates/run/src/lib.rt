@@ -19,12 +19,11 @@ use crate::clearing::clear;
 use circuit::refusal_lent;
 use circuit::script_refusal;
 use links::layout::CELLS;
+use records::MOST_STEPS;
 use ticks::tick;
 use words::get;
 
 pub mod clearing;
-
-const MOST_STEPS: u64 = 50000000;
 
 // The answer to a call: refused with the number of a question; or played, with the stop, or 0, the ticks done, and how many bytes of the log hold records.
 pub enum Answer {

@@ -55,7 +55,7 @@ module _ (S : Setup) where
       go (inr h) = omega (arith, ap length (h .0), push-length e (q .pending))
 
   -- ---- a tick, and a run
-  tick-limited : {c : List (Activation S)} {t : Tag} {k : Tick S} → Ticked S c t k → Few-units S k
+  pub tick-limited : {c : List (Activation S)} {t : Tag} {k : Tick S} → Ticked S c t k → Few-units S k
   tick-limited {k = k} T =
       let f : Fits (T .m) =
       passes-keep (next-main S) (activate-main S) Fits next-fits activate-fits (T .main)

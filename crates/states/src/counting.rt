@@ -5,11 +5,9 @@ ghost use Rattle.links.specs.Lent.{Linked};
 ghost use Rattle.states.specs.View.{with-changed, counting};
 ghost use Rattle.states.specs.Lent.{Slots-fit, Delays-change, delays-in};
 use crate::slots::CHANGED;
+use records::MOST_CHANGED;
 use words::get;
 use words::put;
-
-// The most that are counted: the words of a log are Ints.
-const MOST_CHANGED: u64 = 0x7fff_ffff_ffff_ffff;
 
 // How many there are.
 pub fn changed(links: &[usize], delays: &[u8]) -> u64

@@ -1,9 +1,8 @@
 -- What a host is told, from the code's answer and from the definition's.
-use Prim.Native.Nat.{ℕ, zero, suc, _+_, _≤_}
+use Prim.Native.Nat.{ℕ, _+_}
 use mathlib.Core.Path.{_≡_, refl, ap, _∙_}
 use mathlib.Core.List.{List, [], _∷_}
-use native.Mathlib.Omega.{arith}
-use lib.ListN.{length, set}
+use lib.ListN.{set}
 use Rattle.model.specs.Answer.{refused, played, number, ticks-done, log-bytes}
 use Rattle.model.specs.Answer as model
 use Rattle.model.specs.Several.{told-of}
@@ -57,12 +56,6 @@ unfolding told-of
 all-told m = λ j. number-told m j ∷ end-told m j
 
 -- ---- words put in their places
-
--- a store past the end changes nothing
-pub set-past : (l : List ℕ) (i v : ℕ) → length l ≤ i → l ≡ set l i v
-set-past [] i v h = refl
-set-past (x ∷ l) zero v h = absurd (omega arith)
-set-past (x ∷ l) (suc i) v h = ap (λ (r : List ℕ). x ∷ r) (set-past l i v (omega arith))
 
 -- two words
 pub puts-two :

@@ -2,10 +2,10 @@
 ghost use mathlib.Core.Path.{_≡_};
 ghost use mathlib.Core.List.{[], _∷_};
 ghost use Prim.Native.Nat.{_≤_};
-ghost use lib.ListN.{set};
 ghost use Rattle.words.specs.Slices.{before, after};
 ghost use Rattle.telling.specs.Numbers.{number-of, ticks-of, bytes-of, put-from, end-of, all-of};
 use run::Answer;
+use words::told::put_at;
 
 // The number of an answer.
 pub fn number_of(a: Answer) -> u64
@@ -34,15 +34,6 @@ fn bytes_of(a: Answer) -> u64
     match a {
         Answer::Refused(_) => 0,
         Answer::Played { bytes, .. } => bytes,
-    }
-}
-
-// Word i becomes v, if there is such a word.
-fn put_at(told: &mut [u64], i: usize, v: u64)
-    ensures { λ _. ⌜ after told ≡ set (before told) i v ⌝ }
-{
-    if i < told.len() {
-        told[i] = v;
     }
 }
 

@@ -7,10 +7,10 @@ ghost use Rattle.links.specs.Lent.{Room};
 ghost use Rattle.units.specs.Lent.{Reads, Changes, Lists-unit};
 use crate::layout::BEGUN;
 use crate::layout::BEGUN_END;
-use crate::layout::MOST_UNITS;
 use lists::Filed;
 use lists::count;
 use lists::stack_push;
+use records::MOST_UNITS;
 
 // The unit of entry x begins, if one more may: it joins the units begun.
 pub fn begin_unit(units: &mut [u8], x: u64) -> Filed

@@ -8,9 +8,9 @@ use crate::layout::CARRIED;
 use crate::layout::DELIVERED;
 use crate::layout::LATE;
 use crate::layout::MOST_DELIVERED;
-use crate::layout::MOST_WAITING;
 use crate::layout::PENDING;
 use lists::count;
+use records::MOST_WAITING;
 
 // How many are pending.
 pub fn pending(units: &[u8]) -> usize

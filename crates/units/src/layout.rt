@@ -1,16 +1,12 @@
 // How the area `units` is laid out: tables of words, one behind the other.
+use records::MOST_UNITS;
+use records::MOST_WAITING;
 
 // The most calls that the chain stack or the forks may hold.
 pub const MOST_CALLS: usize = 256;
 
-// The most that may be pending, late or carried, in each of these lists.
-pub const MOST_WAITING: usize = 256;
-
 // The most delivered events that may wait.
 pub const MOST_DELIVERED: usize = 64;
-
-// The most units that may begin in a tick.
-pub const MOST_UNITS: usize = 1024;
 
 // The most events that a tick may send, one of each gate.
 pub const MOST_EVENTS: usize = 64;

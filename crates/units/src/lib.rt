@@ -4,7 +4,6 @@ pub mod calls;
 pub mod counts;
 pub mod entries;
 pub mod events;
-pub mod forms;
 pub mod layout;
 pub mod raising;
 

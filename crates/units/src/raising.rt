@@ -31,7 +31,6 @@ use crate::layout::HALF;
 use crate::layout::LATE;
 use crate::layout::LATE_COUNT;
 use crate::layout::MOST_DELIVERED;
-use crate::layout::MOST_WAITING;
 use crate::layout::PENDING;
 use crate::layout::PENDING_COUNT;
 use crate::layout::SECOND_COUNT;
@@ -43,6 +42,7 @@ use lists::dequeue;
 use lists::enqueue;
 use lists::stack_pop;
 use lists::stack_push;
+use records::MOST_WAITING;
 use words::get;
 use words::put;
 

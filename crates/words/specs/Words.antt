@@ -3,6 +3,7 @@ use Prim.Native.Nat.{ℕ, zero, suc, _+_, _*_, _/_, _%_}
 use mathlib.Core.List.{List, [], _∷_, _++_}
 use mathlib.Core.Path.{_≡_}
 use lib.ListN.{set}
+use lib.Seq.{sets}
 use lib.IntN.{ℤ}
 use mir.Syntax.{w64}
 use mir.Val.{toZ, ofZ}
@@ -49,6 +50,11 @@ bytes (v ∷ vs) = bytes-of 8 v ++ bytes vs
 pub record Stored (s t : List ℕ) (i v : ℕ) : Type 0 where
   pub words : words t ≡ set (words s) i v
   pub tail : tail t ≡ tail s
+
+-- The bytes `after` are `before` with the words from word p on made xs, and the same elsewhere.
+pub record Filled (before after : List ℕ) (p : ℕ) (xs : List ℕ) : Type 0 where
+  pub words : words after ≡ sets (words before) p xs
+  pub tail : tail after ≡ tail before
 
 -- The signed number that a word stands for: itself below 2 ^ 63, and 2 ^ 64 less from there on.
 abbrev pub signed : ℕ → ℤ

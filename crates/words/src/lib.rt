@@ -7,6 +7,7 @@ ghost use Rattle.words.specs.Slices.{before, after, was};
 
 pub mod counting;
 pub mod rows;
+pub mod told;
 
 // A byte as a word.
 fn wide(x: u8) -> u64

@@ -6,12 +6,14 @@
 //! `check` and `run`, and of a log its length and a number made of its words.
 //! A class has a book in place of the script, and one thing more, the words lent
 //! for what is told; its answer has the number of the call and one made of all
-//! that it leaves.
+//! that it leaves. A report is `report` behind its name, what is named, the bytes
+//! and the words lent, and the bytes of circuit and log; its answer is likewise.
 
 use std::io::{BufRead, BufReader, Write};
 use std::panic::catch_unwind;
 
 use oracle::class::{Held, call};
+use oracle::hours::{self, Named};
 use oracle::{Answer, Lent, check, run};
 
 /// An answer of more words, or with more steps in its first tick, is slow.
@@ -38,6 +40,9 @@ fn main() {
 
 fn in_short(case: &str) -> String {
     let parts: Vec<&str> = case.split('\t').collect();
+    if parts[0] == "report" {
+        return report_in_short(&parts[1..]);
+    }
     let [log, values, units, delays] = [0, 1, 2, 3].map(|at| parts[at].parse().expect("a size"));
     let lent = Lent { log, values, units, delays };
     let (circuit, script) = (bytes(parts[4]), bytes(parts[5]));
@@ -68,6 +73,18 @@ fn class_in_short(circuit: &[u8], book: &[u8], lent: &Lent, told: usize) -> Stri
     let parts = [left.log, left.values, left.units, left.delays, told];
     let hashes = parts.map(|bytes| format!("{:016x}", hash_of_bytes(bytes.into_iter())));
     format!("{speed}\t{number} {}", hashes.join(" "))
+}
+
+/// What is lent holds 165 in each byte.
+fn report_in_short(parts: &[&str]) -> String {
+    let [driver, activity, length] = [0, 1, 2].map(|at| parts[at].parse().expect("a word"));
+    let [room, told] = [3, 4].map(|at| parts[at].parse().expect("a size"));
+    let (circuit, log) = (bytes(parts[5]), bytes(parts[6]));
+    let before = hours::Held::filled(room, told, 165);
+    let (number, left) = hours::call(&circuit, &log, &Named { driver, activity, length }, before);
+    let speed = if log.len() > 8 * MANY_WORDS { "slow" } else { "quick" };
+    let told = hash_of_bytes(left.told.iter().flat_map(|word| word.to_le_bytes()));
+    format!("{speed}\t{number} {:016x} {told:016x}", hash_of_bytes(left.report.into_iter()))
 }
 
 fn bytes(hexadecimal: &str) -> Vec<u8> {

@@ -55,8 +55,9 @@ fn write(vectors: &Path, target: &Path) -> std::io::Result<String> {
         .collect::<Result<_, _>>()?;
     let cases: Vec<Case> = texts.iter().flat_map(|text| cases(text)).collect();
     let kept: Vec<&Case> = cases.iter().filter(|case| case.fits()).collect();
-    let (classes, kept): (Vec<&Case>, Vec<&Case>) = kept.into_iter().partition(|case| case.is_class);
-    let refusals = kept.iter().filter(|case| case.get("refused").is_some()).count();
+    let of = |sort: Sort| -> Vec<&Case> { kept.iter().copied().filter(|case| case.sort == sort).collect() };
+    let (runs, classes, reports) = (of(Sort::Run), of(Sort::Class), of(Sort::Report));
+    let refusals = runs.iter().filter(|case| case.get("refused").is_some()).count();
 
     let specs = target.join("specs");
     std::fs::create_dir_all(&specs)?;
@@ -64,23 +65,45 @@ fn write(vectors: &Path, target: &Path) -> std::io::Result<String> {
     std::fs::write(target.join("src/lib.rt"), "// Theorems alone: see specs/.\n")?;
     std::fs::write(specs.join("Left.antt"), LEFT)?;
     let mut root = String::from("pub mod Left\n");
-    for (name, head, cases) in [("Part", HEAD_OF_RUNS, &kept), ("Class", HEAD_OF_CLASSES, &classes)] {
+    let parts =
+        [("Part", HEAD_OF_RUNS, &runs), ("Class", HEAD_OF_CLASSES, &classes), ("Report", HEAD_OF_REPORTS, &reports)];
+    for (name, head, cases) in parts {
         for (n, chunk) in cases.chunks(THEOREMS_A_MODULE).enumerate() {
             let _ = writeln!(root, "pub mod {name}{n}");
             std::fs::write(specs.join(format!("{name}{n}.antt")), module(head, chunk))?;
         }
     }
     std::fs::write(specs.join("Lib.antt"), root)?;
-    let (runs, classes) = (kept.len() - refusals, classes.len());
-    let left_out = cases.len() - kept.len() - classes;
-    Ok(format!("{runs} runs, {refusals} refusals and {classes} classes as theorems, {left_out} left out as too long"))
+    let (runs, classes, reports) = (runs.len() - refusals, classes.len(), reports.len());
+    let left_out = cases.len() - kept.len();
+    Ok(format!(
+        "{runs} runs, {refusals} refusals, {classes} classes and {reports} reports as theorems, {left_out} left out as too long"
+    ))
 }
 
-/// A case of a vector file, or a class: its name, and its lines, each a word and
-/// the rest.
+/// What a vector file has.
+#[derive(Clone, Copy, PartialEq, Eq)]
+enum Sort {
+    Run,
+    Class,
+    Report,
+}
+
+/// By the word that its first line begins with.
+fn sort(word: &str) -> Option<Sort> {
+    match word {
+        "case" => Some(Sort::Run),
+        "class" => Some(Sort::Class),
+        "report" => Some(Sort::Report),
+        _ => None,
+    }
+}
+
+/// A case of a vector file, a class or a report: its name, and its lines, each a
+/// word and the rest.
 struct Case<'a> {
     name: &'a str,
-    is_class: bool,
+    sort: Sort,
     lines: Vec<(&'a str, &'a str)>,
 }
 
@@ -88,10 +111,10 @@ fn cases(text: &str) -> Vec<Case<'_>> {
     let mut cases: Vec<Case> = Vec::new();
     for line in text.lines() {
         let (word, rest) = line.split_once(' ').unwrap_or((line, ""));
-        match (word, cases.last_mut()) {
-            ("case" | "class", _) => cases.push(Case { name: rest, is_class: word == "class", lines: Vec::new() }),
-            (_, Some(case)) => case.lines.push((word, rest)),
-            (_, None) => {}
+        match (sort(word), cases.last_mut()) {
+            (Some(sort), _) => cases.push(Case { name: rest, sort, lines: Vec::new() }),
+            (None, Some(case)) => case.lines.push((word, rest)),
+            (None, None) => {}
         }
     }
     cases
@@ -109,10 +132,15 @@ impl Case<'_> {
         !summed && (refused || self.is_short())
     }
 
-    /// All its scripts together, those that are refused left out.
+    /// All its scripts together, those that are refused left out. A report has
+    /// none: no log that is given whole is too long.
     fn is_short(&self) -> bool {
         let circuit = self.raw("circuit");
-        let scripts = if self.is_class { self.scripts() } else { vec![self.raw("script")] };
+        let scripts = match self.sort {
+            Sort::Run => vec![self.raw("script")],
+            Sort::Class => self.scripts(),
+            Sort::Report => Vec::new(),
+        };
         let efforts = scripts.iter().filter_map(|script| effort(&circuit, script));
         let (words, work) = efforts.fold((0, 0), |sum, one| (sum.0 + one.0, sum.1 + one.1));
         words <= MOST_WORDS && work <= MOST_WORK
@@ -131,7 +159,7 @@ impl Case<'_> {
         spans.filter_map(inside).collect()
     }
 
-    /// The bytes of circuit, script or book.
+    /// The bytes of circuit, script, book or log.
     fn raw(&self, name: &str) -> Vec<u8> {
         match self.get(&format!("{name}-bytes")) {
             Some(digits) => digits.as_bytes().chunks(2).map(byte).collect(),
@@ -140,8 +168,12 @@ impl Case<'_> {
     }
 
     fn theorem(&self, n: usize) -> String {
-        let (name, stated) = (self.name, if self.is_class { self.class() } else { self.run() });
-        let opened = if self.is_class { "left-opened" } else { "model-opened" };
+        let name = self.name;
+        let (stated, opened) = match self.sort {
+            Sort::Run => (self.run(), "model-opened"),
+            Sort::Class => (self.class(), "left-opened"),
+            Sort::Report => (self.report(), "model-opened whole-opened records-opened reply-opened hours-opened"),
+        };
         format!("-- {name}\nrow-{n} :\n    {stated}\nunfolding {opened}\nrow-{n} = refl\n")
     }
 
@@ -189,6 +221,18 @@ impl Case<'_> {
             told as usize - words.len(),
             self.log_after(log as usize),
         )
+    }
+
+    /// What the call for a report answers, with the bytes lent for it.
+    fn report(&self) -> String {
+        let asked: Vec<u64> = bits(self.get("asked").unwrap_or("")).collect();
+        let [driver, activity, length, room, _] = asked[..] else { panic!("{}: asked {asked:?}", self.name) };
+        let answer = match self.get("refused") {
+            Some(number) => format!("refused {number}"),
+            None => format!("writes {}", self.bytes("lines")),
+        };
+        let (circuit, log) = (self.bytes("circuit"), self.bytes("log"));
+        format!("hours {circuit} {log} {driver} {activity} {length} {room}\n    ≡ {answer}")
     }
 
     /// The answers of a class's scripts: the words of its log, and how it ended,
@@ -309,6 +353,17 @@ use Rattle.model.specs.Questions.{Areas}
 use Rattle.model.specs.Answer.{Answer, refused, played}
 use Rattle.model.specs.Several.{Several, turned-away, answered}
 use Rattle.compare.specs.Left.{Left, left, left-opened}
+";
+
+const HEAD_OF_REPORTS: &str = "use mathlib.Core.Path.{_≡_, refl}
+use mathlib.Core.List.{List, [], _∷_}
+use Prim.Native.Nat.{ℕ}
+use Rattle.words.specs.Words.{bytes}
+use Rattle.model.specs.Answer.{model-opened}
+use Rattle.records.specs.Whole.{whole-opened}
+use Rattle.records.specs.Records.{records-opened}
+use Rattle.records.specs.Reply.{Reply, refused, writes, reply-opened}
+use Rattle.hours.specs.Hours.{hours, hours-opened}
 ";
 
 /// What a class comes to and leaves of a log, areas and words that hold the

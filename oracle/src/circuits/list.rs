@@ -1,7 +1,7 @@
 //! docs/CIRCUITS.md, written from the list of the stated circuits.
 
 use super::places::{HELD_OTHERWISE, PLACES};
-use super::{Case, Group, classes, groups};
+use super::{Case, Group, classes, groups, reports};
 use crate::generate::stated_families;
 
 /// The text of docs/CIRCUITS.md.
@@ -13,6 +13,7 @@ pub fn document() -> String {
         text += &if group.name == "families" { families(group) } else { table(&group.cases) };
     }
     text += &format!("{CLASSES_INTRODUCTION}{}", class_table());
+    text += &format!("{REPORTS_INTRODUCTION}{}", report_table());
     text += PLACES_INTRODUCTION;
     for (place, number) in PLACES.into_iter().zip(1..) {
         text += &format!("{number}. {place} {}\n", told(&groups, number));
@@ -24,8 +25,8 @@ const INTRODUCTION: &str = "# The stated circuits
 
 Every circuit and script that the player and the source are compared on, with what each shows. This page is
 written from the list in `oracle/src/circuits` (`oracle circuits > docs/CIRCUITS.md`), and a test holds it to
-that list. `oracle circuits NAME DIR` writes one as `circuit.bin` and `script.bin`, or a class as `circuit.bin`
-and `book.bin`; `vectors/` holds the answers.
+that list. `oracle circuits NAME DIR` writes one as `circuit.bin` and `script.bin`, a class as `circuit.bin` and
+`book.bin`, or a report as `circuit.bin` and `log.bin`; `vectors/` holds the answers.
 ";
 
 const CLASSES_INTRODUCTION: &str = "\n## Classes
@@ -33,6 +34,14 @@ const CLASSES_INTRODUCTION: &str = "\n## Classes
 Books of scripts, each over one circuit in one call: their counts and arrays, the order of the questions, spans,
 parts of the log, what is refused or stopped, what is left, and what is told (document 02, K1). Most are over
 the circuit of `toggle`.
+
+";
+
+const REPORTS_INTRODUCTION: &str = "\n## Reports
+
+Finished logs, each with the outputs and the length that are named of it: the order of the questions, whole records
+of a circuit clause by clause, what is named, whose ticks are, minutes, the room, and what is told (document 02, K3).
+Most are over a circuit of two Vars, a ChangeDetector and a World, and no run wrote them.
 
 ";
 
@@ -55,20 +64,32 @@ fn table(cases: &[Case]) -> String {
     text
 }
 
-/// The random ones have one row.
 fn class_table() -> String {
-    let mut text = String::from("| class | shows |\n|---|---|\n");
-    let (random, stated): (Vec<_>, Vec<_>) =
-        classes().into_iter().partition(|class| class.name.starts_with("random-"));
-    for class in stated {
-        text += &format!("| {} | {} |\n", class.name, class.shows);
+    let rows = classes().into_iter().map(|class| (class.name, class.shows)).collect();
+    listed("class", rows, RANDOM_CLASSES)
+}
+
+fn report_table() -> String {
+    let rows = reports().into_iter().map(|report| (report.name, report.shows)).collect();
+    listed("report", rows, RANDOM_REPORTS)
+}
+
+/// Names and what they show. The random ones have one row.
+fn listed(what: &str, rows: Vec<(String, String)>, of_random: &str) -> String {
+    let mut text = format!("| {what} | shows |\n|---|---|\n");
+    let (random, stated): (Vec<_>, Vec<_>) = rows.into_iter().partition(|row| row.0.starts_with("random-"));
+    for (name, shows) in stated {
+        text += &format!("| {name} | {shows} |\n");
     }
-    let [first, .., last] = &random[..] else { panic!("random classes") };
-    text + &format!("| {} to {} | {RANDOM_CLASSES} |\n", first.name, last.name)
+    let [first, .., last] = &random[..] else { panic!("random ones") };
+    text + &format!("| {} to {} | {of_random} |\n", first.0, last.0)
 }
 
 const RANDOM_CLASSES: &str = "Circuits of every family with books of 0 to 17 scripts, made for them, cut short, damaged or \
      another circuit's, at any byte, with spans that stray and logs of any length";
+
+const RANDOM_REPORTS: &str = "Logs of random circuits of every family, as they are or with other drivers and activities, \
+     whole or damaged, with outputs and lengths named well and badly";
 
 /// One row a family: its circuits differ in their seeds alone.
 fn families(group: &Group) -> String {

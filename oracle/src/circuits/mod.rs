@@ -12,14 +12,16 @@ mod narrowed;
 mod places;
 mod played;
 mod questions;
+mod reports;
 mod start;
 mod traps;
 mod vehicles;
 
-pub use crate::case::{Case, Class};
+pub use crate::case::{Case, Class, Report};
 pub use classes::classes;
 pub use list::document;
 pub use places::{HELD_OTHERWISE, PLACES};
+pub use reports::reports;
 
 /// The cases of one file, in order.
 pub struct Group {

@@ -8,10 +8,10 @@ use Rattle.replay.proofs.play_next.Reads as play-next-reads
 use Rattle.replay.proofs.tally.Tally.new.Reads as new-reads
 
 abbrev Inv-loop : tie.InvT-loop
-Inv-loop fd runs tally₀ left₀ tally left = Unit {0}
+Inv-loop fd sort count tally₀ left₀ tally left = Unit {0}
 
 abbrev μ-loop : tie.MeasureT-loop
-μ-loop fd runs tally₀ left₀ tally left = left
+μ-loop fd sort count tally₀ left₀ tally left = left
 
 new-requires : tie.Need-new-requires Inv-loop μ-loop
 new-requires c κs = search needs
