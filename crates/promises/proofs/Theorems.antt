@@ -23,7 +23,7 @@ use Rattle.records.specs.Records.{records-in, records, log-words}
 use Rattle.records.specs.Whole.{whole-from, whole, log-refusal}
 use Rattle.records.specs.Good.{Good-log}
 use Rattle.records.proofs.Good.{good-whole}
-use Rattle.promises.specs.Logged.{Whole-log, Every-log-whole, Every-limited-log-whole}
+use Rattle.promises.specs.Logged.{Whole-records, Every-log-whole, Every-limited-log-whole}
 use Rattle.promises.proofs.Values.{as-word}
 use Rattle.promises.proofs.Logs.{run-logged}
 use Rattle.promises.proofs.Circuits.{shaped, script-gets, script-most}
@@ -86,9 +86,9 @@ pub every-log-whole : Every-log-whole
 unfolding answer answer-to play log-refusal or-else if_then_else_
 every-log-whole areas room cb sb p lc ls e = go (refusal (some areas) cb sb) refl e
   where
-    go : (n : ℕ) → refusal (some areas) cb sb ≡ n → answer-to n room cb sb ≡ played p → (log-refusal cb (bytes (p .log)) ≡ 0) × Whole-log (circuit (words cb)) (bytes (p .log))
+    go : (n : ℕ) → refusal (some areas) cb sb ≡ n → answer-to n room cb sb ≡ played p → (log-refusal cb (bytes (p .log)) ≡ 0) × Whole-records (circuit (words cb)) (bytes (p .log))
     go zero h e =
         let q : play room (circuit (words cb)) (words sb) ≡ p = cc in
         let w = limited-whole areas room most-steps cb sb lc ls (omega arith) h in
-        subst (λ (x : Played). (log-refusal cb (bytes (x .log)) ≡ 0) × Whole-log (circuit (words cb)) (bytes (x .log))) q (rw (circuit-asked areas cb sb h, w .whole), w)
+        subst (λ (x : Played). (log-refusal cb (bytes (x .log)) ≡ 0) × Whole-records (circuit (words cb)) (bytes (x .log))) q (rw (circuit-asked areas cb sb h, w .whole), w)
     go (suc n) h e = let z : _≡_ {A = ℕ} 0 1 = cc in absurd (omega (arith, z))

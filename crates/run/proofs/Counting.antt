@@ -15,7 +15,7 @@ use Rattle.model.specs.Script.{Given}
 use Rattle.model.specs.State.{Wires, State, Delay, Act, Send, outs≔, dirty≔, to-check≔, late-checks≔, times≔, last≔, pulses≔, written≔, written-outside≔, unions-passed≔, breaking≔, runs-left≔, wires≔, delays≔, outbox≔, changed≔}
 use Rattle.model.specs.Wires.{show, soil, clean, watch, recompute, refresh-all, ready, mark-readers-for, mark-readers, invalidate, set-out, set-outs}
 use Rattle.model.specs.Delays.{Started}
-use Rattle.model.specs.Exec.{count-changed, Stepped, fires-next, ends, delay≔, set-output, readied, write-once, record-write, exec-Buffer, exec-Stopwatch, exec-Queue, exec-VarGet, exec-VarSet, exec-Branch, exec-Union, exec-Toggle, exec-Cycle, exec-SendEvent, exec-Break, exec-kind, exec-gate}
+use Rattle.model.specs.Exec.{count-changed, Stepped, fires-next, ends, delay≔, set-output, readied, write-once, record-write, exec-Buffer, exec-Stopwatch, exec-Queue, exec-VarGet, exec-VarSet, exec-Branch, exec-Union, exec-Toggle, exec-Cycle, exec-SendEvent}
 use Rattle.model.specs.Chain.{Calls, Chained}
 use Rattle.model.specs.Loops.{no-unions, unions-of, runs-left-to, break-set, show-loop, run-chain}
 use Rattle.model.specs.Settle.{Settled, calm, raise, taken, none-written, publish-write, publish-writes, pulse, compared, check, check-on, settle}
@@ -25,7 +25,7 @@ use Rattle.model.specs.Closing.{read-outputs, write, close}
 use Rattle.model.specs.Run.{Allowed, opening, body, closing, machine}
 use Rattle.model.proofs.Lists.{all-pass, if-both, each-keeps, map-all}
 use Rattle.model.proofs.Checks.{detect-keeps}
-use Rattle.model.proofs.Running.{Steps-keep, run-chain-keeps}
+use Rattle.model.proofs.Running.{Steps-keep, run-chain-keeps, Kinds-keep, exec-gate-keeps}
 use Rattle.model.proofs.Walks.{check-on-keeps, Opened-keeps, open-tick-keeps}
 use Rattle.model.proofs.Sized.{refresh-all-keeps, ready-keeps, mark-readers-for-keeps, mark-readers-keeps, set-out-keeps, set-outs-keeps}
 
@@ -184,25 +184,22 @@ module _ (c : Circuit) (n : ℕ) where
   unfolding exec-SendEvent fires-next
   SendEvent-at s g z = if-both (State-at n) _ (readied-at g 2 8 z) (outbox-at _ (readied-at g 2 8 z))
 
-  exec-kind-at : (inside : Bool) (k : ℕ) (s : State) (g p : ℕ) → State-at n s → Stepped-at (exec-kind c inside k s g p)
-  unfolding exec-kind fires-next ends exec-VarGet exec-Branch exec-Toggle exec-Cycle exec-Break
-  exec-kind-at inside k s g p z =
-      if-both Stepped-at _ z
-      (if-both Stepped-at _ (Buffer-at s g z)
-      (if-both Stepped-at _ (Stopwatch-at s g p z)
-      (if-both Stepped-at _ (Queue-at s g _ z)
-      (if-both Stepped-at _ (Queue-at s g _ z)
-      (if-both Stepped-at _ (set-output-at _ _ z)
-      (if-both Stepped-at _ (VarSet-at inside s g z)
-      (if-both Stepped-at _ (readied-at _ _ _ z)
-      (if-both Stepped-at _ (Union-at s g z)
-      (if-both Stepped-at _ (set-output-at _ _ z)
-      (if-both Stepped-at _ (set-output-at _ _ (readied-at _ _ _ z))
-      (if-both Stepped-at _ (SendEvent-at s g z) (if-both Stepped-at _ (wires-at z (break-at true (z .wires))) z))))))))))))
-
-  exec-gate-at : (inside : Bool) (s : State) (i : ℕ) → State-at n s → Stepped-at (exec-gate c inside s i)
-  unfolding exec-gate
-  exec-gate-at inside s i z = exec-kind-at inside _ s _ _ z
+  kinds-at : Kinds-keep c (State-at n)
+  unfolding fires-next exec-VarGet exec-Branch exec-Toggle exec-Cycle break-set
+  kinds-at =
+      record {
+        Buffer = Buffer-at;
+        Stopwatch = λ s g p k z. Stopwatch-at s g p z;
+        Queue = Queue-at;
+        VarGet = λ s g k z. set-output-at _ _ z;
+        VarSet = λ inside s g e z. VarSet-at inside s g z;
+        Branch = λ s g z. readied-at _ _ _ z;
+        Union = Union-at;
+        Toggle = λ s g k z. set-output-at _ _ z;
+        Cycle = λ s g p k z. set-output-at _ _ (readied-at _ _ _ z);
+        SendEvent = λ s g e z. SendEvent-at s g z;
+        Break = λ s z. wires-at z (break-at true (z .wires));
+      }
 
   -- ---- a chain, and the Loops that it runs
 
@@ -210,7 +207,7 @@ module _ (c : Circuit) (n : ℕ) where
   unfolding no-unions unions-of runs-left-to break-set show-loop
   steps-at =
       record {
-        step = λ inside m s i z. exec-gate-at inside s i z;
+        step = λ inside m s i z. exec-gate-keeps c (State-at n) kinds-at inside s i z;
         loop-step = λ m s z. z;
         inputs-read = λ m s g z. readied-at g 1 3 z;
         broken = λ m s b z. wires-at z (break-at b (z .wires));
