@@ -5,11 +5,14 @@
 //!
 //! `cargo run --offline --release --example check_cost`
 
+mod largest;
+
 use std::hint::black_box;
 use std::time::{Duration, Instant};
 
 use hazhirun_host::check;
-use oracle::build::{Circuit, Gate, NOTHING, QUEUE_TICKS, SEND_EVENT, Script};
+use largest::largest;
+use oracle::build::{Circuit, Gate, NOTHING, Script};
 use oracle::circuits;
 
 const ROUNDS: usize = 15;
@@ -27,35 +30,6 @@ fn main() {
     let coach = coach.expect("a stated circuit");
     row("a coach, no tick", &coach.circuit, &Script::new().bytes());
     row("a coach, 5,040 ticks", &coach.circuit, &coach.script);
-}
-
-/// The largest circuit there is: eight Queues, SendEvents fed by them, and
-/// `worlds` WorldEvents, which have no inputs. Two stimuli of three ticks each
-/// go to a World.
-fn largest(worlds: usize, ticks: usize) -> (Circuit, Script) {
-    let mut c = Circuit::new();
-    let worlds: Vec<Gate> = (0..worlds).map(|_| c.world_event(0)).collect();
-    let queues: Vec<Gate> = (0..8).map(|k| c.gate(QUEUE_TICKS, k)).collect();
-    let sends: Vec<Gate> = (0..56 - worlds.len()).map(|k| c.gate(SEND_EVENT, k as i64)).collect();
-    for (k, &send) in sends.iter().enumerate() {
-        c.feed(send.pin("channel"), k as i64);
-        for data in 1..=8 {
-            let from = queues[k % 8].out(&format!("DataOut{data}"));
-            c.feed(send.pin(&format!("DataIn{data}")), from);
-        }
-    }
-    for k in 0..256 {
-        let from = queues[k % 8].exit();
-        c.call(from, sends[k % sends.len()]);
-    }
-    let mut s = Script::new();
-    for t in 0..ticks {
-        s.tick(0.25);
-        if t % 3 != 0 {
-            s.give(worlds[0], 1);
-        }
-    }
-    (c, s)
 }
 
 /// Reroutes of which each reads the next one, so that the last is the first in

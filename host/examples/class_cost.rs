@@ -6,15 +6,17 @@
 //! that counts their instructions.
 
 mod common;
+mod scripts;
 
 use std::cell::RefCell;
 use std::hint::black_box;
 
-use common::{first_ticks, least};
+use common::least;
 use hazhirun_host::{Answer, ClassAnswer, book, class, run};
 use oracle::Lent;
 use oracle::circuits::{self, Case};
 use oracle::class::records;
+use scripts::first_ticks;
 
 const SCRIPTS: usize = 16;
 

@@ -7,14 +7,16 @@
 //! for a tool that counts its instructions; `hours_cost TICKS 32` with 32 drivers.
 
 mod common;
+mod scripts;
 
 use std::hint::black_box;
 
-use common::{first_ticks, least};
+use common::least;
 use hazhirun_host::{Answer, REPORT_BYTES, hours_into, run};
 use oracle::build::{Circuit, NOTHING, bytes_of};
 use oracle::circuits::{self, Case};
 use oracle::hours::{self as theirs, Named};
+use scripts::first_ticks;
 
 /// The most ticks of a log.
 const TICKS: usize = 100_000;

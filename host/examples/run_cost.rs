@@ -5,15 +5,17 @@
 //! with them; and on Loops: `cargo run --offline --release --example run_cost`.
 
 mod common;
+mod scripts;
 
 use std::hint::black_box;
 use std::time::Duration;
 
-use common::{first_ticks, least};
+use common::least;
 use hazhirun_host::{Answer, run};
 use oracle::build::{Circuit, Script};
 use oracle::circuits::{self, Case};
 use oracle::{Lent, play, questions};
+use scripts::first_ticks;
 
 /// The bytes lent for the log.
 const LOG: usize = 1 << 26;

@@ -140,6 +140,8 @@ pub fn text(number: u64) -> &'static str {
         17 => "the driver or the activity is no value output, or a tick is not 1 to 60,000 ms long",
         18 => "the report does not fit, or there are more than 32 drivers",
         19 => "a call leaves its body, a Loop has no entry of its own, or bodies form a ring",
+        23 => "the calls form a ring, or the circuit has a Loop",
+        24 => "there are more than 100,000 ticks",
         _ => "no such number",
     }
 }

@@ -9,6 +9,7 @@
 
 mod changed;
 mod common;
+mod played;
 
 use std::env;
 
@@ -16,12 +17,12 @@ use changed::{Due, Shape, changes, log_of, records};
 use common::{format_words, garbage};
 use hazhirun_host::{
     Answer, ClassAnswer, HoursError, REPORT_BYTES, Report, Spent, class, hours, hours_into, parts,
-    run,
 };
 use oracle::build::{Circuit, NOTHING, Record};
 use oracle::circuits::{self, Case};
 use oracle::generate::{self, FAMILIES, valid};
 use oracle::hours::{self as theirs, Held, Named};
+use played::log_of_run;
 
 unsafe extern "C" {
     fn hazhirun_hours(
@@ -237,20 +238,6 @@ fn random_ones() {
         counts.reports_with(1) > calls() / 50 && counts.unassigned > calls() / 20,
         "{counts:?}"
     );
-}
-
-/// The log that a case's run writes, cut to the bytes told, if it is played.
-fn log_of_run(case: &Case) -> Option<Vec<u8>> {
-    let mut log = vec![0; case.lent.log];
-    let [mut values, mut units, mut delays] =
-        [case.lent.values, case.lent.units, case.lent.delays].map(|length| vec![0; length]);
-    match run(&case.circuit, &case.script, &mut log, &mut values, &mut units, &mut delays) {
-        Answer::Refused(_) => None,
-        Answer::Played { bytes, .. } => {
-            log.truncate(bytes);
-            Some(log)
-        }
-    }
 }
 
 /// What may be named of records: the first and the last of the value outputs that

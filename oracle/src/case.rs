@@ -4,6 +4,7 @@ use crate::Lent;
 use crate::build::{Circuit, Script, bytes_of};
 use crate::class::{ClassAnswer, Held, call, class};
 use crate::hours::{self, Named};
+use crate::size::{self, Figures};
 
 /// A circuit with its script and the bytes lent for it.
 #[derive(Clone, Debug)]
@@ -133,5 +134,35 @@ impl Report {
     pub fn call(&self, byte: u8) -> (u8, hours::Held) {
         let before = hours::Held::filled(self.room, self.told, byte);
         hours::call(&self.circuit, &self.log, &self.named, before)
+    }
+}
+
+/// A circuit with so many ticks, and the words lent for both figures.
+#[derive(Clone, Debug)]
+pub struct Size {
+    pub name: String,
+    pub shows: String,
+    pub circuit: Vec<u8>,
+    pub ticks: u64,
+    /// Words lent for what is told.
+    pub told: usize,
+}
+
+impl Size {
+    /// A size for ten ticks, with a word more than is told.
+    pub fn new(name: impl Into<String>, shows: impl Into<String>, circuit: Vec<u8>) -> Self {
+        let (name, shows) = (name.into(), shows.into());
+        Size { name, shows, circuit, ticks: 10, told: 3 }
+    }
+
+    /// Both figures, or the number of the refusal.
+    pub fn answer(&self) -> Result<Figures, u8> {
+        size::size(&self.circuit, self.ticks)
+    }
+
+    /// The number answered, and what is left of words that had this byte
+    /// everywhere.
+    pub fn call(&self, byte: u8) -> (u8, Vec<u64>) {
+        size::call(&self.circuit, self.ticks, vec![u64::from_le_bytes([byte; 8]); self.told])
     }
 }

@@ -16,10 +16,7 @@
 use crate::Answer;
 use crate::circuits::{self, Class};
 use crate::class::{self, ClassAnswer};
-use crate::runs::{DELAYS, ROOM, filled, word};
-
-/// What the program has room for of words told.
-pub const TOLD: usize = 64;
+use crate::runs::{DELAYS, ROOM, TOLD, filled, word};
 
 /// The classes that are packed, and the names of those that are left out.
 pub struct Classes {

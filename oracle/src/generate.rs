@@ -1,5 +1,6 @@
 //! Circuits and scripts from a seed: valid ones of several families, and
-//! damaged ones for every question. Books of scripts; logs to report on.
+//! damaged ones for every question. Books of scripts; logs to report on; circuits
+//! with many calls.
 
 mod book;
 mod damaged;
@@ -7,6 +8,7 @@ mod family;
 mod looped;
 mod random;
 mod report;
+mod size;
 mod valid;
 
 pub use book::book;
@@ -14,4 +16,5 @@ pub use damaged::{ASKED, Damaged, damaged, damaged_loops};
 pub use family::{FAMILIES, Family, WITH_LOOPS, stated_families};
 pub use random::Random;
 pub use report::report;
+pub use size::size;
 pub use valid::valid;

@@ -10,7 +10,7 @@ mod semantics;
 pub use source::{Dt, SimError, SimOptions, graph, machine, value, world};
 
 // Document 01: its bytes, its questions, its run. Document 02: its class, its
-// report of hours.
+// report of hours, its two figures.
 pub mod circuit;
 pub mod class;
 pub mod graph_of;
@@ -20,11 +20,12 @@ pub mod play;
 pub mod print;
 pub mod questions;
 pub mod script;
+pub mod size;
 pub mod whole;
 pub mod words;
 
 // The stated circuits (build, case, generate, circuits, vectors, pack, runs,
-// classes, reports):
+// classes, reports, sizes):
 pub mod build;
 pub mod case;
 pub mod circuits;
@@ -33,6 +34,7 @@ pub mod generate;
 pub mod pack;
 pub mod reports;
 pub mod runs;
+pub mod sizes;
 pub mod vectors;
 
 /// How many bytes are lent for the log and for the three areas.

@@ -1,5 +1,6 @@
-//! The limits of document 01 (stop 12), the units begun in a tick, and the
-//! narrowings that changed their number (document 02, K9).
+//! The limits of document 01 (stop 12), the units begun in a tick with the steps
+//! that each caused (document 02, K12), and the narrowings that changed their
+//! number (K9).
 
 use std::cell::Cell;
 
@@ -29,6 +30,8 @@ pub(super) struct Tally {
     pub(super) stack: usize,
     /// Gate and form of each unit begun, in the order begun.
     pub(super) begun: Vec<(GateId, u16)>,
+    /// The steps of the tick when each of them began.
+    pub(super) begun_at: Vec<u64>,
     /// How many of them the late pass began.
     pub(super) late_units: usize,
     /// A list would have passed its limit.
@@ -44,6 +47,7 @@ impl Tally {
     pub(super) fn next_tick(&mut self) {
         self.stack = 0;
         self.begun.clear();
+        self.begun_at.clear();
         self.late_units = 0;
         self.changed.set(0);
     }
@@ -92,6 +96,7 @@ impl Machine {
     pub(super) fn begin(&mut self, g: GateId, act: &Activation) -> Result<(), SimError> {
         if self.tally.room(self.tally.begun.len(), UNITS) {
             self.tally.begun.push((g, form(act)));
+            self.tally.begun_at.push(self.steps);
             self.tally.late_units += usize::from(self.in_late);
             self.look_first();
         }

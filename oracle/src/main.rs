@@ -19,6 +19,7 @@ oracle pack FILE
 oracle pack runs FILE
 oracle pack classes FILE
 oracle pack reports FILE
+oracle pack sizes FILE
 oracle mutants [NAME..]";
 
 fn main() -> ExitCode {
@@ -80,6 +81,12 @@ fn pack(words: &[&str]) -> Option<()> {
             std::fs::write(file, oracle::reports::pack(&reports)).ok()?;
             print!("{}", oracle::reports::printed(&reports));
             eprintln!("left out: {}", reports.left_out.join(", "));
+        }
+        ["sizes", file] => {
+            let sizes = oracle::sizes::sizes();
+            std::fs::write(file, oracle::sizes::pack(&sizes)).ok()?;
+            print!("{}", oracle::sizes::printed(&sizes));
+            eprintln!("left out: {}", sizes.left_out.join(", "));
         }
         _ => return None,
     }

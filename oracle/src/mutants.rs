@@ -1,5 +1,5 @@
 //! Breaks the oracle in one place at a time (mutants.txt) and says which
-//! stated circuits, classes and reports tell it: whose answer is not the unbroken oracle's.
+//! stated circuits, classes, reports and sizes tell it: whose answer is not the unbroken oracle's.
 
 use std::fmt::Write;
 use std::io::{BufRead, BufReader};
@@ -9,7 +9,7 @@ use std::sync::mpsc;
 use std::time::Duration;
 
 use oracle::Lent;
-use oracle::circuits::{self, Case, Class, Report};
+use oracle::circuits::{self, Case, Class, Report, Size};
 use oracle::reports;
 
 /// The longest a broken oracle may take over a circuit.
@@ -124,7 +124,7 @@ impl Mutant {
 struct Scratch(PathBuf);
 
 /// What goes from the copy: modules of lib.rs.
-const STATED: [&str; 9] = [
+const STATED: [&str; 10] = [
     "pub mod build;",
     "pub mod case;",
     "pub mod circuits;",
@@ -133,6 +133,7 @@ const STATED: [&str; 9] = [
     "pub mod pack;",
     "pub mod reports;",
     "pub mod runs;",
+    "pub mod sizes;",
     "pub mod vectors;",
 ];
 
@@ -180,6 +181,7 @@ impl Scratch {
         let mut cases: Vec<String> = circuits::all().iter().map(line_of).collect();
         cases.extend(circuits::classes().iter().map(line_of_class));
         cases.extend(circuits::reports().iter().map(line_of_report));
+        cases.extend(circuits::sizes().iter().map(line_of_size));
         let all = self.write_cases("all.txt", &cases);
         let lines: Vec<String> = answers(&mut start(&program, &all)).into_iter().collect();
         assert_eq!(lines.len(), cases.len());
@@ -219,16 +221,21 @@ fn line_of_class(class: &Class) -> String {
 /// A report as the program answers.rs reads it.
 fn line_of_report(report: &Report) -> String {
     let asked = reports::asked(report).map(|word| word.to_string()).join("\t");
-    in_line(format!("{}\treport\t{asked}", report.name), [&report.circuit, &report.log])
+    in_line(format!("{}\treport\t{asked}", report.name), &[&report.circuit, &report.log])
+}
+
+/// A size as the program answers.rs reads it.
+fn line_of_size(size: &Size) -> String {
+    in_line(format!("{}\tsize\t{}\t{}", size.name, size.ticks, size.told), &[&size.circuit])
 }
 
 fn line(name: &str, lent: &Lent, parts: [&[u8]; 2]) -> String {
     let lent = [lent.log, lent.values, lent.units, lent.delays].map(|length| length.to_string());
-    in_line(format!("{name}\t{}", lent.join("\t")), parts)
+    in_line(format!("{name}\t{}", lent.join("\t")), &parts)
 }
 
 /// A line with these bytes behind it, in hexadecimal.
-fn in_line(mut line: String, parts: [&[u8]; 2]) -> String {
+fn in_line(mut line: String, parts: &[&[u8]]) -> String {
     for bytes in parts {
         line.push('\t');
         bytes.iter().for_each(|b| write!(line, "{b:02x}").expect("room"));
@@ -262,7 +269,7 @@ struct Known {
 }
 
 impl Known {
-    /// The circuits, classes and reports that tell `program` from the unbroken oracle.
+    /// The circuits, classes, reports and sizes that tell `program` from the unbroken oracle.
     fn tellers(&self, program: &Path) -> Vec<String> {
         let quick = self.quick.tellers(program);
         if quick.is_empty() { self.slow.tellers(program) } else { quick }

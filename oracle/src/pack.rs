@@ -10,6 +10,9 @@ use crate::circuits::{Case, groups};
 use crate::questions::ask;
 use crate::vectors::is_whole;
 
+/// What the program has room for: a circuit, a script.
+pub const ROOM: usize = 65_536;
+
 /// The group of the random cases.
 const RANDOM: &str = "families";
 
@@ -34,7 +37,7 @@ pub fn pack() -> Vec<u8> {
     bytes
 }
 
-/// What the program `asked` prints where every answer is right: a case counts
+/// What the program `asked` prints of the cases where every answer is right: a case counts
 /// under the number that a call with its areas is refused with.
 pub fn printed() -> String {
     let cases = cases();

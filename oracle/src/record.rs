@@ -61,6 +61,14 @@ impl Machine {
         self.carried.iter().map(|(gate, act)| (*gate, format!("{act:?}"))).collect()
     }
 
+    /// The steps that each unit of the tick caused, in the order begun: no step is
+    /// made but in a unit, and one that was not made, by 11, is counted.
+    pub fn steps_of_units(&self) -> Vec<u64> {
+        let begun_at = &self.tally.begun_at;
+        let over = begun_at.iter().skip(1).chain([&self.steps]);
+        begun_at.iter().zip(over).map(|(begun, over)| over - begun).collect()
+    }
+
     /// How many runs of bodies the tick began or would have begun, had the limit
     /// not been passed.
     pub fn runs_of_bodies(&self) -> u64 {

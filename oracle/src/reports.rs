@@ -13,13 +13,10 @@
 //! the length of the report. Where the call is refused, all is as it was.
 
 use crate::circuits::{self, Report};
-use crate::runs::{ROOM, filled, word};
+use crate::runs::{ROOM, TOLD, filled, word};
 
 /// What the program has room for of a report.
 pub const REPORT: usize = 8_192;
-
-/// What it has room for of words told.
-pub const TOLD: usize = 64;
 
 /// The reports that are packed, and the names of those that are left out.
 pub struct Reports {

@@ -15,6 +15,9 @@ pub const ROOM: usize = 262_144;
 /// What it has room for in delays.
 pub const DELAYS: usize = 524_288;
 
+/// What a program has room for of words told.
+pub const TOLD: usize = 64;
+
 /// A stated circuit that is played, and what has to come of it.
 pub struct Run {
     pub case: Case,

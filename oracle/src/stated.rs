@@ -3,11 +3,11 @@
 use std::path::Path;
 
 use oracle::Lent;
-use oracle::circuits::{Case, Class, Report, all, classes, reports};
+use oracle::circuits::{Case, Class, Report, Size, all, classes, reports, sizes};
 use oracle::generate::{FAMILIES, damaged, damaged_loops, valid};
 
-/// Writes the stated circuit, class or report of this name; the answer is what
-/// goes with its files.
+/// Writes the stated circuit, class, report or size of this name; the answer is
+/// what goes with its files.
 pub fn write_stated(name: &str, dir: &Path) -> Option<String> {
     if let Some(case) = stated(name) {
         return write(&case, dir);
@@ -15,7 +15,10 @@ pub fn write_stated(name: &str, dir: &Path) -> Option<String> {
     if let Some(class) = stated_class(name) {
         return write_class(&class, dir);
     }
-    write_report(&stated_report(name)?, dir)
+    if let Some(report) = stated_report(name) {
+        return write_report(&report, dir);
+    }
+    write_size(&stated_size(name)?, dir)
 }
 
 /// The stated circuit of this name.
@@ -31,6 +34,11 @@ fn stated_class(name: &str) -> Option<Class> {
 /// The stated report of this name.
 fn stated_report(name: &str) -> Option<Report> {
     reports().into_iter().find(|report| report.name == name)
+}
+
+/// The stated size of this name.
+fn stated_size(name: &str) -> Option<Size> {
+    sizes().into_iter().find(|size| size.name == name)
 }
 
 /// The case of a family, or a damaged one, and a seed.
@@ -65,8 +73,18 @@ fn write_report(report: &Report, dir: &Path) -> Option<String> {
     Some(oracle::vectors::asked(report))
 }
 
+/// Writes circuit.bin; the answer is what is asked, as vectors/ has it.
+fn write_size(size: &Size, dir: &Path) -> Option<String> {
+    write_circuit(dir, &size.circuit)?;
+    Some(oracle::vectors::asked_of_size(size))
+}
+
 fn write_files(dir: &Path, circuit: &[u8], name: &str, bytes: &[u8]) -> Option<()> {
-    std::fs::create_dir_all(dir).ok()?;
-    std::fs::write(dir.join("circuit.bin"), circuit).ok()?;
+    write_circuit(dir, circuit)?;
     std::fs::write(dir.join(name), bytes).ok()
+}
+
+fn write_circuit(dir: &Path, circuit: &[u8]) -> Option<()> {
+    std::fs::create_dir_all(dir).ok()?;
+    std::fs::write(dir.join("circuit.bin"), circuit).ok()
 }

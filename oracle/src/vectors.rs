@@ -4,10 +4,11 @@
 use std::fmt::Write as _;
 use std::path::Path;
 
-use crate::circuits::{Case, Class, Group, Report, classes, groups, reports};
+use crate::circuits::{Case, Class, Group, Report, Size, classes, groups, reports, sizes};
 use crate::class::{ClassAnswer, part, told};
 use crate::generate::{FAMILIES, damaged, damaged_loops, valid};
 use crate::hours::Named;
+use crate::size::Figures;
 use crate::{Answer, Lent, run};
 
 /// Words above this many are not written but summed up.
@@ -19,13 +20,18 @@ pub const CLASSES: &str = "classes.txt";
 /// The file of the stated reports.
 pub const REPORTS: &str = "reports.txt";
 
-/// Writes the vectors of each group, of the classes and of the reports to a folder.
+/// The file of the stated sizes.
+pub const SIZES: &str = "sizes.txt";
+
+/// Writes the vectors of each group, of the classes, of the reports and of the sizes
+/// to a folder.
 pub fn write(dir: &Path) -> std::io::Result<()> {
     for group in groups() {
         std::fs::write(dir.join(file_name(&group)), text(&group))?;
     }
     std::fs::write(dir.join(CLASSES), text_of_classes())?;
-    std::fs::write(dir.join(REPORTS), text_of_reports())
+    std::fs::write(dir.join(REPORTS), text_of_reports())?;
+    std::fs::write(dir.join(SIZES), text_of_sizes())
 }
 
 /// Writes the vectors of every family and of damaged cases, for the seeds from
@@ -123,6 +129,28 @@ pub fn asked(report: &Report) -> String {
     let Named { driver, activity, length } = report.named;
     let named = [driver, activity, length].map(|word| (word as i64).to_string()).join(" ");
     format!("asked {named} {} {}", report.room, report.told)
+}
+
+/// The text of [`SIZES`].
+pub fn text_of_sizes() -> String {
+    sizes().iter().map(size_vector).collect()
+}
+
+fn size_vector(size: &Size) -> String {
+    let mut text = format!("size {}\n{}\n", size.name, asked_of_size(size));
+    text += &bytes("circuit", &size.circuit);
+    match size.answer() {
+        Err(number) => text + &format!("refused {number}\n"),
+        Ok(Figures { steps, bytes }) => {
+            let told = [steps, bytes].map(|figure| figure as i64);
+            text + &words("figures", &told) + &words("told", &told[..size.told.min(2)])
+        }
+    }
+}
+
+/// The line of what is asked: the ticks, and what is lent.
+pub fn asked_of_size(size: &Size) -> String {
+    format!("asked {} {}", size.ticks as i64, size.told)
 }
 
 /// Whether a vector gives these bytes, and not their sum.

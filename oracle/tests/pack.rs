@@ -1,18 +1,21 @@
-//! The packed questions, runs, classes and reports: crates/asked and
+//! The packed questions, sizes, runs, classes and reports: crates/asked and
 //! crates/replay hold what `oracle pack` writes and prints now, and what is
 //! packed can be read back.
 
 use oracle::circuits::{self, Case};
 use oracle::class::Held;
 use oracle::generate::ASKED;
-use oracle::pack::{cases, pack, printed};
+use oracle::pack::{ROOM, cases, pack, printed};
 use oracle::questions::ask;
-use oracle::{Lent, classes, hours, reports, runs};
+use oracle::{Lent, classes, hours, reports, runs, sizes};
 
 const FILE: &str = concat!(env!("CARGO_MANIFEST_DIR"), "/../crates/asked/data/questions.bin");
 const PRINTED: &str = concat!(env!("CARGO_MANIFEST_DIR"), "/../crates/asked/stdout");
 
 const AGAIN: &str = "oracle pack crates/asked/data/questions.bin > crates/asked/stdout";
+
+const SIZES: &str = concat!(env!("CARGO_MANIFEST_DIR"), "/../crates/asked/data/sizes.bin");
+const SIZES_AGAIN: &str = "oracle pack sizes crates/asked/data/sizes.bin >> crates/asked/stdout";
 
 const RUNS: &str = concat!(env!("CARGO_MANIFEST_DIR"), "/../crates/replay/data/runs.bin");
 const RUNS_AGAIN: &str = "oracle pack runs crates/replay/data/runs.bin > crates/replay/stdout";
@@ -27,9 +30,6 @@ const REPORTS_AGAIN: &str =
 
 const REPLAYED: &str = concat!(env!("CARGO_MANIFEST_DIR"), "/../crates/replay/stdout");
 
-/// What a program has room for: a circuit, a script.
-const ROOM: usize = 65_536;
-
 /// What a file may hold. A program reads it case by case, so this is for who
 /// keeps the files alone; runs with Loops come to a tenth of it.
 const WHOLE: usize = 1_750_000;
@@ -40,13 +40,22 @@ const WHOLE_OF_CLASSES: usize = 500_000;
 /// What the file of the reports may hold.
 const WHOLE_OF_REPORTS: usize = 250_000;
 
+/// What the file of the sizes may hold.
+const WHOLE_OF_SIZES: usize = 100_000;
+
 #[test]
 fn the_packed_questions_are_up_to_date() {
     let file = std::fs::read(FILE).expect("the packed questions");
     assert!(file == pack(), "write them again: {AGAIN}");
     assert!(file.len() < WHOLE, "{}", file.len());
+}
+
+/// The lines for the questions, and one for the sizes.
+#[test]
+fn what_asked_prints_is_up_to_date() {
     let text = std::fs::read_to_string(PRINTED).expect("what the program has to print");
-    assert_eq!(text, printed(), "write it again: {AGAIN}");
+    let due = printed() + &sizes::printed(&sizes::sizes());
+    assert_eq!(text, due, "write it again: {AGAIN}, and then {SIZES_AGAIN}");
 }
 
 /// Takes a number from the front.
@@ -199,7 +208,7 @@ fn every_class_can_be_read_back() {
         let lent = [(); 5].map(|()| packed_word(&mut rest) as usize);
         assert_eq!(lent, classes::lent(class), "{name}");
         assert!(lent[..3].iter().all(|&length| length <= runs::ROOM), "{name}");
-        assert!(lent[3] <= runs::DELAYS && lent[4] <= classes::TOLD, "{name}");
+        assert!(lent[3] <= runs::DELAYS && lent[4] <= runs::TOLD, "{name}");
         let [log, values, units, delays, told] = lent;
         let mut due = Held::filled(&Lent { log, values, units, delays }, told, 165);
         let [number, zero] = [(); 2].map(|()| packed_word(&mut rest));
@@ -246,7 +255,7 @@ fn every_report_can_be_read_back() {
         let asked = [(); 5].map(|()| packed_word(&mut rest));
         assert_eq!(asked, reports::asked(report), "{name}");
         let [_, _, _, room, told] = asked.map(|word| word as usize);
-        assert!(room <= reports::REPORT && told <= reports::TOLD, "{name}");
+        assert!(room <= reports::REPORT && told <= runs::TOLD, "{name}");
         let number = packed_word(&mut rest);
         let [circuit, log, written] = [(); 3].map(|()| packed_word(&mut rest) as usize);
         assert!(circuit <= runs::ROOM && log <= runs::ROOM && written <= room, "{name}");
@@ -260,6 +269,39 @@ fn every_report_can_be_read_back() {
         let (answered, left) = report.call(165);
         assert!(u64::from(answered) == number && left == due, "{name}");
         assert_eq!(number == 0, written > 0, "{name}");
+    }
+    assert!(rest.is_empty());
+}
+
+#[test]
+fn the_packed_sizes_are_up_to_date() {
+    let sizes = sizes::sizes();
+    let file = std::fs::read(SIZES).expect("the packed sizes");
+    assert!(file == sizes::pack(&sizes), "write them again: {SIZES_AGAIN}");
+    assert!(file.len() < WHOLE_OF_SIZES, "{}", file.len());
+    assert_eq!(sizes.left_out, [""; 0]);
+}
+
+/// What is packed of a size says what the call answers and which words it leaves.
+#[test]
+fn every_size_can_be_read_back() {
+    let sizes = sizes::sizes();
+    let packed = sizes::pack(&sizes);
+    let mut rest = &packed[..];
+    assert_eq!(packed_word(&mut rest) as usize, sizes.packed.len());
+    for size in &sizes.packed {
+        let name = &size.name;
+        let [ticks, told, number, steps, bytes, circuit] = [(); 6].map(|()| packed_word(&mut rest));
+        assert!(ticks == size.ticks && told as usize == size.told && told as usize <= runs::TOLD, "{name}");
+        assert!(circuit as usize <= ROOM, "{name}");
+        assert_eq!(packed_bytes(&mut rest, circuit as usize), size.circuit, "{name}");
+        let mut due = vec![u64::from_le_bytes([165; 8]); size.told];
+        if number == 0 {
+            due.iter_mut().zip([steps, bytes]).for_each(|(word, figure)| *word = figure);
+        }
+        let (answered, left) = size.call(165);
+        assert!(u64::from(answered) == number && left == due, "{name}");
+        assert!(number == 0 || [steps, bytes] == [0, 0], "{name}");
     }
     assert!(rest.is_empty());
 }

@@ -1,8 +1,8 @@
 -- What the small functions of questions 4 and 5 answer: one law for each way out.
-use Prim.Native.Nat.{ℕ, zero, suc, _/_, _≤_, _<_}
+use Prim.Native.Nat.{ℕ, _/_, _≤_, _<_}
 use mathlib.Core.Path.{_≡_, refl, sym, ap, _∙_}
 use mathlib.Core.Bool.{Bool, true, false, not, _&&_, _||_}
-use mathlib.Core.List.{List, [], _∷_}
+use mathlib.Core.List.{List}
 use native.Mathlib.Omega.{arith}
 use lib.Dec.{ltb, eqb}
 use lib.ListN.{length, getD, List·getD-eq-default}
@@ -12,6 +12,7 @@ use Rattle.model.specs.Base.{if_then_else_}
 use Rattle.model.specs.Kinds.{In, value, Out as Output, fires, shows, passes}
 use Rattle.model.specs.Circuit.{Circuit, minus-one}
 use Rattle.model.specs.Questions.{value-output, good-setting, names-constant, good-input, may-call, may-be-called}
+use Rattle.model.proofs.Lists.{default-same}
 
 -- a test in the code, `if !t`, where t is what a definition says
 pub no : (t x : Bool) → t ≡ x → not t ≡ true → x ≡ false
@@ -19,12 +20,6 @@ no t x e h = sym e ∙ not-true t h
 
 pub yes : (t x : Bool) → t ≡ x → not t ≡ false → x ≡ true
 yes t x e h = sym e ∙ not-false t h
-
--- within a list the default does not matter
-default-same : {A : Type 0} (xs : List A) (i : ℕ) (d e : A) → i < length xs → getD xs i d ≡ getD xs i e
-default-same [] i d e h = absurd (omega arith)
-default-same (x ∷ xs) zero d e h = refl
-default-same (x ∷ xs) (suc i) d e h = default-same xs i d e (omega arith)
 
 -- ---- outputs
 

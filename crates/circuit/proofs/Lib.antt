@@ -20,8 +20,10 @@ pub mod Nested
 pub mod Digits
 -- a loop that makes a word of gates
 pub mod Descent
--- question 6: the rounds, by words of gates
+-- rounds over gates, by words of gates
 pub mod Unplaced
+-- question 6: what a gate reads, and the rounds
+pub mod Sources
 -- the questions one after the other
 pub mod Order
 -- what is known where nothing is refused: an order of the pure gates, and that the links show the circuit

@@ -1,4 +1,4 @@
--- Words of gates, as question 6 works with them: gate g is bit g.
+-- Words of gates: gate g is bit g. Question 6 works with them, and crate `size`.
 use Prim.Native.Nat.{ℕ, _+_, _*_, _^_}
 use mathlib.Core.Bool.{Bool, not}
 use mathlib.Core.List.{List, [], _∷_, map}
@@ -24,6 +24,10 @@ gates-where p n = word-of-bits (map p (from 0 n))
 unfoldable pub gate-bit : ℕ → ℕ
 gate-bit h = if ltb h 64 then 2 ^ h else 0
 
+-- gate h, and those of the word w
+unfoldable pub with-gate : ℕ → ℕ → ℕ
+with-gate w h = bitOr w (gate-bit h)
+
 module _ (c : Circuit) where
   -- the gate that input i reads
   unfoldable pub source-bit : ℕ → ℕ
@@ -42,5 +46,5 @@ unfoldable pub waits : List ℕ → ℕ → ℕ → Bool
 waits words unplaced g = not (eqb (bitAnd (getD words g 0) unplaced) 0)
 
 unfoldable pub gates-opened : ℕ
-unfolding word-of-bits gates-where gate-bit source-bit with-source awaited waits
+unfolding word-of-bits gates-where gate-bit with-gate source-bit with-source awaited waits
 gates-opened = 0

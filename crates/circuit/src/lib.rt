@@ -21,6 +21,7 @@ mod gates;
 pub mod inputs;
 mod rings;
 mod script;
+pub mod sets;
 mod sizes;
 
 // Questions 1 to 3, of a circuit's words.

@@ -1,24 +1,18 @@
 // Question 6: is there an order in which each pure gate comes after its pure sources?
-// Sets of gates are words: gate g is bit g.
 ghost use mathlib.Core.Path.{_≡_};
-ghost use Prim.Native.Nat.{ℕ, _+_, _*_, _<_, _≤_, _^_};
+ghost use Prim.Native.Nat.{ℕ, _<_, _≤_};
 ghost use lib.ListN.{length, getD};
-ghost use Rattle.words.specs.Slices.{before, after};
-ghost use Rattle.model.specs.Value.{bit};
+ghost use Rattle.words.specs.Slices.{after};
 ghost use Rattle.model.specs.Kinds.{pure};
 ghost use Rattle.model.specs.Circuit.{kind-of-gate, most-gates};
 ghost use Rattle.model.specs.Questions.{question-6};
 ghost use Rattle.links.specs.Lent.{Linked, net-of};
-ghost use Rattle.circuit.specs.Gates.{gates-where, gate-bit, source-bit, awaited, waits};
+ghost use Rattle.circuit.specs.Gates.{gates-where, source-bit, awaited};
+use crate::sets::gate_bit;
+use crate::sets::round;
+use crate::sets::with_bit;
 use links::Read;
 use links::layout::MOST_GATES;
-
-// The word of gate g alone; 0 for a number above 63, for which a word has no bit.
-fn gate_bit(g: usize) -> u64
-    ensures { λ r. ⌜ r ≡ gate-bit g ⌝ }
-{
-    if g < 64 { 1 << g } else { 0 }
-}
 
 // The word of the gate that input i reads; 0 where it reads none.
 fn source_bit(links: &[usize], i: usize) -> u64
@@ -63,14 +57,6 @@ fn fill(links: &[usize], words: &mut [u64], n: usize)
     }
 }
 
-// A word moved up by one bit, with b below it.
-fn with_bit(word: u64, b: bool) -> u64
-    requires { ⌜ word < 2 ^ 63 ⌝ }
-    ensures { λ r. ⌜ r ≡ word * 2 + bit b ⌝ }
-{
-    if b { word * 2 + 1 } else { word * 2 }
-}
-
 // The pure ones of n gates.
 fn pure_gates(links: &[usize], n: usize) -> u64
     requires { ⌜ Linked links × (n ≤ most-gates) ⌝ }
@@ -81,20 +67,6 @@ fn pure_gates(links: &[usize], n: usize) -> u64
     while 0 < g {
         g -= 1;
         word = with_bit(word, kinds::is_pure(links::kind_of_gate(links, g)));
-    }
-    word
-}
-
-// One round: of n gates those that wait for one of `unplaced`, where `words` has what each waits for.
-fn round(words: &[u64], n: usize, unplaced: u64) -> u64
-    requires { ⌜ (n ≤ most-gates) × (n ≤ length (now words)) ⌝ }
-    ensures { λ r. ⌜ r ≡ gates-where (waits (before words) unplaced) n ⌝ }
-{
-    let mut word: u64 = 0;
-    let mut g = n;
-    while 0 < g {
-        g -= 1;
-        word = with_bit(word, words[g] & unplaced != 0);
     }
     word
 }

@@ -79,18 +79,16 @@ module _ (c : Circuit) (P : List ℕ → Type 0) (x y : Body) (g : ℕ) (alike :
 
 -- ---- what a step fires is an output of its gate
 
-Own : Circuit → ℕ → Option ℕ → Type 0
+unfoldable pub Own : Circuit → ℕ → Option ℕ → Type 0
 Own c g none = Unit {0}
-Own c g (some o) = (o < length (c .outputs)) × (gate-at-output c o ≡ g)
+Own c g (some o) = (p : ℕ) × (p < length (kind-at (kind-of-gate c g) .outs)) × (o ≡ output c g p)
 
-module _ (c : Circuit) (lay : Laid c) where
+module _ (c : Circuit) where
   output-own : (g k p : ℕ) → ltb p (length (kind-at k .outs)) ≡ true → eqb (kind-of-gate c g) k ≡ true → Own c g (some (output c g p))
   unfolding Own
-  output-own g k p l e =
-      let m : p < length (kind-at (kind-of-gate c g) .outs) = rw (eqb-true _ k e) (ltb-true p _ l) in
-      (lay .output-in g p m, lay .output-of g p m)
+  output-own g k p l e = (p, rw (eqb-true _ k e) (ltb-true p _ l), refl)
 
-  exec-gate-own : (inside : Bool) (s : State) (i : ℕ) → Own c (gate-at-input c i) (exec-gate c inside s i .next)
+  pub exec-gate-own : (inside : Bool) (s : State) (i : ℕ) → Own c (gate-at-input c i) (exec-gate c inside s i .next)
   unfolding Own exec-gate exec-kind fires-next ends exec-Buffer exec-Stopwatch exec-Queue exec-VarGet exec-VarSet exec-Branch exec-Union exec-Toggle exec-Cycle exec-SendEvent exec-Break kinds-opened
   exec-gate-own inside s i =
       if-by S (eqb k 2) (output-own g 2 0 refl) λ _.
@@ -226,13 +224,14 @@ module _ (c : Circuit) (b : ℕ) (around : List ℕ) where
       if-both (λ (ks : List Call). Above c b around (map (λ (k : Call). k .to) ks ++ st)) _ (one-more (sym (eqb-true _ _ (t .0))) r) r
 
   found-above :
-      question-19 c ≡ true → (g : ℕ) → body-of-gate c g ≡ b → (o : Option ℕ) → Own c g o → (q : Calls) → Above c b around (q .stack) →
+      Laid c → question-19 c ≡ true → (g : ℕ) → body-of-gate c g ≡ b → (o : Option ℕ) → Own c g o → (q : Calls) → Above c b around (q .stack) →
       Above c b around (push-calls c o q .stack)
   unfolding push-calls Own
-  found-above asked g e none w q a = a
-  found-above asked g e (some o) w q a =
-      let n : body-of-gate c (gate-at-output c o) ≡ b = ap (body-of-gate c) (w .1) ∙ e in
-      push-above (calls-of c o) (q .stack) (rw n at (calls-stay c asked o (w .0))) a
+  found-above lay asked g e none w q a = a
+  found-above lay asked g e (some o) w q a =
+      let at : output c g (w .0) ≡ o = sym (w .2) in
+      let n : body-of-gate c (gate-at-output c o) ≡ b = ap (λ (o : ℕ). body-of-gate c (gate-at-output c o)) (w .2) ∙ ap (body-of-gate c) (lay .output-of g (w .0) (w .1)) ∙ e in
+      push-above (calls-of c o) (q .stack) (rw n at (calls-stay c asked o (subst (λ (o : ℕ). o < length (c .outputs)) at (lay .output-in g (w .0) (w .1))))) a
 
 -- ---- two depths of nesting
 
@@ -249,12 +248,12 @@ module _ (c : Circuit) (lay : Laid c) (asked : question-19 c ≡ true)
       let around = r .calls .stack in
       let entry = entry-of-loop c g in
       let w = entered g e in
-      let a = nested-alike c lay (run-body c deep) (run-body c more) true (length around) (Above c (suc g) around) (Inside c (suc g)) (pop-above c (suc g) around)
-      (λ j. found-above c (suc g) around asked (gate-at-input c j))
+      let a = nested-alike c (run-body c deep) (run-body c more) true (length around) (Above c (suc g) around) (Inside c (suc g)) (pop-above c (suc g) around)
+      (λ j. found-above c (suc g) around lay asked (gate-at-input c j))
       (λ j m k n q p.
       let z = bodies-alike deep more (suc g) (omega (arith, l)) (h g e d) (gate-at-input c j) k m n q in
       (z .0, λ s. subst (Above c (suc g) around) (sym (z .1 s)) p))
-      (begin-body c g i r) (λ _. found-above c (suc g) around asked entry (w .1) _ (output-own c lay entry 30 0 refl (rw (w .0))) (r .calls) no-more) in (
+      (begin-body c g i r) (λ _. found-above c (suc g) around lay asked entry (w .1) _ (output-own c entry 30 0 refl (rw (w .0))) (r .calls) no-more) in (
         ap (λ (q : Chained). with-state q (unions-of (r .state) (q .state))) (a .0),
         λ s. pop-around c (suc g) around _ _ (nested-ended c deep true (length around) (begin-body c g i r) s) (a .1 s),
       )
@@ -263,7 +262,7 @@ module _ (c : Circuit) (lay : Laid c) (asked : question-19 c ≡ true)
   chain-alike : (more : ℕ) (r : Chained) → run-nested c (run-body c (length (c .kinds))) false 0 r ≡ run-nested c (run-body c (length (c .kinds) + more)) false 0 r
   chain-alike more r =
       let n = length (c .kinds) in
-      nested-alike c lay (run-body c n) (run-body c (n + more)) false 0 (λ _. Unit {0}) (λ _. Unit {0}) (λ _ _ _ _ _. (tt, tt)) (λ _ _ _ _ _ _. tt)
+      nested-alike c (run-body c n) (run-body c (n + more)) false 0 (λ _. Unit {0}) (λ _. Unit {0}) (λ _ _ _ _ _. (tt, tt)) (λ _ _ _ _ _ _. tt)
       (λ j _ k i q _. (bodies-alike n (n + more) _ (omega arith) (loops-shallow c asked _) (gate-at-input c j) k refl i q .0, λ _. tt)) r (λ _. tt) .0
 
 -- with bodies nested as deep as there are gates, and any number deeper

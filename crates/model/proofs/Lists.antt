@@ -213,6 +213,12 @@ in-range false [] i e = absurd (true≢false (sym e))
 in-range b (x ∷ xs) zero e = omega arith
 in-range b (x ∷ xs) (suc i) e = omega (arith, in-range b xs i e)
 
+-- within a list the default does not matter
+pub default-same : {A : Type 0} (xs : List A) (i : ℕ) (d e : A) → i < length xs → getD xs i d ≡ getD xs i e
+default-same [] i d e h = absurd (omega arith)
+default-same (x ∷ xs) zero d e h = refl
+default-same (x ∷ xs) (suc i) d e h = default-same xs i d e (omega arith)
+
 -- what holds at each place, after one is set
 pub places-set :
     {A : Type 0} (P : ℕ → A → Type 0) (xs : List A) (i : ℕ) (v d : A) → P i v → ((j : ℕ) → P j (getD xs j d)) → (j : ℕ) → P j (getD (set xs i v) j d)
@@ -434,6 +440,4 @@ mark-was (b ∷ bs) (suc i) (suc j) e = go (mark-was bs i j e)
 
 -- a mark in the list, whatever would be read past its end
 pub marked-in : (bs : List Bool) (j : ℕ) → j < length bs → getD bs j true ≡ true → getD bs j false ≡ true
-marked-in [] j l e = absurd (omega arith)
-marked-in (b ∷ bs) zero l e = e
-marked-in (b ∷ bs) (suc j) l e = marked-in bs j (omega arith) e
+marked-in bs j l e = default-same bs j false true l ∙ e

@@ -163,6 +163,10 @@ falling c most =
       loop-shown = λ g done aborted r k p. p;
     }
 
+pub run-chain-falls : (c : Circuit) (left : ℕ) (q : Calls) (s : State) → run-chain c left q s .left ≤ left
+unfolding chained
+run-chain-falls c left q s = run-chain-kept c _ (falling c left) left q s (omega arith)
+
 pub operate-falls :
     (c : Circuit) (deep : ℕ) (inside : Bool) (i : ℕ) (s : State) (left : ℕ) (q : Calls) → operate c (run-body c deep) inside i (chained s left 0 q) .left ≤ left
 unfolding operate chained make-call fire-output

@@ -30,6 +30,7 @@ all-within low high (x ∷ xs) h (suc i) = all-within low high xs (both-true (wi
 -- The sizes of a circuit that question 1 lets through.
 pub record Sizes (bytes ws : List ℕ) : Type 0 where
   pub whole : length bytes % 8 ≡ 0
+  pub some-gate : 1 ≤ getD ws 0 0
   pub gates : getD ws 0 0 ≤ 64
   pub constants : getD ws 1 0 ≤ 64
   pub inputs : getD ws 2 0 ≤ 640
@@ -53,6 +54,7 @@ sizes bytes ws q =
     let h₅ = both-true (w && l) g (h₄ .0) in
     record {
       whole = eqb-true (length bytes % 8) 0 (both-true w l (h₅ .0) .0);
+      some-gate = within-true 1 64 (getD ws 0 0) (h₅ .1) .0;
       gates = within-true 1 64 (getD ws 0 0) (h₅ .1) .1;
       constants = within-true 0 64 (getD ws 1 0) (h₄ .1) .1;
       inputs = within-true 0 640 (getD ws 2 0) (h₃ .1) .1;

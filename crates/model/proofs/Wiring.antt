@@ -18,7 +18,7 @@ use Rattle.words.specs.Words.{words}
 use Rattle.schedule.specs.Promise.{All}
 use Rattle.model.specs.declared.Value.{Value}
 use Rattle.model.specs.declared.Value.the-variants.{Nothing, Int, Float, Bool as Truth}
-use Rattle.model.specs.Base.{if_then_else_, keep, all, joined, among, both, from, sum, starts, owners}
+use Rattle.model.specs.Base.{if_then_else_, keep, all, among, both, from, sum, starts, owners}
 use Rattle.model.specs.Value.{as-int, le64, value-of}
 use Rattle.model.specs.Kinds.{In, value, kind-at, pure, time-source, receiving, kinds-opened}
 use Rattle.model.specs.Circuit.{Circuit, circuit, part, word-at, minus-one, source-of, reads, kind-of-gate, entry-of-loop, input, output, inputs-of, gate-at-input, source, stored-in, setting, gate-at-output, readers-of, gates-such}
@@ -100,17 +100,6 @@ place-in a (k ∷ ks) o l = go (ltb o k) refl (λ q h. place-in (suc a) ks q h)
           within = r .within;
           place = omega (arith, r .place);
         }
-
--- what stands in part g
-pub joined-at :
-    {A : Type 0} (f : ℕ → List A) (ks : List ℕ) (g p : ℕ) (d : A) → g < length ks → p < length (f (getD ks g 0)) →
-    getD (joined (map f ks)) (offset (map (λ k. length (f k)) ks) g + p) d ≡ getD (f (getD ks g 0)) p d
-unfolding joined offset
-joined-at f [] g p d l h = absurd (omega arith)
-joined-at f (k ∷ ks) zero p d l h = rw (zero-add p) (List·getD-append (f k) (joined (map f ks)) d p h)
-joined-at f (k ∷ ks) (suc g) p d l h =
-    let e : length (f k) + offset (map (λ j. length (f j)) ks) g + p ≡ length (f k) + (offset (map (λ j. length (f j)) ks) g + p) = omega arith in
-    rw e (getD-append-add (f k) (joined (map f ks)) (offset (map (λ j. length (f j)) ks) g + p) d ∙ joined-at f ks g p d (omega arith) h)
 
 -- a pure gate has one output
 pure-one : (k : ℕ) → pure k ≡ true → length (kind-at k .outs) ≡ 1
@@ -320,25 +309,16 @@ module _ (ws : List ℕ) where
             let g : getD (owners 0 (map is ks)) i 0 ≡ r .index = r .owner ∙ zero-add (r .index) in
             rw g (not-so _ λ e. omega (arith, r .within, part-size is (no-kind .0) ks (r .index), time-inputs (getD ks (r .index) 0) e))
 
-        pin-of : (g p : ℕ) → g < length (circuit ws .kinds) → p < length (kind-at (kind-of-gate (circuit ws) g) .ins) → getD (circuit ws .pins) (input (circuit ws) g p) value ≡ getD (kind-at (kind-of-gate (circuit ws) g) .ins) p value
-        unfolding circuit kind-of-gate input
-        pin-of g p l h =
-            let ks = circuit ws .kinds in
-            let is : ℕ → ℕ = λ k. length (kind-at k .ins) in
-            let e : getD (starts 0 (map is ks)) g 0 ≡ offset (map is ks) g = omega (arith, starts-at 0 (map is ks) g (omega (arith, l, length-map ks is))) in
-            rw e (joined-at (λ k. kind-at k .ins) ks g p value l h)
-
         pub var-setting : (g : ℕ) → eqb (kind-of-gate (circuit ws) g) 19 ≡ true → int-such-that (λ h. eqb (kind-of-gate (circuit ws) h) 5) (setting (circuit ws) g 1) ≡ true
         unfolding setting good-setting kinds-opened
         var-setting g e =
             let c = circuit ws in
             let k = eqb-true (kind-of-gate c g) 19 e in
-            let l : g < length (c .kinds) = kind-in c g (omega (arith, k)) in
             let h : 1 < length (kind-at (kind-of-gate c g) .ins) = rw k (omega arith) in
             let m : input c g 1 < word-at ws 2 = omega (arith, laid ws .input-in g 1 h, inputs-found ws q₃) in
             let a = good-input-setting c (getD (c .pins) (input c g 1) value) (word-at ws (4 + 2 * (word-at ws 1 + word-at ws 0) + input c g 1))
             (word-at ws (4 + 2 * (word-at ws 1 + word-at ws 0) + word-at ws 2 + input c g 1)) (stored-in c (input c g 1)) (asked (input c g 1) m) in
-            subst (λ (x : In). good-setting c (x .setting) (stored-in c (input c g 1)) ≡ true) (pin-of g 1 l h ∙ ap (λ n. getD (kind-at n .ins) 1 value) k) a
+            subst (λ (x : In). good-setting c (x .setting) (stored-in c (input c g 1)) ≡ true) (laid ws .pin-is g 1 h ∙ ap (λ n. getD (kind-at n .ins) 1 value) k) a
 
         var-other : (g : ℕ) → eqb (kind-of-gate (circuit ws) g) 19 ≡ true → pure (kind-of-gate (circuit ws) (gate-at-output (circuit ws) (var (circuit ws) g))) ≡ false
         unfolding var int-such-that as-int nat kinds-opened

@@ -6,6 +6,7 @@ ghost use Rattle.model.specs.Questions.{refusal};
 ghost use Rattle.run.specs.Call.{Right-call};
 ghost use Rattle.class.specs.Call.{Right as Right-class, call-of, left-of};
 ghost use Rattle.hours.specs.Call.{Right as Right-hours, call-of as hours-call, left-of as hours-left};
+ghost use Rattle.size.specs.Call.{Right as Right-size};
 ghost use Rattle.player.specs.Numbers.{Tells-host};
 use circuit::check;
 use telling::number_of;
@@ -71,4 +72,13 @@ pub extern "C" fn hazhirun_hours(
     ensures { λ r. ⌜ Right-hours (hours-call circuit log driver activity len report told) (hours-left report told) r ⌝ }
 {
     hours::hours(circuit, log, driver, activity, len, report, told)
+}
+
+// Asks the questions about the circuit, 23 of its calls and its gates, and 24 of the ticks. The number of the answer; where none of them refuses the call the words of
+// `told` become the most steps that any one unit can cause, and the most bytes of a log of so many ticks.
+#[no_mangle]
+pub extern "C" fn hazhirun_size(circuit: &[u8], ticks: u64, told: &mut [u64]) -> u64
+    ensures { λ r. ⌜ Right-size (before circuit) ticks (before told) (after told) r ⌝ }
+{
+    size::size(circuit, ticks, told)
 }

@@ -20,7 +20,7 @@ use Rattle.model.specs.declared.Value.{Value}
 use Rattle.model.specs.declared.Value.the-variants.{Nothing, Int, Float, Bool as Truth}
 use Rattle.model.specs.Base.{if_then_else_, all, among, both, from, starts, owners}
 use Rattle.model.specs.Value.{as-int, value-of}
-use Rattle.model.specs.Kinds.{In, value, Watch, never, if-driven, always, fires, Kind, table, kind-at, kinds-opened}
+use Rattle.model.specs.Kinds.{In, value, Watch, never, if-driven, always, Kind, table, kind-at, kinds-opened}
 use Rattle.model.specs.Circuit.{Circuit, circuit, part, word-at, is-watched, has-source, kind-of-gate, entry-of-loop, input, output, source, stored-in, setting, gate-at-input, watching, gates-such}
 use Rattle.model.specs.Script.{most-ticks, stimulus, given, script}
 use Rattle.model.specs.State.{Act}
@@ -32,17 +32,17 @@ use Rattle.model.specs.Questions.{Areas, within, yes-all, question-1, question-
 use Rattle.model.proofs.Lists.{both-true, all-keep, all-among, among-from, map-all}
 use Rattle.schedule.proofs.Members.{all-map}
 use Rattle.model.proofs.Sizes.{within-true}
-use Rattle.model.proofs.Laid.{offset, starts-at, no-kind, laid, joined-length, kind-in, part-most}
+use Rattle.model.proofs.Laid.{offset, starts-at, no-kind, laid, joined-length, joined-at, kind-in, part-most}
 use Rattle.model.proofs.Asked.{Accepted}
 use Rattle.model.proofs.Roomy.{few}
 use Rattle.model.proofs.Nesting.{loop-entered}
 use Rattle.model.proofs.Counted.{few-checks, few-moving}
 use Rattle.model.proofs.Scripts.{stimulus-few, stimulus-each, script-all}
-use Rattle.model.proofs.Wiring.{place-in, joined-at, part-size, var-setting, wired}
+use Rattle.model.proofs.Wiring.{place-in, part-size, var-setting, wired}
 use Rattle.records.specs.Whole.{driven}
 use Rattle.promises.proofs.Times.{Length, length-good}
 use Rattle.promises.proofs.Values.{Proper}
-use Rattle.promises.proofs.Shape.{Pin-fits, Outputs-are, Shaped, value-at, values-at}
+use Rattle.promises.proofs.Shape.{Pin-fits, Shaped, value-at, values-at}
 use Rattle.promises.proofs.Settles.{Fitting, world-good}
 use Rattle.promises.proofs.Worlds.{Gets}
 
@@ -148,23 +148,6 @@ good-proper (x ∷ xs) (y ∷ ys) b h (suc k) = good-proper xs ys (λ i. b (suc 
 -- ---- the circuit
 
 module _ (ws : List ℕ) where
-  outputs-are : Outputs-are (circuit ws)
-  unfolding circuit kind-of-gate output kinds-opened
-  outputs-are =
-      record {
-        laid = laid ws;
-        out-is = λ g p h.
-            let ks = circuit ws .kinds in
-            let os : ℕ → ℕ = λ k. length (kind-at k .outs) in
-            let l : g < length ks = kind-in (circuit ws) g (some-kind p (kind-of-gate (circuit ws) g) h) in
-            let e : getD (starts 0 (map os ks)) g 0 ≡ offset (map os ks) g = omega (arith, starts-at 0 (map os ks) g (omega (arith, l, length-map ks os))) in
-            rw e (joined-at (λ k. kind-at k .outs) ks g p fires l h);
-      }
-    where
-      some-kind : (p k : ℕ) → p < length (kind-at k .outs) → 0 < k
-      some-kind p zero h = absurd (omega (arith, h))
-      some-kind p (suc k) h = omega arith
-
   watched-pin : (i : ℕ) → watching (circuit ws) i ≡ true → Pin-fits (circuit ws) (gate-at-input (circuit ws) i) (i - input (circuit ws) (gate-at-input (circuit ws) i) 0)
   unfolding circuit watching kind-of-gate gate-at-input input source driven is-watched
   watched-pin i h =
@@ -203,12 +186,12 @@ module _ (ws : List ℕ) where
           let c = circuit ws in
           let k = eqb-true (kind-of-gate c b) 5 h in
           let a : b < 2 ^ 63 = omega (arith, kind-in c b (omega (arith, k)), few bytes ws q₁ q₃ .gates) in
-          rw (toZ-pos w64 b a) (value-at c outputs-are b 5 0 k refl)
+          rw (toZ-pos w64 b a) (value-at c (laid ws) b 5 0 k refl)
 
   -- the Index of a Loop's entry
   entry-shows : (e : ℕ) → kind-of-gate (circuit ws) e ≡ 30 → value-output (circuit ws) (output (circuit ws) e 1) ≡ true
   unfolding kinds-opened
-  entry-shows e k = value-at (circuit ws) outputs-are e 30 1 k refl
+  entry-shows e k = value-at (circuit ws) (laid ws) e 30 1 k refl
 
   module _ (low : Below (2 ^ 64) ws) (q₂ : question-2 ws ≡ true) where
     constants-proper : (k : ℕ) → Proper (getD (circuit ws .constants) k Nothing)
@@ -232,7 +215,6 @@ shaped areas cb sb low a =
     let f = few cb ws (a .sizes) (a .gates) in
     record {
       wired = wired areas cb sb a;
-      outputs = outputs-are ws;
       var-shows = var-shows ws cb (a .sizes) (a .inputs) (a .gates);
       entry-shows = λ g h. entry-shows ws (entry-of-loop c g) (loop-entered cb ws (a .sizes) (a .bodies) g h .0);
       stored = stored-proper ws (words-below cb low) (a .constants);
@@ -250,7 +232,7 @@ unfolding stimulus kinds-opened all from
 stimulus-fits c Z proper g k e =
     record {
       unit = world-good c g e;
-      others = λ i l. values-at c (Z .outputs) g 28 1 1 (eqb-true (kind-of-gate c g) 28 e) refl i (omega (arith, l, stimulus-few (c .constants) g k));
+      others = λ i l. values-at c (Z .wired .laid) g 28 1 1 (eqb-true (kind-of-gate c g) 28 e) refl i (omega (arith, l, stimulus-few (c .constants) g k));
       row = stimulus-each Proper (c .constants) g k (proper k);
     }
 
@@ -261,19 +243,25 @@ given-most [] (n ∷ ns) bs = omega arith
 given-most (d ∷ ds) [] bs = omega arith
 given-most (d ∷ ds) (n ∷ ns) bs = omega (arith, given-most ds ns (drop n bs))
 
-pub script-most : (c : Circuit) (limit : ℕ) (sb : List ℕ) → question-8 sb (words sb) ≡ true → length (gets c limit (words sb)) ≤ most-ticks
-unfolding script allowed question-8
-script-most c limit sb q =
-    let ws = words sb in
+-- a script gives no more ticks than its size says
+pub script-ticks : (c : Circuit) (limit : ℕ) (ws : List ℕ) → length (gets c limit ws) ≤ word-at ws 0
+unfolding script allowed
+script-ticks c limit ws =
     let T = word-at ws 0 in
     let S = word-at ws 1 in
     let acts = both (stimulus (c .constants)) (part ws (2 + 2 * T) S) (part ws (2 + 2 * T + S) S) in
     let g = given (part ws 2 T) (part ws (2 + T) T) acts in
+    omega (arith, length-map {B = Allowed} g (allow limit), given-most (part ws 2 T) (part ws (2 + T) T) acts, part-most ws 2 T)
+
+pub script-most : (c : Circuit) (limit : ℕ) (sb : List ℕ) → question-8 sb (words sb) ≡ true → length (gets c limit (words sb)) ≤ most-ticks
+unfolding question-8
+script-most c limit sb q =
+    let ws = words sb in
+    let T = word-at ws 0 in
     let a = eqb (length sb % 8) 0 && leb 2 (length ws) in
-    let h₁ = both-true (a && within 0 most-ticks T && within 0 65535 S) _ q in
+    let h₁ = both-true (a && within 0 most-ticks T && within 0 65535 (word-at ws 1)) _ q in
     let h₂ = both-true (a && within 0 most-ticks T) _ (h₁ .0) in
-    let l = within-true 0 most-ticks T (both-true a _ (h₂ .0) .1) .1 in
-    omega (arith, length-map {B = Allowed} g (allow limit), given-most (part ws 2 T) (part ws (2 + T) T) acts, part-most ws 2 T, l)
+    omega (arith, script-ticks c limit ws, within-true 0 most-ticks T (both-true a _ (h₂ .0) .1) .1)
 
 pub script-gets :
     (areas : Option Areas) (cb sb : List ℕ) → Below 256 cb → Below 256 sb → Accepted areas cb sb → Shaped (circuit (words cb)) → (limit : ℕ) → limit ≤ most-steps →

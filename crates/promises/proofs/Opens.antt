@@ -73,7 +73,7 @@ module _ (c : Circuit) (Z : Shaped c) where
         sized = stale-sized c;
         outs =
             each-keeps-all (λ (vs : List Value). (o : ℕ) → At c o (getD vs o Nothing)) (λ g. eqb (kind-of-gate c g) 5) _
-            (λ vs g e k. places-set (At c) vs (output c g 0) (stored-in c (input c g 0)) Nothing (inr (value-at c (Z .outputs) g 5 0 (eqb-true _ 5 e) refl, Z .stored (input c g 0))) k)
+            (λ vs g e k. places-set (At c) vs (output c g 0) (stored-in c (input c g 0)) Nothing (inr (value-at c (Z .wired .laid) g 5 0 (eqb-true _ 5 e) refl, Z .stored (input c g 0))) k)
             _ _ (all-keep (λ g. eqb (getD (c .kinds) g 0) 5) (from 0 (length (c .kinds)))) (λ o. inl (all-same (length (c .outputs)) o Nothing));
         dt = zero-length;
         uptime = time-zero;
@@ -130,7 +130,7 @@ module _ (c : Circuit) (Z : Shaped c) where
 
   receiver-shows : (g : ℕ) → receiving (kind-of-gate c g) ≡ true → Shows-from 1 8 g
   unfolding receiving kinds-opened all from
-  receiver-shows g e = either-kind (Shows-from 1 8) 26 27 g e (λ q. values-at c (Z .outputs) g 26 1 8 q refl) (λ q. values-at c (Z .outputs) g 27 1 8 q refl)
+  receiver-shows g e = either-kind (Shows-from 1 8) 26 27 g e (λ q. values-at c (Z .wired .laid) g 26 1 8 q refl) (λ q. values-at c (Z .wired .laid) g 27 1 8 q refl)
 
   delivered-fit : (m : Send) → Row Proper (m .row) → All (Fitting c) (delivered c m)
   unfolding delivered
@@ -189,14 +189,14 @@ module _ (c : Circuit) (Z : Shaped c) where
       let d = delay-of c (z .state) s g in
       if-by Opened-holds (eqb k 10 || eqb k 12)
       (λ e. advanced-holds z _ _ g 0 1 _ y s (advance-flight-held _ dt _ d)
-      (either-kind (Shows-from 0 1) 10 12 g e (λ q. values-at c (Z .outputs) g 10 0 1 q refl) (λ q. values-at c (Z .outputs) g 12 0 1 q refl))
+      (either-kind (Shows-from 0 1) 10 12 g e (λ q. values-at c (Z .wired .laid) g 10 0 1 q refl) (λ q. values-at c (Z .wired .laid) g 12 0 1 q refl))
       (inl (flight-calm _ dt _)))
       λ _. if-by Opened-holds (eqb k 11 || eqb k 13)
       (λ e. advanced-holds z _ _ g 0 0 _ y s (advance-fires-held dt _ d) (λ i m. absurd (omega arith))
       (inr (either-kind Fires 11 13 g e (λ q. rw q refl) (λ q. rw q refl))))
       λ _. if-by Opened-holds (eqb k 16 || eqb k 17)
       (λ e. advanced-holds z _ _ g 1 8 _ y s (advance-records-held dt _ d)
-      (either-kind (Shows-from 1 8) 16 17 g e (λ q. values-at c (Z .outputs) g 16 1 8 q refl) (λ q. values-at c (Z .outputs) g 17 1 8 q refl))
+      (either-kind (Shows-from 1 8) 16 17 g e (λ q. values-at c (Z .wired .laid) g 16 1 8 q refl) (λ q. values-at c (Z .wired .laid) g 17 1 8 q refl))
       (inr (either-kind Fires 16 17 g e (λ q. rw q refl) (λ q. rw q refl))))
       λ _. y
 
@@ -216,7 +216,7 @@ module _ (c : Circuit) (Z : Shaped c) where
       let t = plus-time _ _ (d .elapsed) (s .wires .dt) in
       advanced-holds z _ _ g 0 1 _ y s
       (advance-time-held _ _ _ (λ h. limit-reached _ _ (as-float-word _ (read-proper c Z _ g 3 s)) h t) t time-proper d)
-      (values-at c (Z .outputs) g 15 0 1 (eqb-true _ 15 e) refl) (inr (rw (eqb-true (kind-of-gate c g) 15 e) refl))
+      (values-at c (Z .wired .laid) g 15 0 1 (eqb-true _ 15 e) refl) (inr (rw (eqb-true (kind-of-gate c g) 15 e) refl))
 
   invalidate-tells : (w : Wires) (g : ℕ) → time-source (kind-of-gate c g) ≡ true → Tells c w → Tells c (invalidate c w g)
   invalidate-tells w g e f = tells-as c (alike-same (invalidate-alike c (Z .wired) [] w g)) (invalidate-sized c w g e (f .sized)) f

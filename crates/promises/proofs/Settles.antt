@@ -118,10 +118,10 @@ module _ (c : Circuit) (Z : Shaped c) where
       if-by Settled-holds (eqb k 6) (λ e. raise-holds when g 0 (fire-good c g (rw (eqb-true k 6 e) refl)) z)
       λ n₆. if-by Settled-holds (eqb k 7)
       (λ e. edge-holds was now _ z
-      (pulsed-holds _ (value-at c (Z .outputs) g 7 0 (eqb-true k 7 e) refl) z)
-      (pulsed-holds _ (value-at c (Z .outputs) g 7 1 (eqb-true k 7 e) refl) z))
+      (pulsed-holds _ (value-at c (Z .wired .laid) g 7 0 (eqb-true k 7 e) refl) z)
+      (pulsed-holds _ (value-at c (Z .wired .laid) g 7 1 (eqb-true k 7 e) refl) z))
       λ n₇. if-by Settled-holds (eqb k 8)
-      (λ e. pulsed-holds _ (value-at c (Z .outputs) g 8 0 (eqb-true k 8 e) refl) z)
+      (λ e. pulsed-holds _ (value-at c (Z .wired .laid) g 8 0 (eqb-true k 8 e) refl) z)
       λ n₈. if-by Settled-holds (eqb k 9)
       (λ e. edge-holds was now _ z (raise-holds by-rank g 32 (edge-good c g 0 (omega arith) e) z) (raise-holds by-rank g 33 (edge-good c g 1 (omega arith) e) z))
       λ n₉. if-by Settled-holds (eqb k 10 || eqb k 12)

@@ -30,18 +30,12 @@ shows-value fires = false
 shows-value shows = true
 shows-value passes = true
 
--- each output of a gate is what its kind says
-pub record Outputs-are (c : Circuit) : Type 0 where
-  pub laid : Laid c
-  pub out-is : (g p : ℕ) → p < length (kind-at (kind-of-gate c g) .outs) → getD (c .outputs) (output c g p) fires ≡ getD (kind-at (kind-of-gate c g) .outs) p fires
-
 -- a watched input p of gate g is that of a detector or a value buffer, or an E with a source
 abbrev pub Pin-fits : Circuit → ℕ → ℕ → Type 0
 Pin-fits c g p = (among (kind-of-gate c g) (6 ∷ 7 ∷ 8 ∷ 9 ∷ 10 ∷ 12 ∷ []) ≡ true) ⊎ ((p < 16) × (driven c g p ≡ true))
 
 pub record Shaped (c : Circuit) : Type 0 where
   pub wired : Wired c
-  pub outputs : Outputs-are c
   -- a Var's Value and the Index of a Loop's entry are value outputs
   pub var-shows : (g : ℕ) → eqb (kind-of-gate c g) 19 ≡ true → value-output c (var c g) ≡ true
   pub entry-shows : (g : ℕ) → eqb (kind-of-gate c g) 29 ≡ true → value-output c (output c (entry-of-loop c g) 1) ≡ true
@@ -57,12 +51,12 @@ shown-in (x ∷ os) zero e = omega arith
 shown-in (x ∷ os) (suc p) e = omega (arith, shown-in os p e)
 
 -- output p of a gate of kind k
-pub value-at : (c : Circuit) → Outputs-are c → (g k p : ℕ) → kind-of-gate c g ≡ k → shows-value (getD (kind-at k .outs) p fires) ≡ true → value-output c (output c g p) ≡ true
+pub value-at : (c : Circuit) → Laid c → (g k p : ℕ) → kind-of-gate c g ≡ k → shows-value (getD (kind-at k .outs) p fires) ≡ true → value-output c (output c g p) ≡ true
 unfolding value-output
 value-at c Z g k p e q =
     let m : p < length (kind-at (kind-of-gate c g) .outs) = rw e (shown-in (kind-at k .outs) p q) in
     let h = Z .out-is g p m ∙ ap (λ n. getD (kind-at n .outs) p fires) e in
-    rw (lt-ltb (output c g p) _ (Z .laid .output-in g p m)) (go (getD (c .outputs) (output c g p) fires) (ap shows-value h ∙ q))
+    rw (lt-ltb (output c g p) _ (Z .output-in g p m)) (go (getD (c .outputs) (output c g p) fires) (ap shows-value h ∙ q))
   where
     go : (x : Out) → shows-value x ≡ true → (elim x as (λ _. Bool) [ fires ↦ false | shows ↦ true | passes ↦ true ]) ≡ true
     go fires e = e
@@ -71,7 +65,7 @@ value-at c Z g k p e q =
 
 -- outputs from p on, n of them
 pub values-at :
-    (c : Circuit) → Outputs-are c → (g k p n : ℕ) → kind-of-gate c g ≡ k → all (λ i. shows-value (getD (kind-at k .outs) i fires)) (from p n) ≡ true →
+    (c : Circuit) → Laid c → (g k p n : ℕ) → kind-of-gate c g ≡ k → all (λ i. shows-value (getD (kind-at k .outs) i fires)) (from p n) ≡ true →
     (i : ℕ) → i < n → value-output c (output c g p + i) ≡ true
 unfolding output
 values-at c Z g k p n e q i l =

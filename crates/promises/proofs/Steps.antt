@@ -35,7 +35,7 @@ module _ (c : Circuit) (Z : Shaped c) where
 
   -- output p of a gate of kind k gets a value
   out-holds : (s : State) (g k p : ℕ) (v : Value) → kind-of-gate c g ≡ k → shows-value (getD (kind-at k .outs) p fires) ≡ true → Proper v → Holds c s → Holds c (set-output c s (output c g p) v)
-  out-holds s g k p v e q r z = set-output-holds c _ v (value-at c (Z .outputs) g k p e q) r z
+  out-holds s g k p v e q r z = set-output-holds c _ v (value-at c (Z .wired .laid) g k p e q) r z
 
   passed-holds : (s : State) (x : List Bool) → length x ≡ length (s .wires .unions-passed) → Holds c s → Holds c (wires≔ s (unions-passed≔ (s .wires) x))
   passed-holds s x e z = wires-holds c z (passed-tells c (s .wires) x e (z .wires))

@@ -169,7 +169,7 @@ module _ (c : Circuit) where
     recompute-tells : (w : Wires) (g : ℕ) → Pure c g → Tells w → Tells (recompute c w g)
     unfolding recompute show clean outs≔ dirty≔
     recompute-tells w g e f =
-        let q = value-at c (Z .outputs) g (kind-of-gate c g) 0 refl (pure-shows (kind-of-gate c g) e) in
+        let q = value-at c (Z .wired .laid) g (kind-of-gate c g) 0 refl (pure-shows (kind-of-gate c g) e) in
         record {
           sized = recompute-sized c w g (f .sized);
           outs = places-set (At c) (w .outs) (output c g 0) (compute c w g) Nothing (inr (q, compute-proper w g f)) (f .outs);

@@ -8,7 +8,7 @@ use Rattle.model.specs.Base.{if_then_else_}
 use Rattle.replay.specs.declared.class_due.ClassDue.{ClassDue}
 use Rattle.replay.specs.Bytes.{all-alike, answered}
 use Rattle.replay.specs.ClassDue.{area-byte, class-as-due}
-use Rattle.replay.proofs.Comparing.{and-left, and-right}
+use Rattle.packed.proofs.Comparing.{and-left, and-right}
 
 -- ---- the byte of the areas
 

@@ -3,6 +3,5 @@ mod ClassEnding
 mod ClassMeeting
 mod Comparing
 mod Ending
-mod Fitting
 mod Meeting
 mod ReportMeeting

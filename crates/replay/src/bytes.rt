@@ -1,7 +1,9 @@
 // Bytes and words compared.
 ghost use mathlib.Core.Path.{_≡_};
 ghost use Rattle.words.specs.Slices.{before};
-ghost use Rattle.replay.specs.Bytes.{alike, all-alike, same, holds, answered};
+ghost use Rattle.replay.specs.Bytes.{alike, all-alike, holds, answered};
+use packed::same::is_same;
+use packed::same::is_same_words;
 
 // Whether every byte of the area is this one.
 pub fn is_alike(area: &[u8], byte: u8) -> bool
@@ -29,42 +31,6 @@ pub fn are_alike(values: &[u8], units: &[u8], delays: &[u8], byte: u8) -> bool
         return false;
     }
     is_alike(delays, byte)
-}
-
-// Whether both are of one length, with the same bytes.
-pub fn is_same(a: &[u8], b: &[u8]) -> bool
-    ensures { λ r. ⌜ r ≡ same (before a) (before b) ⌝ }
-{
-    let n = a.len();
-    if b.len() != n {
-        return false;
-    }
-    let mut i = 0;
-    while i < n {
-        if a[i] != b[i] {
-            return false;
-        }
-        i += 1;
-    }
-    true
-}
-
-// Whether both are of one length, with the same words.
-pub fn is_same_words(told: &[u64], due: &[u64]) -> bool
-    ensures { λ r. ⌜ r ≡ same (before told) (before due) ⌝ }
-{
-    let n = told.len();
-    if due.len() != n {
-        return false;
-    }
-    let mut i = 0;
-    while i < n {
-        if told[i] != due[i] {
-            return false;
-        }
-        i += 1;
-    }
-    true
 }
 
 // Whether the log holds these records, and behind them nothing but this byte.

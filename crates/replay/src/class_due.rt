@@ -4,7 +4,7 @@ ghost use Rattle.words.specs.Slices.{before, was};
 ghost use Rattle.replay.specs.ClassDue.{class-due-of, area-byte, class-as-due};
 use crate::bytes::are_alike;
 use crate::bytes::is_answered;
-use crate::rooms::FILLED;
+use packed::filled::FILLED;
 use words::read;
 
 // The numbers before a class's circuit: the bytes lent, and the words for what is told; the call's number that is due, and whether the areas are zero afterwards (1) or

@@ -20,19 +20,20 @@ use due::Due;
 use due::is_as_due;
 use due::numbers;
 use libc::STDOUT_FILENO;
+use packed::filled::FILLED;
+use packed::filled::TOLD;
+use packed::filled::filled_words;
+use packed::next_bytes;
+use packed::next_word;
+use packed::next_words;
 use report_due::ReportDue;
 use rooms::DELAYS;
-use rooms::FILLED;
 use rooms::ROOM;
-use rooms::TOLD;
 use rooms::filled_delays;
 use rooms::filled_room;
-use rooms::filled_words;
 use rooms::room;
 use tally::Tally;
-use words::read;
 use words::told::put_at;
-use words::write;
 
 // The bytes of the numbers before a run's circuit.
 const RUN_HEAD: usize = 72;
@@ -43,71 +44,7 @@ const CLASS_HEAD: usize = 104;
 // The bytes of the numbers before a report's circuit.
 const REPORT_HEAD: usize = 72;
 
-// ---- packed words, read from a file
-
-// A word, and whether it was there whole; one that was not is 0.
-pub struct Word {
-    pub whole: bool,
-    pub value: u64,
-}
-
-// Reads a packed word: how many bytes it has, and these; the others are 0.
-fn next_word(fd: i32) -> Word {
-    let mut count = [0u8; 8];
-    if io::read_full(fd, &mut count[..1]) != 1 {
-        return Word {
-            whole: false,
-            value: 0,
-        };
-    }
-    let n = read(&count, 0) as usize;
-    let mut bytes = [0u8; 8];
-    if 8 < n || io::read_full(fd, &mut bytes[..n]) != n {
-        return Word {
-            whole: false,
-            value: 0,
-        };
-    }
-    Word {
-        whole: true,
-        value: read(&bytes, 0),
-    }
-}
-
-// Reads as many packed words as hold so many bytes to the front of a buffer of whole words: whether they were there whole, and have room.
-fn next_bytes(fd: i32, buffer: &mut [u8], bytes: usize) -> bool {
-    if buffer.len() < bytes {
-        return false;
-    }
-    let n = bytes / 8 + (bytes % 8 + 7) / 8;
-    let mut k = 0;
-    while k < n {
-        let word = next_word(fd);
-        if !word.whole {
-            return false;
-        }
-        write(buffer, k, word.value);
-        k += 1;
-    }
-    true
-}
-
-// Reads n packed words to the front of these: whether they were there whole, and have room.
-fn next_words(fd: i32, told: &mut [u64], n: usize) -> bool {
-    if told.len() < n {
-        return false;
-    }
-    let mut k = 0;
-    while k < n {
-        let word = next_word(fd);
-        if !word.whole {
-            return false;
-        }
-        told[k] = word.value;
-        k += 1;
-    }
-    true
-}
+// ---- the parts of a log, read from a file
 
 // Reads how many bytes of records a part of a log has, and these to its front.
 fn next_part(fd: i32, part: &mut [u8]) -> bool {

@@ -7,14 +7,16 @@
 //! A class has a book in place of the script, and one thing more, the words lent
 //! for what is told; its answer has the number of the call and one made of all
 //! that it leaves. A report is `report` behind its name, what is named, the bytes
-//! and the words lent, and the bytes of circuit and log; its answer is likewise.
+//! and the words lent, and the bytes of circuit and log; its answer is likewise. A
+//! size is `size` behind its name, the ticks, the words lent and the bytes of its
+//! circuit; its answer has the number of the call and the words that it leaves.
 
 use std::io::{BufRead, BufReader, Write};
 use std::panic::catch_unwind;
 
 use oracle::class::{Held, call};
 use oracle::hours::{self, Named};
-use oracle::{Answer, Lent, check, run};
+use oracle::{Answer, Lent, check, run, size};
 
 /// An answer of more words, or with more steps in its first tick, is slow.
 const MANY_WORDS: usize = 50_000;
@@ -40,8 +42,10 @@ fn main() {
 
 fn in_short(case: &str) -> String {
     let parts: Vec<&str> = case.split('\t').collect();
-    if parts[0] == "report" {
-        return report_in_short(&parts[1..]);
+    match parts[0] {
+        "report" => return report_in_short(&parts[1..]),
+        "size" => return size_in_short(&parts[1..]),
+        _ => {}
     }
     let [log, values, units, delays] = [0, 1, 2, 3].map(|at| parts[at].parse().expect("a size"));
     let lent = Lent { log, values, units, delays };
@@ -85,6 +89,14 @@ fn report_in_short(parts: &[&str]) -> String {
     let speed = if log.len() > 8 * MANY_WORDS { "slow" } else { "quick" };
     let told = hash_of_bytes(left.told.iter().flat_map(|word| word.to_le_bytes()));
     format!("{speed}\t{number} {:016x} {told:016x}", hash_of_bytes(left.report.into_iter()))
+}
+
+/// What is lent holds 165 in each byte.
+fn size_in_short(parts: &[&str]) -> String {
+    let ticks = parts[0].parse().expect("a word");
+    let before = vec![u64::from_le_bytes([165; 8]); parts[1].parse().expect("a size")];
+    let (number, told) = size::call(&bytes(parts[2]), ticks, before);
+    format!("quick\t{number} {told:?}")
 }
 
 fn bytes(hexadecimal: &str) -> Vec<u8> {

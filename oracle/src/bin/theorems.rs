@@ -1,8 +1,10 @@
 //! Writes the vectors as theorems about the definition, proved by `refl`: the
 //! prover computes each answer from bytes (see tools/compare).
 //!
-//! theorems VECTORS CRATE: the vectors in the folder VECTORS, as the specs of
-//! a crate in the folder CRATE, so many theorems a module.
+//! theorems VECTORS CRATE [SORT]: the vectors in the folder VECTORS, as the specs
+//! of a crate in the folder CRATE, so many theorems a module; of one sort alone,
+//! where it is named by the word that its vectors begin with (case, class, report
+//! or size).
 
 use std::fmt::Write as _;
 use std::path::Path;
@@ -10,13 +12,16 @@ use std::process::ExitCode;
 
 use oracle::Lent;
 use oracle::play::start;
-use oracle::questions::ask;
+use oracle::questions::{ask, ask_circuit};
 
 /// What the prover computes within its limits: words of a log that takes the
 /// whole run, and its steps, units and runs of bodies times its gates. A run
 /// above either is left out, and counted.
 const MOST_WORDS: usize = 3_000;
 const MOST_WORK: usize = 40_000;
+
+/// And of a size its gates times its gates and calls.
+const MOST_WALKED: usize = 15_000;
 
 /// The words of a record before its units begun.
 const HEAD: usize = 7;
@@ -29,11 +34,15 @@ const FILLED_WORD: u64 = u64::from_le_bytes([FILLED; 8]);
 
 fn main() -> ExitCode {
     let arguments: Vec<String> = std::env::args().skip(1).collect();
-    let [vectors, target] = arguments.as_slice() else {
-        eprintln!("theorems VECTORS CRATE");
-        return ExitCode::FAILURE;
+    let (vectors, target, only) = match arguments.as_slice() {
+        [vectors, target] => (vectors, target, None),
+        [vectors, target, word] if sort(word).is_some() => (vectors, target, sort(word)),
+        _ => {
+            eprintln!("theorems VECTORS CRATE [case | class | report | size]");
+            return ExitCode::FAILURE;
+        }
     };
-    match write(vectors.as_ref(), target.as_ref()) {
+    match write(vectors.as_ref(), target.as_ref(), only) {
         Ok(counts) => {
             println!("{counts}");
             ExitCode::SUCCESS
@@ -45,7 +54,7 @@ fn main() -> ExitCode {
     }
 }
 
-fn write(vectors: &Path, target: &Path) -> std::io::Result<String> {
+fn write(vectors: &Path, target: &Path, only: Option<Sort>) -> std::io::Result<String> {
     let mut files: Vec<_> = std::fs::read_dir(vectors)?.collect::<Result<_, _>>()?;
     files.sort_by_key(|file| file.path());
     let texts: Vec<String> = files
@@ -53,10 +62,12 @@ fn write(vectors: &Path, target: &Path) -> std::io::Result<String> {
         .filter(|file| file.path().extension().is_some_and(|e| e == "txt"))
         .map(|file| std::fs::read_to_string(file.path()))
         .collect::<Result<_, _>>()?;
-    let cases: Vec<Case> = texts.iter().flat_map(|text| cases(text)).collect();
+    let is_wanted = |case: &Case| only.is_none_or(|sort| case.sort == sort);
+    let cases: Vec<Case> = texts.iter().flat_map(|text| cases(text)).filter(is_wanted).collect();
     let kept: Vec<&Case> = cases.iter().filter(|case| case.fits()).collect();
     let of = |sort: Sort| -> Vec<&Case> { kept.iter().copied().filter(|case| case.sort == sort).collect() };
-    let (runs, classes, reports) = (of(Sort::Run), of(Sort::Class), of(Sort::Report));
+    let (runs, classes) = (of(Sort::Run), of(Sort::Class));
+    let (reports, sizes) = (of(Sort::Report), of(Sort::Size));
     let refusals = runs.iter().filter(|case| case.get("refused").is_some()).count();
 
     let specs = target.join("specs");
@@ -64,9 +75,14 @@ fn write(vectors: &Path, target: &Path) -> std::io::Result<String> {
     std::fs::create_dir_all(target.join("src"))?;
     std::fs::write(target.join("src/lib.rt"), "// Theorems alone: see specs/.\n")?;
     std::fs::write(specs.join("Left.antt"), LEFT)?;
-    let mut root = String::from("pub mod Left\n");
-    let parts =
-        [("Part", HEAD_OF_RUNS, &runs), ("Class", HEAD_OF_CLASSES, &classes), ("Report", HEAD_OF_REPORTS, &reports)];
+    std::fs::write(specs.join("Sized.antt"), SIZED)?;
+    let mut root = String::from("pub mod Left\npub mod Sized\n");
+    let parts = [
+        ("Part", HEAD_OF_RUNS, &runs),
+        ("Class", HEAD_OF_CLASSES, &classes),
+        ("Report", HEAD_OF_REPORTS, &reports),
+        ("Size", HEAD_OF_SIZES, &sizes),
+    ];
     for (name, head, cases) in parts {
         for (n, chunk) in cases.chunks(THEOREMS_A_MODULE).enumerate() {
             let _ = writeln!(root, "pub mod {name}{n}");
@@ -74,10 +90,11 @@ fn write(vectors: &Path, target: &Path) -> std::io::Result<String> {
         }
     }
     std::fs::write(specs.join("Lib.antt"), root)?;
-    let (runs, classes, reports) = (runs.len() - refusals, classes.len(), reports.len());
+    let (runs, classes) = (runs.len() - refusals, classes.len());
+    let (reports, sizes) = (reports.len(), sizes.len());
     let left_out = cases.len() - kept.len();
     Ok(format!(
-        "{runs} runs, {refusals} refusals, {classes} classes and {reports} reports as theorems, {left_out} left out as too long"
+        "{runs} runs, {refusals} refusals, {classes} classes, {reports} reports and {sizes} sizes as theorems, {left_out} left out as too long"
     ))
 }
 
@@ -87,6 +104,7 @@ enum Sort {
     Run,
     Class,
     Report,
+    Size,
 }
 
 /// By the word that its first line begins with.
@@ -95,12 +113,13 @@ fn sort(word: &str) -> Option<Sort> {
         "case" => Some(Sort::Run),
         "class" => Some(Sort::Class),
         "report" => Some(Sort::Report),
+        "size" => Some(Sort::Size),
         _ => None,
     }
 }
 
-/// A case of a vector file, a class or a report: its name, and its lines, each a
-/// word and the rest.
+/// A case of a vector file, a class, a report or a size: its name, and its lines,
+/// each a word and the rest.
 struct Case<'a> {
     name: &'a str,
     sort: Sort,
@@ -129,7 +148,18 @@ impl Case<'_> {
     fn fits(&self) -> bool {
         let summed = self.lines.iter().any(|line| line.0.ends_with("-sum"));
         let refused = self.get("refused").is_some() && self.get("parts").is_none();
-        !summed && (refused || self.is_short())
+        match self.sort {
+            Sort::Size => !summed && self.walked() <= MOST_WALKED,
+            Sort::Run | Sort::Class | Sort::Report => !summed && (refused || self.is_short()),
+        }
+    }
+
+    /// What the rounds of a size walk: as many as it has gates, each over all its
+    /// gates and calls; none where its circuit is refused.
+    fn walked(&self) -> usize {
+        let Ok(circuit) = ask_circuit(&self.raw("circuit"), None) else { return 0 };
+        let gates = circuit.kinds.len();
+        gates * (gates + circuit.calls.len())
     }
 
     /// All its scripts together, those that are refused left out. A report has
@@ -139,7 +169,7 @@ impl Case<'_> {
         let scripts = match self.sort {
             Sort::Run => vec![self.raw("script")],
             Sort::Class => self.scripts(),
-            Sort::Report => Vec::new(),
+            Sort::Report | Sort::Size => Vec::new(),
         };
         let efforts = scripts.iter().filter_map(|script| effort(&circuit, script));
         let (words, work) = efforts.fold((0, 0), |sum, one| (sum.0 + one.0, sum.1 + one.1));
@@ -173,6 +203,7 @@ impl Case<'_> {
             Sort::Run => (self.run(), "model-opened"),
             Sort::Class => (self.class(), "left-opened"),
             Sort::Report => (self.report(), "model-opened whole-opened records-opened reply-opened hours-opened"),
+            Sort::Size => (self.size(), "sized-opened"),
         };
         format!("-- {name}\nrow-{n} :\n    {stated}\nunfolding {opened}\nrow-{n} = refl\n")
     }
@@ -233,6 +264,23 @@ impl Case<'_> {
         };
         let (circuit, log) = (self.bytes("circuit"), self.bytes("log"));
         format!("hours {circuit} {log} {driver} {activity} {length} {room}\n    ≡ {answer}")
+    }
+
+    /// What the call for both figures answers, and what it leaves of the words lent
+    /// for what is told.
+    fn size(&self) -> String {
+        let asked: Vec<u64> = bits(self.get("asked").unwrap_or("")).collect();
+        let [ticks, told] = asked[..] else { panic!("{}: asked {asked:?}", self.name) };
+        let answer = match self.get("refused") {
+            Some(number) => format!("answer = refused {number}; number = {number}"),
+            None => format!("answer = figures {}; number = 0", self.get("figures").unwrap_or("")),
+        };
+        let words: Vec<u64> = bits(self.get("told").unwrap_or("")).collect();
+        let rest = told as usize - words.len();
+        let (circuit, words) = (self.bytes("circuit"), list(words.into_iter()));
+        format!(
+            "sized {told} {circuit} {ticks}\n    ≡ record {{ {answer}; told = {words} ++ replicate {rest} {FILLED_WORD} }}"
+        )
     }
 
     /// The answers of a class's scripts: the words of its log, and how it ended,
@@ -366,6 +414,15 @@ use Rattle.records.specs.Reply.{Reply, refused, writes, reply-opened}
 use Rattle.hours.specs.Hours.{hours, hours-opened}
 ";
 
+const HEAD_OF_SIZES: &str = "use mathlib.Core.Path.{_≡_, refl}
+use mathlib.Core.List.{List, [], _∷_, _++_}
+use Prim.Native.Nat.{ℕ}
+use lib.ListN.{replicate}
+use Rattle.words.specs.Words.{bytes}
+use Rattle.figures.specs.Figures.{Size, refused, figures}
+use Rattle.compare.specs.Sized.{Sized, sized, sized-opened}
+";
+
 /// What a class comes to and leaves of a log, areas and words that hold the
 /// filling before.
 const LEFT: &str = "use mathlib.Core.List.{List}
@@ -405,6 +462,31 @@ left areas room words circuit book = left-by (class areas room circuit book) (pa
 unfoldable pub left-opened : ℕ
 unfolding model-opened book-opened several-opened class-opened left-by left
 left-opened = 0
+";
+
+/// What the call for both figures answers, and leaves of words that hold the
+/// filling before.
+const SIZED: &str = "use mathlib.Core.List.{List}
+use Prim.Native.Nat.{ℕ}
+use lib.ListN.{replicate}
+use Rattle.model.specs.Answer.{model-opened}
+use Rattle.figures.specs.Figures.{Size, size, size-number, size-told, figures-opened}
+
+pub record Sized : Type 0 where
+  pub answer : Size
+  pub number : ℕ
+  pub told : List ℕ
+
+unfoldable pub sized-by : Size → ℕ → Sized
+sized-by a words = record { answer = a; number = size-number a; told = size-told a (replicate words 11936128518282651045) }
+
+-- with so many words for what is told
+unfoldable pub sized : ℕ → List ℕ → ℕ → Sized
+sized words circuit ticks = sized-by (size circuit ticks) words
+
+unfoldable pub sized-opened : ℕ
+unfolding model-opened figures-opened sized-by sized
+sized-opened = 0
 ";
 
 fn module(head: &str, cases: &[&Case]) -> String {

@@ -1,7 +1,7 @@
 //! docs/CIRCUITS.md, written from the list of the stated circuits.
 
 use super::places::{HELD_OTHERWISE, PLACES};
-use super::{Case, Group, classes, groups, reports};
+use super::{Case, Group, classes, groups, reports, sizes};
 use crate::generate::stated_families;
 
 /// The text of docs/CIRCUITS.md.
@@ -14,6 +14,7 @@ pub fn document() -> String {
     }
     text += &format!("{CLASSES_INTRODUCTION}{}", class_table());
     text += &format!("{REPORTS_INTRODUCTION}{}", report_table());
+    text += &format!("{SIZES_INTRODUCTION}{}", size_table());
     text += PLACES_INTRODUCTION;
     for (place, number) in PLACES.into_iter().zip(1..) {
         text += &format!("{number}. {place} {}\n", told(&groups, number));
@@ -26,7 +27,7 @@ const INTRODUCTION: &str = "# The stated circuits
 Every circuit and script that the player and the source are compared on, with what each shows. This page is
 written from the list in `oracle/src/circuits` (`oracle circuits > docs/CIRCUITS.md`), and a test holds it to
 that list. `oracle circuits NAME DIR` writes one as `circuit.bin` and `script.bin`, a class as `circuit.bin` and
-`book.bin`, or a report as `circuit.bin` and `log.bin`; `vectors/` holds the answers.
+`book.bin`, a report as `circuit.bin` and `log.bin`, or a size as `circuit.bin`; `vectors/` holds the answers.
 ";
 
 const CLASSES_INTRODUCTION: &str = "\n## Classes
@@ -42,6 +43,14 @@ const REPORTS_INTRODUCTION: &str = "\n## Reports
 Finished logs, each with the outputs and the length that are named of it: the order of the questions, whole records
 of a circuit clause by clause, what is named, whose ticks are, minutes, the room, and what is told (document 02, K3).
 Most are over a circuit of two Vars, a ChangeDetector and a World, and no run wrote them.
+
+";
+
+const SIZES_INTRODUCTION: &str = "\n## Sizes
+
+Circuits of which the most steps of a unit and the most bytes of a log are asked, without a run: the order of the
+questions, what a gate passes on to, where a unit may start, rings of calls and Loops, many steps, the bytes of a log,
+and what is told (document 02, K12). Without another number they are for ten ticks.
 
 ";
 
@@ -74,6 +83,11 @@ fn report_table() -> String {
     listed("report", rows, RANDOM_REPORTS)
 }
 
+fn size_table() -> String {
+    let rows = sizes().into_iter().map(|size| (size.name, size.shows)).collect();
+    listed("size", rows, RANDOM_SIZES)
+}
+
 /// Names and what they show. The random ones have one row.
 fn listed(what: &str, rows: Vec<(String, String)>, of_random: &str) -> String {
     let mut text = format!("| {what} | shows |\n|---|---|\n");
@@ -90,6 +104,9 @@ const RANDOM_CLASSES: &str = "Circuits of every family with books of 0 to 17 scr
 
 const RANDOM_REPORTS: &str = "Logs of random circuits of every family, as they are or with other drivers and activities, \
      whole or damaged, with outputs and lengths named well and badly";
+
+const RANDOM_SIZES: &str = "Circuits of every family, damaged ones, and ones with many calls, most of them without a \
+     ring; ticks up to 100,000, and more now and then";
 
 /// One row a family: its circuits differ in their seeds alone.
 fn families(group: &Group) -> String {

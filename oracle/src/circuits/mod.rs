@@ -13,15 +13,17 @@ mod places;
 mod played;
 mod questions;
 mod reports;
+mod sizes;
 mod start;
 mod traps;
 mod vehicles;
 
-pub use crate::case::{Case, Class, Report};
+pub use crate::case::{Case, Class, Report, Size};
 pub use classes::classes;
 pub use list::document;
 pub use places::{HELD_OTHERWISE, PLACES};
 pub use reports::reports;
+pub use sizes::sizes;
 
 /// The cases of one file, in order.
 pub struct Group {

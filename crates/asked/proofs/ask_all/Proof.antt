@@ -8,40 +8,32 @@ use Rattle.asked.proofs.ask_next.Reads as ask-next-reads
 use Rattle.asked.proofs.tally.Tally.new.Reads as new-reads
 
 abbrev Inv-loop : tie.InvT-loop
-Inv-loop fd cases tally₀ left₀ tally left = Unit {0}
+Inv-loop fd sort cases tally₀ left₀ tally left = Unit {0}
 
 abbrev μ-loop : tie.MeasureT-loop
-μ-loop fd cases tally₀ left₀ tally left = left
+μ-loop fd sort cases tally₀ left₀ tally left = left
 
--- src/main.rt:80:9
 new-requires : tie.Need-new-requires Inv-loop μ-loop
 new-requires c κs = search needs
 
--- src/main.rt:82:5
 loop-holds : tie.Need-loop-holds Inv-loop μ-loop
 loop-holds c = search needs
 
--- src/main.rt:83:9
 ask-next-requires : tie.Need-ask-next-requires Inv-loop μ-loop
 ask-next-requires c κs = search needs
 
--- src/main.rt:84:9
 sub-left : tie.Need-sub-left Inv-loop μ-loop
 sub-left c = search needs
 
--- src/main.rt:82:5
 loop-less : tie.Need-loop-less Inv-loop μ-loop
 loop-less c = search needs
 
--- src/main.rt:82:5
 loop-again : tie.Need-loop-again Inv-loop μ-loop
 loop-again c = search needs
 
--- src/main.rt:79:1
 returns : tie.Need-returns Inv-loop μ-loop
 returns c = search needs
 
--- src/main.rt:79:1
 returns-2 : tie.Need-returns-2 Inv-loop μ-loop
 returns-2 c = search needs
 

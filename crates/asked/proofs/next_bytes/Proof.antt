@@ -8,27 +8,21 @@ use Rattle.asked.proofs.next_bytes.Reads as reads
 use Rattle.asked.proofs.next_bytes.Lts as lts
 use Rattle.io.proofs.read_full.Reads as read-full-reads
 
--- src/main.rt:34:9
 returns : tie.Need-returns
 returns c = search needs
 
--- src/main.rt:36:23
 slice-relend-prefix-read-full : tie.Need-slice-relend-prefix-read-full
 slice-relend-prefix-read-full c = search needs
 
--- src/main.rt:36:23
 slice-aggregate-read-full : tie.Need-slice-aggregate-read-full
 slice-aggregate-read-full c = sym (length-take-le (c .before .before .before .args .n) (c .before .before .before .args .buffer .now) (c .before .if1 .left))
 
--- src/main.rt:36:5
 read-full-requires : tie.Need-read-full-requires
 read-full-requires c κs = search needs
 
--- src/main.rt:30:1
 same-length : tie.Need-same-length
 same-length c = search needs
 
--- src/main.rt:30:1
 returns-2 : tie.Need-returns-2
 returns-2 c = counts-longer _ _ _ (c .before .before .read-full .ensures)
 

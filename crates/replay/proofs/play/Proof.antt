@@ -1,4 +1,4 @@
-use Rattle.replay.proofs.Fitting.{fitting, front}
+use Rattle.packed.proofs.Fitting.{fitting, front}
 use borrow.Author.Needs.{needs}
 use Rattle.replay.proofs.play.Statement.{statement}
 use Rattle.replay.proofs.play.Tie as tie

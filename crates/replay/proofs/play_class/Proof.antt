@@ -1,4 +1,4 @@
-use Rattle.replay.proofs.Fitting.{fitting, front}
+use Rattle.packed.proofs.Fitting.{fitting, front}
 use borrow.Author.Needs.{needs}
 use Rattle.replay.proofs.play_class.Statement.{statement}
 use Rattle.replay.proofs.play_class.Tie as tie
@@ -7,7 +7,7 @@ use Rattle.replay.proofs.play_class.Lts as lts
 use Rattle.replay.proofs.play_class_lent.Reads as play-class-lent-reads
 use Rattle.replay.proofs.rooms.filled_delays.Reads as filled-delays-reads
 use Rattle.replay.proofs.rooms.filled_room.Reads as filled-room-reads
-use Rattle.replay.proofs.rooms.filled_words.Reads as filled-words-reads
+use Rattle.packed.proofs.filled.filled_words.Reads as filled-words-reads
 
 returns : tie.Need-returns
 returns c = search needs

@@ -1,4 +1,4 @@
-use Rattle.replay.proofs.Fitting.{fitting, front}
+use Rattle.packed.proofs.Fitting.{fitting, front}
 use borrow.Author.Tests.{ltb-false}
 use native.Mathlib.Omega.{arith}
 use borrow.Author.Needs.{needs}
@@ -8,10 +8,10 @@ use Rattle.replay.proofs.play_next_report.Reads as reads
 use Rattle.replay.proofs.play_next_report.Lts as lts
 use Rattle.replay.proofs.report_due.ReportDue.of.Reads as of-reads
 use Rattle.replay.proofs.play_one_report.Reads as play-one-report-reads
-use Rattle.replay.proofs.next_bytes.Reads as next-bytes-reads
+use Rattle.packed.proofs.next_bytes.Reads as next-bytes-reads
 use Rattle.replay.proofs.rooms.filled_room.Reads as filled-room-reads
 use Rattle.replay.proofs.rooms.room.Reads as room-reads
-use Rattle.replay.proofs.rooms.filled_words.Reads as filled-words-reads
+use Rattle.packed.proofs.filled.filled_words.Reads as filled-words-reads
 use Rattle.replay.proofs.tally.Tally.with_cut.Reads as with-cut-reads
 
 slice-aggregate-next-bytes : tie.Need-slice-aggregate-next-bytes

@@ -1,4 +1,4 @@
-use Rattle.replay.proofs.Fitting.{front}
+use Rattle.packed.proofs.Fitting.{front}
 use borrow.Author.Tests.{ltb-false}
 use native.Mathlib.Omega.{arith}
 use borrow.Author.Needs.{needs}
@@ -7,7 +7,7 @@ use Rattle.replay.proofs.play_next_run.Tie as tie
 use Rattle.replay.proofs.play_next_run.Reads as reads
 use Rattle.replay.proofs.play_next_run.Lts as lts
 use Rattle.replay.proofs.due.numbers.Reads as numbers-reads
-use Rattle.replay.proofs.next_bytes.Reads as next-bytes-reads
+use Rattle.packed.proofs.next_bytes.Reads as next-bytes-reads
 use Rattle.replay.proofs.rooms.room.Reads as room-reads
 use Rattle.replay.proofs.play_one.Reads as play-one-reads
 use Rattle.replay.proofs.tally.Tally.with_cut.Reads as with-cut-reads

@@ -1,4 +1,4 @@
-use Rattle.replay.proofs.Fitting.{fitting, front}
+use Rattle.packed.proofs.Fitting.{fitting, front}
 use borrow.Author.Needs.{needs}
 use Rattle.replay.proofs.play_report.Statement.{statement}
 use Rattle.replay.proofs.play_report.Tie as tie
@@ -6,7 +6,7 @@ use Rattle.replay.proofs.play_report.Reads as reads
 use Rattle.replay.proofs.play_report.Lts as lts
 use Rattle.replay.proofs.play_report_lent.Reads as play-report-lent-reads
 use Rattle.replay.proofs.rooms.filled_room.Reads as filled-room-reads
-use Rattle.replay.proofs.rooms.filled_words.Reads as filled-words-reads
+use Rattle.packed.proofs.filled.filled_words.Reads as filled-words-reads
 
 returns : tie.Need-returns
 returns c = search needs

@@ -7,7 +7,7 @@ use Rattle.kinds.proofs.Laws.{few-inputs}
 use Rattle.links.specs.Links.{net}
 use Rattle.circuit.specs.Gates.{with-source}
 use Rattle.circuit.proofs.Turns.{each-from, each-first, each-next, each-last}
-use Rattle.circuit.proofs.Unplaced.{awaited-none, awaited-some}
+use Rattle.circuit.proofs.Sources.{awaited-none, awaited-some}
 use Rattle.circuit.proofs.rings.awaited.Tie as tie
 use Rattle.circuit.proofs.rings.awaited.Statement.{statement}
 

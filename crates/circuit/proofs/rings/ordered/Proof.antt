@@ -2,12 +2,14 @@ use Prim.Native.Nat.{_≤_, _-_}
 use mathlib.Core.Path.{_≡_}
 use borrow.Author.Needs.{needs}
 use Rattle.links.specs.Links.{net}
-use Rattle.circuit.proofs.Unplaced.{unplaced-after, rounds-first, rounds-over, rounds-next, rounds-last}
+use Rattle.model.proofs.Placing.{placed}
+use Rattle.circuit.proofs.Unplaced.{unplaced as unplaced-gates}
+use Rattle.circuit.proofs.Sources.{pure-first, pure-over, pure-next, pure-last}
 use Rattle.circuit.proofs.rings.ordered.Tie as tie
 use Rattle.circuit.proofs.rings.ordered.Statement.{statement}
 
 abbrev Inv-loop : tie.InvT-loop
-Inv-loop links n words unplaced₀ k₀ unplaced k = (k ≤ n) × (unplaced ≡ unplaced-after (net links) k)
+Inv-loop links n words unplaced₀ k₀ unplaced k = (k ≤ n) × (unplaced ≡ unplaced-gates (placed (net links) k))
 
 abbrev μ-loop : tie.MeasureT-loop
 μ-loop links n words unplaced₀ k₀ unplaced k = n - k
@@ -25,10 +27,10 @@ pure-gates-requires : tie.Need-pure-gates-requires Inv-loop μ-loop
 pure-gates-requires c κs = search needs
 
 loop-holds : tie.Need-loop-holds Inv-loop μ-loop
-loop-holds c = (search needs, rounds-first _ _ _ (c .before .before .before .before .gates .ensures .0) (c .pure-gates .ensures))
+loop-holds c = (search needs, pure-first _ _ _ (c .before .before .before .before .gates .ensures .0) (c .pure-gates .ensures))
 
 returns : tie.Need-returns Inv-loop μ-loop
-returns c = rounds-over _ _ _ _ (c .before .before .before .before .before .before .before .gates .ensures .0) (c .before .loop-test .taken) (c .before .before .loop .inv .1) (c .if1 .taken)
+returns c = pure-over _ _ _ _ (c .before .before .before .before .before .before .before .gates .ensures .0) (c .before .loop-test .taken) (c .before .before .loop .inv .1) (c .if1 .taken)
 
 slice-aggregate-round : tie.Need-slice-aggregate-round Inv-loop μ-loop
 slice-aggregate-round c = search needs
@@ -43,10 +45,10 @@ loop-less : tie.Need-loop-less Inv-loop μ-loop
 loop-less c = search needs
 
 loop-again : tie.Need-loop-again Inv-loop μ-loop
-loop-again c = (search needs, rounds-next _ _ _ _ _ _ (c .before .before .before .before .before .before .before .before .before .gates .ensures .0) (c .before .before .before .before .before .before .before .before .before .gates .ensures .1) (c .before .before .before .before .before .before .before .fill .ensures) (c .before .before .before .before .loop .inv .1) (c .round .ensures))
+loop-again c = (search needs, pure-next _ _ _ _ _ _ (c .before .before .before .before .before .before .before .before .before .gates .ensures .0) (c .before .before .before .before .before .before .before .before .before .gates .ensures .1) (c .before .before .before .before .before .before .before .fill .ensures) (c .before .before .before .before .loop .inv .1) (c .round .ensures))
 
 returns-2 : tie.Need-returns-2 Inv-loop μ-loop
-returns-2 c = rounds-last _ _ _ _ (c .before .before .before .before .before .before .gates .ensures .0) (c .before .loop .inv .0) (c .loop-test .left) (c .before .loop .inv .1)
+returns-2 c = pure-last _ _ _ _ (c .before .before .before .before .before .before .gates .ensures .0) (c .before .loop .inv .0) (c .loop-test .left) (c .before .loop .inv .1)
 
 pub ordered-spec : {M : Type 1} → statement M
 ordered-spec =

@@ -1,5 +1,5 @@
 use borrow.Author.Needs.{needs}
-use Rattle.circuit.proofs.Unplaced.{source-some, source-none}
+use Rattle.circuit.proofs.Sources.{source-some, source-none}
 use Rattle.circuit.proofs.rings.source_bit.Tie as tie
 use Rattle.circuit.proofs.rings.source_bit.Statement.{statement}
 

@@ -1,5 +1,5 @@
 use Rattle.replay.specs.Bytes.{all-alike}
-use Rattle.replay.proofs.Comparing.{and-left, and-right}
+use Rattle.packed.proofs.Comparing.{and-left, and-right}
 use borrow.Author.Needs.{needs}
 use Rattle.replay.proofs.bytes.are_alike.Statement.{statement}
 use Rattle.replay.proofs.bytes.are_alike.Tie as tie

@@ -4,8 +4,8 @@ use Rattle.replay.proofs.bytes.is_answered.Statement.{statement}
 use Rattle.replay.proofs.bytes.is_answered.Tie as tie
 use Rattle.replay.proofs.bytes.is_answered.Reads as reads
 use Rattle.replay.proofs.bytes.is_answered.Lts as lts
-use Rattle.replay.proofs.bytes.is_same.Reads as is-same-reads
-use Rattle.replay.proofs.bytes.is_same_words.Reads as is-same-words-reads
+use Rattle.packed.proofs.same.is_same.Reads as is-same-reads
+use Rattle.packed.proofs.same.is_same_words.Reads as is-same-words-reads
 
 returns : tie.Need-returns
 returns c = answered-other _ _ _ _ _ _ (c .if1 .taken)

@@ -7,7 +7,7 @@ use Rattle.replay.proofs.bytes.is_holding.Tie as tie
 use Rattle.replay.proofs.bytes.is_holding.Reads as reads
 use Rattle.replay.proofs.bytes.is_holding.Lts as lts
 use Rattle.replay.proofs.bytes.is_alike.Reads as is-alike-reads
-use Rattle.replay.proofs.bytes.is_same.Reads as is-same-reads
+use Rattle.packed.proofs.same.is_same.Reads as is-same-reads
 
 returns : tie.Need-returns
 returns c = holds-short _ _ _ (c .if1 .taken)

@@ -1,5 +1,5 @@
 use Rattle.replay.specs.Due.{as-due}
-use Rattle.replay.proofs.Comparing.{and-left, and-right}
+use Rattle.packed.proofs.Comparing.{and-left, and-right}
 use borrow.Author.Needs.{needs}
 use Rattle.replay.proofs.due.is_as_due.Statement.{statement}
 use Rattle.replay.proofs.due.is_as_due.Tie as tie
