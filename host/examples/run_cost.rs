@@ -89,7 +89,7 @@ fn groups_of_eight(groups: usize) -> Case {
             }
         }
     }
-    Case::new(format!("groups ({groups})"), "Equal groups of gates.", &c, &s)
+    Case::new(&format!("groups ({groups})"), "Equal groups of gates.", &c, &s)
 }
 
 /// A Loop that counts so far in each of 20 ticks, over a body of three gates:

@@ -1,9 +1,8 @@
 //! A whole class in one call: the scripts of a book over one circuit.
 
-use std::fmt;
+use std::{fmt, iter};
 
-use crate::books::{answers, lines};
-use crate::player::Answer;
+use crate::player::{Answer, answer};
 
 unsafe extern "C" {
     fn hazhirun_class(
@@ -42,8 +41,8 @@ pub enum ClassAnswer {
 
 /// Plays up to 16 scripts over a circuit, each as alone.
 ///
-/// [`book`](crate::book) makes a book of scripts. The log is cut into equal parts
-/// of whole words, one for each script; [`parts`](crate::parts) finds them. The areas are those of
+/// [`book`] makes a book of scripts. The log is cut into equal parts of whole
+/// words, one for each script; [`parts`] finds them. The areas are those of
 /// [`run`](crate::run), lent once for all scripts.
 ///
 /// ```
@@ -112,7 +111,35 @@ fn decode(number: u64, book: &[u8], told: &[[u64; 3]; SCRIPTS]) -> ClassAnswer {
     if number != 0 {
         return ClassAnswer::Refused(number);
     }
-    ClassAnswer::Answered(answers(book, told))
+    let each = told.iter().take(count(book));
+    ClassAnswer::Answered(each.map(|&[n, ticks, bytes]| answer(n, ticks, bytes)).collect())
+}
+
+/// How many scripts a book says to hold.
+fn count(book: &[u8]) -> usize {
+    book.first_chunk().map_or(0, |&word| u64::from_le_bytes(word) as usize)
+}
+
+/// A book of these scripts, one behind the other. One of no script or of more
+/// than 16 is made like any other, and [`class`] refuses it with 15.
+pub fn book<S: AsRef<[u8]>>(scripts: &[S]) -> Vec<u8> {
+    let n = scripts.len();
+    let lengths = scripts.iter().map(|script| script.as_ref().len());
+    let starts = lengths.clone().scan(8 * (1 + 2 * n), |end, length| {
+        *end += length;
+        Some(*end - length)
+    });
+    let words = iter::once(n).chain(starts).chain(lengths);
+    let mut book: Vec<u8> = words.flat_map(|word| (word as u64).to_le_bytes()).collect();
+    scripts.iter().for_each(|script| book.extend(script.as_ref()));
+    book
+}
+
+/// The parts of a log that so many scripts are given, in the book's order: equal
+/// ones, of whole words. What lies behind them is no script's.
+pub fn parts(log: &[u8], scripts: usize) -> impl Iterator<Item = &[u8]> {
+    let size = log.len().checked_div(scripts).unwrap_or(0) / 8 * 8;
+    (0..scripts).map(move |k| &log[k * size..][..size])
 }
 
 /// A line for each script, counted from 0.
@@ -120,7 +147,11 @@ impl fmt::Display for ClassAnswer {
     fn fmt(&self, f: &mut fmt::Formatter<'_>) -> fmt::Result {
         match self {
             ClassAnswer::Refused(n) => Answer::Refused(*n).fmt(f),
-            ClassAnswer::Answered(answers) => lines(f, "script", answers),
+            ClassAnswer::Answered(answers) => {
+                let line = |(k, answer): (usize, &Answer)| format!("script {k}: {answer}");
+                let lines: Vec<String> = answers.iter().enumerate().map(line).collect();
+                f.write_str(&lines.join("\n"))
+            }
         }
     }
 }

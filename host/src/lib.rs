@@ -1,21 +1,17 @@
 //! The player for a host program: [`run`] plays a script over a circuit,
-//! [`class`] a book of up to 16 scripts, [`board`] up to 8 circuits tick by tick,
-//! [`check`] only asks whether a script could be played, [`size`] how large a run
-//! can get, and [`hours`] reports on a finished log. They are the proved functions of the Rattle crate `player`;
+//! [`class`] a book of up to 16 scripts, [`check`] only asks whether a script
+//! could be played, [`size`] how large a run can get, and [`hours`] reports on a
+//! finished log. They are the proved functions of the Rattle crate `player`;
 //! beside them are those of `leaves`. To build: `rt staticlib player` and
 //! `rt staticlib leaves` in the project's root. `cargo test --offline --release`
 //! compares them with the oracle and the hardware.
 
-mod board;
-mod books;
 mod class;
 mod hours;
 mod player;
 mod size;
 
-pub use board::{BoardAnswer, board};
-pub use books::{book, parts};
-pub use class::{ClassAnswer, class};
+pub use class::{ClassAnswer, book, class, parts};
 pub use hours::{DriverHours, HoursError, REPORT_BYTES, Report, Spent, hours, hours_into};
 pub use player::{Answer, check, run, text};
 pub use size::{Size, SizeError, UnitSteps, size};

@@ -109,10 +109,9 @@ pub fn run(
     answer(number, ticks, bytes)
 }
 
-/// A script's answer from what is told of it. The contracts of `hazhirun_run`,
-/// `hazhirun_class` and `hazhirun_board` say which numbers there are: 1 to 10 and
-/// 19 for a refusal, 0 and 11 to 13 for a run (`numbers`,
-/// crates/promises/specs/Promises.antt).
+/// A script's answer from what is told of it. The contracts of `hazhirun_run` and
+/// `hazhirun_class` say which numbers there are: 1 to 10 and 19 for a refusal, 0
+/// and 11 to 13 for a run (`numbers`, crates/model/specs/Promises.antt).
 pub(crate) fn answer(number: u64, ticks: u64, bytes: u64) -> Answer {
     match number {
         1..=10 | 19 => Answer::Refused(number),
@@ -123,7 +122,7 @@ pub(crate) fn answer(number: u64, ticks: u64, bytes: u64) -> Answer {
 /// What a number says: a question that refuses a call, or a stop.
 pub fn text(number: u64) -> &'static str {
     match number {
-        1 => "the circuit is not of whole words, its sizes are out of range, or it leaves its book",
+        1 => "the circuit is not of whole words, or its sizes are out of range",
         2 => "a constant is none",
         3 => "a gate has no kind or rank, or the inputs are not those of the gates",
         4 => "an input has a source or a constant that it may not have",
@@ -141,9 +140,6 @@ pub fn text(number: u64) -> &'static str {
         17 => "the driver or the activity is no value output, or a tick is not 1 to 60,000 ms long",
         18 => "the report does not fit, or there are more than 32 drivers",
         19 => "a call leaves its body, a Loop has no entry of its own, or bodies form a ring",
-        21 => {
-            "the books have not one count of 1 to 8, one is too short for it, or the pool is out of range"
-        }
         23 => "the calls form a ring, or the circuit has a Loop",
         24 => "there are more than 100,000 ticks",
         _ => "no such number",

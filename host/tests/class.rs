@@ -7,19 +7,15 @@
 //! compares as many random books; by default it is fewer.
 
 mod common;
-mod format;
-mod several;
 
 use std::env;
 
-use common::garbage;
-use format::format_words;
+use common::{format_words, garbage};
 use hazhirun_host::{Answer, ClassAnswer, book, class, parts, run};
 use oracle::build::{Book, Circuit, Script};
 use oracle::circuits::{self, Class};
 use oracle::class::{self as theirs, Held};
-use oracle::generate;
-use several::{Counts, assert_left, entries, held, typed};
+use oracle::{Lent, generate};
 
 unsafe extern "C" {
     fn hazhirun_class(
@@ -70,21 +66,106 @@ fn calls() -> u64 {
     env::var("HAZHIRUN_RUNS").map_or(2_800, |n| n.parse().unwrap())
 }
 
+/// How often the oracle answered what.
+#[derive(Debug, Default)]
+struct Counts {
+    /// Calls, by their number.
+    calls: [u64; 20],
+    /// Scripts, by their number.
+    scripts: [u64; 20],
+    /// Calls that answer 0 and play no script.
+    none: u64,
+    /// Calls with a refused script between two that are played.
+    between: u64,
+    /// Calls whose words for what is told are too few for it.
+    few: u64,
+    /// Ticks done.
+    ticks: u64,
+}
+
+impl Counts {
+    /// Counts a call.
+    fn count(&mut self, class: &Class, due: &ClassAnswer) {
+        let answers = match due {
+            ClassAnswer::Refused(number) => {
+                self.calls[*number as usize] += 1;
+                return;
+            }
+            ClassAnswer::Answered(answers) => answers,
+        };
+        self.calls[0] += 1;
+        for answer in answers {
+            match *answer {
+                Answer::Refused(number) => self.scripts[number as usize] += 1,
+                Answer::Played { stop, ticks, .. } => {
+                    self.scripts[stop as usize] += 1;
+                    self.ticks += ticks;
+                }
+            }
+        }
+        let played: Vec<bool> = answers.iter().map(is_played).collect();
+        self.none += u64::from(!played.contains(&true));
+        self.between += u64::from(played.windows(3).any(|three| three == [true, false, true]));
+        self.few += u64::from(class.told < 3 * answers.len());
+    }
+
+    /// Whether each of these numbers was answered more than so often by a call.
+    fn calls_with(&self, numbers: &[usize], often: u64) -> bool {
+        numbers.iter().all(|&n| self.calls[n] > often)
+    }
+
+    /// The same of a script.
+    fn scripts_with(&self, numbers: &[usize], often: u64) -> bool {
+        numbers.iter().all(|&n| self.scripts[n] > often)
+    }
+}
+
+fn is_played(answer: &Answer) -> bool {
+    matches!(answer, Answer::Played { .. })
+}
+
+/// What a class is lent, with garbage in it.
+fn held(class: &Class, seed: u64) -> Held {
+    let Lent { log, values, units, delays } = class.lent;
+    let bytes = |length, k| garbage(length, 5 * seed + k);
+    let told = bytes(8 * class.told, 4);
+    let told = told.as_chunks().0.iter().map(|&word| u64::from_le_bytes(word)).collect();
+    Held {
+        log: bytes(log, 0),
+        values: bytes(values, 1),
+        units: bytes(units, 2),
+        delays: bytes(delays, 3),
+        told,
+    }
+}
+
+/// An answer of the oracle's, in the host's type.
+fn typed(answer: &oracle::Answer) -> Answer {
+    match *answer {
+        oracle::Answer::Refused(number) => Answer::Refused(number.into()),
+        oracle::Answer::Played { ref log, stop, ticks } => {
+            Answer::Played { stop: stop.into(), ticks, bytes: 8 * log.len() }
+        }
+    }
+}
+
 /// Plays a class on both, and each of its scripts alone.
 fn compare(class: &Class, seed: u64, counts: &mut Counts) {
     let name = &class.name;
-    let before = held(&class.lent, class.told, seed);
+    let before = held(class, seed);
     let (number, due) = theirs::call(&class.circuit, &class.book, before.clone());
     let mut left = before.clone();
     assert_eq!(call(class, &mut left), u64::from(number), "{name}");
-    assert_left(name, &left, &due);
-    match typed_call(class, &before, &due) {
-        ClassAnswer::Refused(number) => counts.refused(number),
-        ClassAnswer::Answered(answers) => {
-            assert_alone(class, &answers, &before, &left.log);
-            counts.answered(&answers, class.told);
-        }
+    assert_eq!(left.told, due.told, "{name}: what is told");
+    assert!(left.log == due.log, "{name}: the log");
+    assert!(left.values == due.values, "{name}: the area values");
+    assert!(left.units == due.units, "{name}: the area units");
+    assert!(left.delays == due.delays, "{name}: the area delays");
+    let answer = typed_call(class, &before, &due);
+    if let ClassAnswer::Answered(answers) = &answer {
+        assert_alone(class, answers, &before, &left.log);
     }
+    counts.count(class, &answer);
 }
 
 /// The safe function: its answer, and that it leaves what is due.
@@ -104,7 +185,8 @@ fn typed_call(one: &Class, before: &Held, due: &Held) -> ClassAnswer {
             for (part, records) in parts.into_iter().zip(answers.iter().map(theirs::records)) {
                 assert!(part.starts_with(&records), "{name}: a part");
             }
-            assert_eq!(answer, ClassAnswer::Answered(typed(&answers)), "{name}");
+            let answers = answers.iter().map(typed).collect();
+            assert_eq!(answer, ClassAnswer::Answered(answers), "{name}");
         }
     }
     answer
@@ -113,12 +195,15 @@ fn typed_call(one: &Class, before: &Held, due: &Held) -> ClassAnswer {
 /// Each script of a class that was answered so, and left this log, is played
 /// alone: by `run`, if its span lies in the book.
 fn assert_alone(class: &Class, answers: &[Answer], before: &Held, left: &[u8]) {
-    let scripts = entries(&class.book);
-    assert_eq!(answers.len(), scripts.len(), "{}", class.name);
+    let word = |at: usize| u64::from_le_bytes(class.book[8 * at..][..8].try_into().unwrap());
+    let n = word(0) as usize;
+    assert_eq!(answers.len(), n, "{}", class.name);
     let mut log = before.log.clone();
-    let size = log.len() / (8 * scripts.len()) * 8;
-    for (k, (answer, script)) in answers.iter().zip(scripts).enumerate() {
-        let alone = if let Some(script) = script {
+    let size = log.len() / (8 * n) * 8;
+    for (k, answer) in answers.iter().enumerate() {
+        let (start, length) = (u128::from(word(1 + k)), u128::from(word(1 + n + k)));
+        let alone = if start + length <= class.book.len() as u128 {
+            let script = &class.book[start as usize..][..length as usize];
             let [mut values, mut units, mut delays] =
                 [&before.values, &before.units, &before.delays].map(Vec::clone);
             let part = &mut log[k * size..][..size];
@@ -140,8 +225,8 @@ fn stated_ones() {
     }
     assert!(counts.calls_with(&[1, 2, 3, 4, 5, 6, 19], 1), "{counts:?}");
     assert!(counts.calls_with(&[0, 7, 15], 14), "{counts:?}");
-    assert!(counts.each_with(&[0, 8, 9, 10, 13], 30), "{counts:?}");
-    assert!(counts.each_with(&[11], 0) && counts.each_with(&[12], 5), "{counts:?}");
+    assert!(counts.scripts_with(&[0, 8, 9, 10, 13], 30), "{counts:?}");
+    assert!(counts.scripts_with(&[11], 0) && counts.scripts_with(&[12], 5), "{counts:?}");
     assert!(counts.none > 20 && counts.between > 20 && counts.few > 20, "{counts:?}");
 }
 
@@ -155,7 +240,7 @@ fn random_ones() {
         assert!(counts.calls_with(&[1, 2, 3, 4, 5, 6, 19], calls() / 1_000), "{counts:?}");
     }
     assert!(counts.calls_with(&[0, 7, 15], calls() / 25), "{counts:?}");
-    assert!(counts.each_with(&[0, 8, 9, 10, 12, 13], calls() / 50), "{counts:?}");
+    assert!(counts.scripts_with(&[0, 8, 9, 10, 12, 13], calls() / 50), "{counts:?}");
     let Counts { none, between, few, ticks, .. } = counts;
     assert!(none.min(between).min(few) > calls() / 20 && ticks > calls(), "{counts:?}");
 }
@@ -197,7 +282,7 @@ fn logs_of_every_small_length() {
         }
     }
     assert!(counts.calls_with(&[0], 12 * 400) && counts.ticks > 1_000, "{counts:?}");
-    assert!(counts.each_with(&[0, 8, 10, 12, 13], 300), "{counts:?}");
+    assert!(counts.scripts_with(&[0, 8, 10, 12, 13], 300), "{counts:?}");
 }
 
 /// Books as the oracle's builder makes them; of none and of 17 they are refused.
@@ -234,7 +319,7 @@ fn worked_class() {
     class.lent.log = 428;
     class.told = 9;
     compare(&class, 1, &mut Counts::default());
-    let mut left = held(&class.lent, class.told, 2);
+    let mut left = held(&class, 2);
     let before = left.log.clone();
     assert_eq!(call(&class, &mut left), 0);
     let told: Vec<i64> = left.told.iter().map(|&word| word as i64).collect();

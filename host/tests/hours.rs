@@ -9,14 +9,12 @@
 
 mod changed;
 mod common;
-mod format;
 mod played;
 
 use std::env;
 
 use changed::{Due, Shape, changes, log_of, records};
-use common::garbage;
-use format::format_words;
+use common::{format_words, garbage};
 use hazhirun_host::{
     Answer, ClassAnswer, HoursError, REPORT_BYTES, Report, Spent, class, hours, hours_into, parts,
 };

@@ -5,12 +5,10 @@
 //! compares as many random and as many damaged calls; by default it is fewer.
 
 mod common;
-mod format;
 
 use std::env;
 
-use common::garbage;
-use format::format_words;
+use common::{format_words, garbage};
 use hazhirun_host::{Answer, run};
 use oracle::circuits::{self, Case};
 use oracle::generate::{FAMILIES, damaged, damaged_loops, valid};

@@ -8,13 +8,11 @@
 //! near runs come to the figures.
 
 mod common;
-mod format;
 mod played;
 
 use std::env;
 
-use common::garbage;
-use format::format_words;
+use common::{format_words, garbage};
 use hazhirun_host::{SizeError, UnitSteps, size, text};
 use oracle::circuits::{self, Case, Size};
 use oracle::generate::{self, FAMILIES, valid};

@@ -1,7 +1,6 @@
 //! What the player is compared on.
 
 use crate::Lent;
-use crate::board::{self, BoardAnswer};
 use crate::build::{Circuit, Script, bytes_of};
 use crate::class::{ClassAnswer, Held, call, class};
 use crate::hours::{self, Named};
@@ -95,47 +94,6 @@ impl Class {
     /// everywhere.
     pub fn call(&self, byte: u8) -> (u8, Held) {
         call(&self.circuit, &self.book, Held::filled(&self.lent, self.told, byte))
-    }
-}
-
-/// Circuits and their scripts on one board, with its pool and what is lent.
-#[derive(Clone, Debug)]
-pub struct Board {
-    pub name: String,
-    pub shows: String,
-    pub circuits: Vec<u8>,
-    pub scripts: Vec<u8>,
-    /// Steps a tick.
-    pub pool: u64,
-    pub lent: Lent,
-    /// Words lent for what is told.
-    pub told: usize,
-}
-
-impl Board {
-    /// A board with what each of 8 circuits is told, and areas for so many.
-    pub fn new(
-        name: impl Into<String>,
-        shows: impl Into<String>,
-        [circuits, scripts]: [Vec<u8>; 2],
-        pool: u64,
-        count: usize,
-    ) -> Self {
-        let (name, shows) = (name.into(), shows.into());
-        let Lent { log, values, units, delays } = Lent::default();
-        let lent = Lent { log, values: count * values, units: count * units, delays: count * delays };
-        Board { name, shows, circuits, scripts, pool, lent, told: 24 }
-    }
-
-    pub fn answer(&self) -> BoardAnswer {
-        board::board(&self.circuits, &self.scripts, self.pool, &self.lent)
-    }
-
-    /// The number answered, and what is left of what was lent with this byte
-    /// everywhere.
-    pub fn call(&self, byte: u8) -> (u8, Held) {
-        let before = Held::filled(&self.lent, self.told, byte);
-        board::call(&self.circuits, &self.scripts, self.pool, before)
     }
 }
 

@@ -26,11 +26,11 @@ pub fn class(circuit: &[u8], book: &[u8], lent: &Lent) -> ClassAnswer {
     if let Err(number) = questions::ask_circuit(circuit, Some(lent)) {
         return ClassAnswer::Refused(number);
     }
-    let Some(spans) = spans(book, SCRIPTS) else { return ClassAnswer::Refused(15) };
+    let Some(spans) = spans(book) else { return ClassAnswer::Refused(15) };
     let alone = Lent { log: part(lent.log, spans.len()), ..lent.clone() };
     let mut answers = Vec::new();
     for span in spans {
-        answers.push(match entry(book, span) {
+        answers.push(match script(book, span) {
             Some(script) => run(circuit, script, &alone),
             None => Answer::Refused(8),
         });
@@ -38,12 +38,12 @@ pub fn class(circuit: &[u8], book: &[u8], lent: &Lent) -> ClassAnswer {
     ClassAnswer::Answered(answers)
 }
 
-/// Start and length of each entry, if the count is 1 to `most` and both arrays
-/// fit the book: question 15, and of a board 21.
-pub(crate) fn spans(book: &[u8], most: u64) -> Option<Vec<(u64, u64)>> {
+/// Question 15: start and length of each script, if the count is 1 to 16 and
+/// both arrays fit the book.
+fn spans(book: &[u8]) -> Option<Vec<(u64, u64)>> {
     let words: Vec<u64> = book.as_chunks::<8>().0.iter().map(|word| u64::from_le_bytes(*word)).collect();
     let (&count, rest) = words.split_first()?;
-    if !(1..=most).contains(&count) {
+    if !(1..=SCRIPTS).contains(&count) {
         return None;
     }
     let (starts, rest) = rest.split_at_checked(count as usize)?;
@@ -52,7 +52,7 @@ pub(crate) fn spans(book: &[u8], most: u64) -> Option<Vec<(u64, u64)>> {
 }
 
 /// The bytes of a span, unless it leaves the book.
-pub(crate) fn entry(book: &[u8], (start, length): (u64, u64)) -> Option<&[u8]> {
+fn script(book: &[u8], (start, length): (u64, u64)) -> Option<&[u8]> {
     let end = u128::from(start) + u128::from(length);
     if end > book.len() as u128 {
         return None;
@@ -61,7 +61,6 @@ pub(crate) fn entry(book: &[u8], (start, length): (u64, u64)) -> Option<&[u8]> {
 }
 
 /// The bytes of each part: the log in equal parts, rounded down to whole words.
-/// The areas of a board are cut likewise.
 pub fn part(log: usize, scripts: usize) -> usize {
     log / (8 * scripts) * 8
 }
@@ -84,7 +83,7 @@ impl Held {
         Self { log, values, units, delays, told: vec![u64::from_le_bytes([byte; 8]); told] }
     }
 
-    pub(crate) fn lent(&self) -> Lent {
+    fn lent(&self) -> Lent {
         let Self { log, values, units, delays, .. } = self;
         Lent { log: log.len(), values: values.len(), units: units.len(), delays: delays.len() }
     }
@@ -102,29 +101,19 @@ pub fn call(circuit: &[u8], book: &[u8], before: Held) -> (u8, Held) {
     }
 }
 
-/// The records and what is told of them; the areas are zero once a script has
-/// been played.
+/// Script k has its records at the front of part k and three words of `told`,
+/// as far as there is room; the areas are zero once a script has been played.
 fn leave(answers: &[Answer], held: &mut Held) {
-    leave_records(answers, held);
-    if answers.iter().any(|answer| matches!(answer, Answer::Played { .. })) {
-        for area in [&mut held.values, &mut held.units, &mut held.delays] {
-            area.fill(0);
-        }
-    }
-    tell(answers, held);
-}
-
-/// Answer k has its records at the front of part k.
-pub(crate) fn leave_records(answers: &[Answer], held: &mut Held) {
     let part = part(held.log.len(), answers.len());
     for (k, answer) in answers.iter().enumerate() {
         let records = records(answer);
         held.log[k * part..][..records.len()].copy_from_slice(&records);
     }
-}
-
-/// Three words for each answer, as far as there is room.
-pub(crate) fn tell(answers: &[Answer], held: &mut Held) {
+    if answers.iter().any(|answer| matches!(answer, Answer::Played { .. })) {
+        for area in [&mut held.values, &mut held.units, &mut held.delays] {
+            area.fill(0);
+        }
+    }
     for (word, due) in held.told.iter_mut().zip(answers.iter().flat_map(told)) {
         *word = due;
     }

@@ -1,8 +1,7 @@
 //! Circuits and scripts from a seed: valid ones of several families, and
-//! damaged ones for every question. Books of scripts; boards; logs to report on;
-//! circuits with many calls.
+//! damaged ones for every question. Books of scripts; logs to report on; circuits
+//! with many calls.
 
-mod board;
 mod book;
 mod damaged;
 mod family;
@@ -12,7 +11,6 @@ mod report;
 mod size;
 mod valid;
 
-pub use board::board;
 pub use book::book;
 pub use damaged::{ASKED, Damaged, damaged, damaged_loops};
 pub use family::{FAMILIES, Family, WITH_LOOPS, stated_families};

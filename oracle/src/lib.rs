@@ -10,8 +10,7 @@ mod semantics;
 pub use source::{Dt, SimError, SimOptions, graph, machine, value, world};
 
 // Document 01: its bytes, its questions, its run. Document 02: its class, its
-// board, its report of hours, its two figures.
-pub mod board;
+// report of hours, its two figures.
 pub mod circuit;
 pub mod class;
 pub mod graph_of;
@@ -26,8 +25,7 @@ pub mod whole;
 pub mod words;
 
 // The stated circuits (build, case, generate, circuits, vectors, pack, runs,
-// classes, boards, reports, sizes):
-pub mod boards;
+// classes, reports, sizes):
 pub mod build;
 pub mod case;
 pub mod circuits;

@@ -1,11 +1,11 @@
-//! The limits of document 01 (stop 12), the steps that a tick may make on a board
-//! (document 02, K8), the units begun in a tick with the steps that each caused
-//! (K12), and the narrowings that changed their number (K9).
+//! The limits of document 01 (stop 12), the units begun in a tick with the steps
+//! that each caused (document 02, K12), and the narrowings that changed their
+//! number (K9).
 
 use std::cell::Cell;
 
 use super::witness::Witness;
-use super::{Activation, MAX_STEPS_PER_TICK, Machine};
+use super::{Activation, Machine};
 use crate::SimError;
 use crate::graph::GateId;
 
@@ -36,8 +36,6 @@ pub(super) struct Tally {
     pub(super) late_units: usize,
     /// A list would have passed its limit.
     pub(super) passed: bool,
-    /// The most steps of a tick on a board; without one they are the source's.
-    most_steps: Option<u64>,
     /// The tick's narrowings that changed their number; `countdown` of the
     /// source counts here and only borrows the machine.
     pub(super) changed: Cell<usize>,
@@ -87,11 +85,6 @@ impl Tally {
         self.passed |= forks > LIST || self.stack > LIST;
     }
 
-    /// Whether a tick with so many steps has one more than a board lets it make.
-    pub(super) fn ran_out(&self, steps: u64) -> bool {
-        self.most_steps.is_some_and(|most| steps > most)
-    }
-
     /// The source has come to a place that the questions leave no way to.
     pub(super) fn never(&self, why: &str) {
         unreachable!("{why}");
@@ -99,22 +92,6 @@ impl Tally {
 }
 
 impl Machine {
-    /// From now on a tick may make so many steps, in place of the source's most.
-    pub fn allow(&mut self, steps: u64) {
-        self.tally.most_steps = Some(steps);
-    }
-
-    /// The most steps of a tick.
-    pub(super) fn most_steps(&self) -> u64 {
-        self.tally.most_steps.unwrap_or(MAX_STEPS_PER_TICK)
-    }
-
-    /// The steps that the last tick made: without the one that 11 did not let it
-    /// make.
-    pub fn steps_made(&self) -> u64 {
-        self.steps.min(self.most_steps())
-    }
-
     /// The unit joins the units begun, unless they are at their limit.
     pub(super) fn begin(&mut self, g: GateId, act: &Activation) -> Result<(), SimError> {
         if self.tally.room(self.tally.begun.len(), UNITS) {

@@ -18,7 +18,6 @@ oracle vectors DIR [FIRST LAST]
 oracle pack FILE
 oracle pack runs FILE
 oracle pack classes FILE
-oracle pack boards FILE
 oracle pack reports FILE
 oracle pack sizes FILE
 oracle mutants [NAME..]";
@@ -76,12 +75,6 @@ fn pack(words: &[&str]) -> Option<()> {
             std::fs::write(file, oracle::classes::pack(&classes)).ok()?;
             print!("{}", oracle::classes::printed(&classes));
             eprintln!("left out: {}", classes.left_out.join(", "));
-        }
-        ["boards", file] => {
-            let boards = oracle::boards::boards();
-            std::fs::write(file, oracle::boards::pack(&boards)).ok()?;
-            print!("{}", oracle::boards::printed(&boards));
-            eprintln!("left out: {}", boards.left_out.join(", "));
         }
         ["reports", file] => {
             let reports = oracle::reports::reports();

@@ -1,5 +1,5 @@
 //! Breaks the oracle in one place at a time (mutants.txt) and says which
-//! stated circuits, classes, boards, reports and sizes tell it: whose answer is not the unbroken oracle's.
+//! stated circuits, classes, reports and sizes tell it: whose answer is not the unbroken oracle's.
 
 use std::fmt::Write;
 use std::io::{BufRead, BufReader};
@@ -9,7 +9,7 @@ use std::sync::mpsc;
 use std::time::Duration;
 
 use oracle::Lent;
-use oracle::circuits::{self, Board, Case, Class, Report, Size};
+use oracle::circuits::{self, Case, Class, Report, Size};
 use oracle::reports;
 
 /// The longest a broken oracle may take over a circuit.
@@ -124,8 +124,7 @@ impl Mutant {
 struct Scratch(PathBuf);
 
 /// What goes from the copy: modules of lib.rs.
-const STATED: [&str; 11] = [
-    "pub mod boards;",
+const STATED: [&str; 10] = [
     "pub mod build;",
     "pub mod case;",
     "pub mod circuits;",
@@ -181,7 +180,6 @@ impl Scratch {
         let program = self.build(&Mutant::default()).expect("the unbroken oracle builds");
         let mut cases: Vec<String> = circuits::all().iter().map(line_of).collect();
         cases.extend(circuits::classes().iter().map(line_of_class));
-        cases.extend(circuits::boards().iter().map(line_of_board));
         cases.extend(circuits::reports().iter().map(line_of_report));
         cases.extend(circuits::sizes().iter().map(line_of_size));
         let all = self.write_cases("all.txt", &cases);
@@ -220,12 +218,6 @@ fn line_of_class(class: &Class) -> String {
     format!("{}\t{}", line(&class.name, &class.lent, [&class.circuit, &class.book]), class.told)
 }
 
-/// A board as the program answers.rs reads it.
-fn line_of_board(board: &Board) -> String {
-    let first = format!("{}\tboard\t{}\t{}", board.name, board.pool, board.told);
-    line(&first, &board.lent, [&board.circuits, &board.scripts])
-}
-
 /// A report as the program answers.rs reads it.
 fn line_of_report(report: &Report) -> String {
     let asked = reports::asked(report).map(|word| word.to_string()).join("\t");
@@ -237,10 +229,9 @@ fn line_of_size(size: &Size) -> String {
     in_line(format!("{}\tsize\t{}\t{}", size.name, size.ticks, size.told), &[&size.circuit])
 }
 
-/// What stands first, what is lent, and both parts.
-fn line(first: &str, lent: &Lent, parts: [&[u8]; 2]) -> String {
+fn line(name: &str, lent: &Lent, parts: [&[u8]; 2]) -> String {
     let lent = [lent.log, lent.values, lent.units, lent.delays].map(|length| length.to_string());
-    in_line(format!("{first}\t{}", lent.join("\t")), &parts)
+    in_line(format!("{name}\t{}", lent.join("\t")), &parts)
 }
 
 /// A line with these bytes behind it, in hexadecimal.
@@ -278,7 +269,7 @@ struct Known {
 }
 
 impl Known {
-    /// The circuits, classes, boards, reports and sizes that tell `program` from the unbroken oracle.
+    /// The circuits, classes, reports and sizes that tell `program` from the unbroken oracle.
     fn tellers(&self, program: &Path) -> Vec<String> {
         let quick = self.quick.tellers(program);
         if quick.is_empty() { self.slow.tellers(program) } else { quick }

@@ -27,24 +27,17 @@ pub fn play(circuit: &Circuit, script: &Script, log_bytes: usize) -> Answer {
 /// is the stop and the ticks done.
 pub fn play_into(log: &mut Vec<i64>, machine: &mut Machine, ticks: usize, log_bytes: usize) -> (u8, u64) {
     for done in 0..ticks as u64 {
-        let stop = tick_into(log, machine, log_bytes);
+        let written = log.len();
+        let mut stop = machine.play_tick(log);
+        if log.len() > log_bytes / 8 {
+            log.truncate(written);
+            stop = 13;
+        }
         if stop != 0 {
             return (stop, done);
         }
     }
     (0, ticks as u64)
-}
-
-/// Play the next tick into `log`, for which `log_bytes` are lent. The answer is
-/// its stop.
-pub fn tick_into(log: &mut Vec<i64>, machine: &mut Machine, log_bytes: usize) -> u8 {
-    let written = log.len();
-    let mut stop = machine.play_tick(log);
-    if log.len() > log_bytes / 8 {
-        log.truncate(written);
-        stop = 13;
-    }
-    stop
 }
 
 /// The world of a run: the stimuli of each tick.

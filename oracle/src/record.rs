@@ -1,7 +1,7 @@
 //! A tick and its log record.
 
 use super::limits::form;
-use super::Machine;
+use super::{MAX_STEPS_PER_TICK, Machine};
 use crate::SimError;
 use crate::graph::GateId;
 use crate::value::Value;
@@ -32,7 +32,7 @@ impl Machine {
         if self.tally.passed {
             return 12;
         }
-        assert!(self.steps > self.most_steps(), "gate {:?}: {}", e.gate, e.message);
+        assert!(self.steps > MAX_STEPS_PER_TICK, "gate {:?}: {}", e.gate, e.message);
         11
     }
 

@@ -3,20 +3,17 @@
 use std::path::Path;
 
 use oracle::Lent;
-use oracle::circuits::{Board, Case, Class, Report, Size, all, boards, classes, reports, sizes};
+use oracle::circuits::{Case, Class, Report, Size, all, classes, reports, sizes};
 use oracle::generate::{FAMILIES, damaged, damaged_loops, valid};
 
-/// Writes the stated circuit, class, board, report or size of this name; the answer
-/// is what goes with its files.
+/// Writes the stated circuit, class, report or size of this name; the answer is
+/// what goes with its files.
 pub fn write_stated(name: &str, dir: &Path) -> Option<String> {
     if let Some(case) = stated(name) {
         return write(&case, dir);
     }
     if let Some(class) = stated_class(name) {
         return write_class(&class, dir);
-    }
-    if let Some(board) = stated_board(name) {
-        return write_board(&board, dir);
     }
     if let Some(report) = stated_report(name) {
         return write_report(&report, dir);
@@ -32,11 +29,6 @@ fn stated(name: &str) -> Option<Case> {
 /// The stated class of this name.
 fn stated_class(name: &str) -> Option<Class> {
     classes().into_iter().find(|class| class.name == name)
-}
-
-/// The stated board of this name.
-fn stated_board(name: &str) -> Option<Board> {
-    boards().into_iter().find(|board| board.name == name)
 }
 
 /// The stated report of this name.
@@ -73,15 +65,6 @@ fn write_class(class: &Class, dir: &Path) -> Option<String> {
     write_files(dir, &class.circuit, "book.bin", &class.book)?;
     let Lent { log, values, units, delays } = class.lent;
     Some(format!("lent {log} {values} {units} {delays} {}", class.told))
-}
-
-/// Writes circuits.bin and scripts.bin; the answer is what is lent and the pool, as
-/// vectors/ has them.
-fn write_board(board: &Board, dir: &Path) -> Option<String> {
-    std::fs::create_dir_all(dir).ok()?;
-    std::fs::write(dir.join("circuits.bin"), &board.circuits).ok()?;
-    std::fs::write(dir.join("scripts.bin"), &board.scripts).ok()?;
-    Some(oracle::vectors::asked_of_board(board))
 }
 
 /// Writes circuit.bin and log.bin; the answer is what is asked, as vectors/ has it.

@@ -4,8 +4,7 @@
 use std::fmt::Write as _;
 use std::path::Path;
 
-use crate::board::BoardAnswer;
-use crate::circuits::{Board, Case, Class, Group, Report, Size, boards, classes, groups, reports, sizes};
+use crate::circuits::{Case, Class, Group, Report, Size, classes, groups, reports, sizes};
 use crate::class::{ClassAnswer, part, told};
 use crate::generate::{FAMILIES, damaged, damaged_loops, valid};
 use crate::hours::Named;
@@ -18,23 +17,19 @@ const WHOLE: usize = 4_000;
 /// The file of the stated classes.
 pub const CLASSES: &str = "classes.txt";
 
-/// The file of the stated boards.
-pub const BOARDS: &str = "boards.txt";
-
 /// The file of the stated reports.
 pub const REPORTS: &str = "reports.txt";
 
 /// The file of the stated sizes.
 pub const SIZES: &str = "sizes.txt";
 
-/// Writes the vectors of each group, of the classes, of the boards, of the reports
-/// and of the sizes to a folder.
+/// Writes the vectors of each group, of the classes, of the reports and of the sizes
+/// to a folder.
 pub fn write(dir: &Path) -> std::io::Result<()> {
     for group in groups() {
         std::fs::write(dir.join(file_name(&group)), text(&group))?;
     }
     std::fs::write(dir.join(CLASSES), text_of_classes())?;
-    std::fs::write(dir.join(BOARDS), text_of_boards())?;
     std::fs::write(dir.join(REPORTS), text_of_reports())?;
     std::fs::write(dir.join(SIZES), text_of_sizes())
 }
@@ -107,41 +102,8 @@ fn class_answer(class: &Class, answers: &[Answer]) -> String {
     text.extend(answers.iter().map(in_lines));
     let played = answers.iter().any(|answer| matches!(answer, Answer::Played { .. }));
     text += if played { "areas zero\n" } else { "areas untouched\n" };
-    text + &words_told(answers, class.told)
-}
-
-/// What is told of these answers, with room for so many words.
-fn words_told(answers: &[Answer], room: usize) -> String {
-    let told = answers.iter().flat_map(told).take(room);
-    words("told", &told.map(|word| word as i64).collect::<Vec<_>>())
-}
-
-/// The text of [`BOARDS`].
-pub fn text_of_boards() -> String {
-    boards().iter().map(board_vector).collect()
-}
-
-fn board_vector(board: &Board) -> String {
-    let mut text = format!("board {}\n{}\n", board.name, asked_of_board(board));
-    text += &bytes("circuits", &board.circuits);
-    text += &bytes("scripts", &board.scripts);
-    match board.answer() {
-        BoardAnswer::Refused(number) => text + &format!("refused {number}\n"),
-        BoardAnswer::Answered(answers) => {
-            let Lent { log, values, units, delays } = board.lent;
-            let count = answers.len();
-            let sizes = [log, values, units, delays].map(|length| part(length, count).to_string());
-            text += &format!("parts {count} {}\n", sizes.join(" "));
-            text.extend(answers.iter().map(in_lines));
-            text + &words_told(&answers, board.told)
-        }
-    }
-}
-
-/// The lines of what is lent and of the pool.
-pub fn asked_of_board(board: &Board) -> String {
-    let Lent { log, values, units, delays } = board.lent;
-    format!("lent {log} {values} {units} {delays} {}\npool {}", board.told, board.pool as i64)
+    let told = answers.iter().flat_map(told).take(class.told);
+    text + &words("told", &told.map(|word| word as i64).collect::<Vec<_>>())
 }
 
 /// The text of [`REPORTS`].

@@ -1,13 +1,13 @@
-//! The packed questions, sizes, runs, classes, reports and boards: crates/asked,
-//! crates/replay and crates/boarding hold what `oracle pack` writes and prints now,
-//! and what is packed can be read back.
+//! The packed questions, sizes, runs, classes and reports: crates/asked and
+//! crates/replay hold what `oracle pack` writes and prints now, and what is
+//! packed can be read back.
 
 use oracle::circuits::{self, Case};
 use oracle::class::Held;
 use oracle::generate::ASKED;
 use oracle::pack::{ROOM, cases, pack, printed};
 use oracle::questions::ask;
-use oracle::{Lent, boards, classes, hours, reports, runs, sizes};
+use oracle::{Lent, classes, hours, reports, runs, sizes};
 
 const FILE: &str = concat!(env!("CARGO_MANIFEST_DIR"), "/../crates/asked/data/questions.bin");
 const PRINTED: &str = concat!(env!("CARGO_MANIFEST_DIR"), "/../crates/asked/stdout");
@@ -30,19 +30,12 @@ const REPORTS_AGAIN: &str =
 
 const REPLAYED: &str = concat!(env!("CARGO_MANIFEST_DIR"), "/../crates/replay/stdout");
 
-const BOARDS: &str = concat!(env!("CARGO_MANIFEST_DIR"), "/../crates/boarding/data/boards.bin");
-const BOARDED: &str = concat!(env!("CARGO_MANIFEST_DIR"), "/../crates/boarding/stdout");
-const BOARDS_AGAIN: &str = "oracle pack boards crates/boarding/data/boards.bin > crates/boarding/stdout";
-
 /// What a file may hold. A program reads it case by case, so this is for who
 /// keeps the files alone; runs with Loops come to a tenth of it.
 const WHOLE: usize = 1_750_000;
 
 /// What the file of the classes may hold.
 const WHOLE_OF_CLASSES: usize = 500_000;
-
-/// What the file of the boards may hold.
-const WHOLE_OF_BOARDS: usize = 400_000;
 
 /// What the file of the reports may hold.
 const WHOLE_OF_REPORTS: usize = 250_000;
@@ -309,61 +302,6 @@ fn every_size_can_be_read_back() {
         let (answered, left) = size.call(165);
         assert!(u64::from(answered) == number && left == due, "{name}");
         assert!(number == 0 || [steps, bytes] == [0, 0], "{name}");
-    }
-    assert!(rest.is_empty());
-}
-
-#[test]
-fn the_packed_boards_are_up_to_date() {
-    let boards = boards::boards();
-    let file = std::fs::read(BOARDS).expect("the packed boards");
-    assert!(file == boards::pack(&boards), "write them again: {BOARDS_AGAIN}");
-    assert!(file.len() < WHOLE_OF_BOARDS, "{}", file.len());
-    let text = std::fs::read_to_string(BOARDED).expect("what the program has to print");
-    assert_eq!(text, boards::printed(&boards), "write it again: {BOARDS_AGAIN}");
-    assert_eq!(boards.left_out, ["board-pool-50000000-made", "board-pool-50000000-handed-on"]);
-}
-
-/// What is packed of a board says what the call answers and leaves, byte by byte.
-#[test]
-fn every_board_can_be_read_back() {
-    let boards = boards::boards();
-    let packed = boards::pack(&boards);
-    let mut rest = &packed[..];
-    assert_eq!(packed_word(&mut rest) as usize, boards.packed.len());
-    for board in &boards.packed {
-        let name = &board.name;
-        let lent = [(); 5].map(|()| packed_word(&mut rest) as usize);
-        assert_eq!(lent, boards::lent(board), "{name}");
-        let [log, values, units, delays, told] = lent;
-        assert!(log <= runs::ROOM && values.max(units) <= boards::AREA, "{name}");
-        assert!(delays <= boards::DELAYS && told <= runs::TOLD, "{name}");
-        let mut due = Held::filled(&Lent { log, values, units, delays }, told, 165);
-        let [pool, number] = [(); 2].map(|()| packed_word(&mut rest));
-        assert_eq!(pool, board.pool, "{name}");
-        let [circuits, scripts, told] = [(); 3].map(|()| packed_word(&mut rest) as usize);
-        let sizes = [(); 4].map(|()| packed_word(&mut rest) as usize);
-        let parts = packed_word(&mut rest) as usize;
-        assert!(number == 0 || sizes == [0; 4] && [told, parts] == [0; 2], "{name}");
-        assert!(circuits <= boards::BOOK && scripts <= boards::BOOK, "{name}");
-        assert_eq!(packed_bytes(&mut rest, circuits), board.circuits, "{name}");
-        assert_eq!(packed_bytes(&mut rest, scripts), board.scripts, "{name}");
-        due.told[..told].iter_mut().for_each(|word| *word = packed_word(&mut rest));
-        let [log, areas @ ..] = sizes;
-        for k in 0..parts {
-            let zero = packed_word(&mut rest);
-            assert!(zero <= 1, "{name}");
-            let held = [&mut due.values, &mut due.units, &mut due.delays];
-            for (area, size) in held.into_iter().zip(areas).filter(|_| zero == 1) {
-                area[size * k..][..size].fill(0);
-            }
-        }
-        for k in 0..parts {
-            let records = packed_word(&mut rest) as usize;
-            due.log[log * k..][..records].copy_from_slice(&packed_bytes(&mut rest, records));
-        }
-        let (answered, left) = board.call(165);
-        assert!(u64::from(answered) == number && left == due, "{name}");
     }
     assert!(rest.is_empty());
 }

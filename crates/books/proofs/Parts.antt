@@ -5,9 +5,9 @@ use native.Mathlib.Omega.{arith}
 use native.Mathlib.Nat.{mul_assoc, mul_comm, mul-le-mul_right, suc-mul, div-add-mod'}
 use Rattle.model.specs.Book.{part_of}
 
-pub size_is : (n l : ℕ) → 8 * (l / (8 * n)) ≡ part_of n l
+pub part_is : (n l : ℕ) → 8 * (l / (8 * n)) ≡ part_of n l
 unfolding part_of
-size_is n l = refl
+part_is n l = refl
 
 -- all n of them
 pub parts_in : (n l : ℕ) → n * (8 * (l / (8 * n))) ≤ l

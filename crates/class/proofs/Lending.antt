@@ -1,23 +1,30 @@
 -- One script: its part of the book and of the log is lent, and what comes back is told.
 use Prim.Native.Nat.{ℕ, ◌+◌, ◌-◌, ◌*◌, ◌≤◌, ◌<◌}
-use mathlib.Core.Path.{◌≡◌, ap, ◌∙◌}
+use mathlib.Core.Path.{◌≡◌, sym, ap, ◌∙◌}
 use mathlib.Core.List.{List}
-use lib.ListN.{length, take, drop}
+use native.Mathlib.Omega.{arith}
+use lib.ListN.{length, take, drop, length-drop}
+use lib.Seq.{length-take-le}
 use borrow.Rule.Slice.PartMut.{put_mid}
 use Rattle.model.specs.Answer.{answer, log_after, area_after}
 use Rattle.model.specs.Answer as model
+use Rattle.model.specs.Book.{entry, cut}
+use Rattle.model.specs.Several.{told_of}
 use Rattle.run.specs.declared.Answer.{Answer}
 use Rattle.run.specs.Told.{told}
 use Rattle.run.specs.Call as run
 use Rattle.books.specs.Lent.{Spans}
 use Rattle.books.specs.declared.Span.{Span}
-use Rattle.books.proofs.Lending.{lent_is, lent_back, lent_long}
+use Rattle.books.proofs.Parts.{part_in}
 use Rattle.telling.specs.Numbers.{all_of, put_from}
 use Rattle.telling.proofs.Numbers.{all_told}
 use Rattle.class.specs.Call.{Call, Left, lent}
 use Rattle.class.specs.Scripts.{answer_of, Turned}
 
 module _ (k : Call) (n size i : ℕ) (s : Span) (h : i < n) (l : n * size ≤ length k.log) (b : Spans k.book i s) where
+  width : i * size + size - i * size ≡ size
+  width = omega arith
+
   -- the call of the script alone: its bytes, and its part of the log
   abbrev alone : run.Call
   alone =
@@ -30,8 +37,17 @@ module _ (k : Call) (n size i : ℕ) (s : Span) (h : i < n) (l : n * size ≤ le
         delays = k.delays;
       }
 
+  part_is : alone.log ≡ cut size k.log i
+  unfolding cut
+  part_is = ap (λ (m : ℕ). take m (drop (i * size) k.log)) width
+
+  long : length alone.log ≡ size
+  long =
+      ap (λ (m : ℕ). length (take m (drop (i * size) k.log))) width
+      ∙ length-take-le size (drop (i * size) k.log) (omega (arith, length-drop (i * size) k.log, part_in n size i (length k.log) h l))
+
   same : run.call_answer alone ≡ answer_of k size i
-  same = λ j. answer (lent k) (lent_long n size k.log l i h j) k.circuit (b.2 j)
+  same = λ j. answer (lent k) (long j) k.circuit (b.2 j)
 
   pub turned :
       (a : Answer) (p : run.Left) (t : List ℕ) → run.Right alone p (λ m. a ≡ told m) → t ≡ put_from (3 * i) (all_of a) k.told →
@@ -39,7 +55,7 @@ module _ (k : Call) (n size i : ℕ) (s : Span) (h : i < n) (l : n * size ≤ le
   turned a p t r e =
       record {
         told = e ∙ ap (λ (x : List ℕ). put_from (3 * i) x k.told) (ap all_of (r.answer ∙ ap told same) ∙ all_told (answer_of k size i));
-        log = lent_back size i k.log p.log ∙ ap (put_mid (i * size) size k.log) (r.log ∙ (λ j. log_after (same j) (lent_is size i k.log j)));
+        log = λ j. put_mid (i * size) (width j) k.log ((r.log ∙ (λ m. log_after (same m) (part_is m))) j);
         values = r.values ∙ ap (λ (x : model.Answer). area_after x k.values) same;
         units = r.units ∙ ap (λ (x : model.Answer). area_after x k.units) same;
         delays = r.delays ∙ ap (λ (x : model.Answer). area_after x k.delays) same;

@@ -1,5 +1,5 @@
--- an area, answer by answer: `area_next`
-pub mod Areas
+-- the log in parts and the areas, answer by answer: `parts_next`, `area_next`
+pub mod Logging
 -- one script: `turned`
 pub mod Lending
 -- the loop over the scripts: `going_first`, `GoingNext`, `going_last`

@@ -46,7 +46,7 @@ module _ (operate : ℕ → Chained → Chained) (falls : Falls operate) (inside
   abbrev rounds : ℕ → Chained → Chained
   rounds n r = run_calls operate inside under n r
 
-  pub stopped_stays : (n : ℕ) (r : Chained) → (r.stop ≡ 0 → ⊥) → rounds n r ≡ r
+  stopped_stays : (n : ℕ) (r : Chained) → (r.stop ≡ 0 → ⊥) → rounds n r ≡ r
   unfolding run_calls
   stopped_stays zero r h = refl
   stopped_stays (suc n) r h = let e = next_stopped inside under r h in rw (e, run_calls)

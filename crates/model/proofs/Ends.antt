@@ -138,7 +138,7 @@ module _ (Q : ℕ → Type 0) (z : Q 0) (r : Q runaway) (f : Q list_full) where
       last_of [] a = z
       last_of (t ∷ ts) (◌∷·◌ h a) = if_both Q (eqb t.stop 0) (last_of ts a) h
 
-      pub run_stop : (room : ℕ) (is : List Allowed) → Q (seen c (ticks_of c room is)).stop
+      run_stop : (room : ℕ) (is : List Allowed) → Q (seen c (ticks_of c room is)).stop
       unfolding seen ticks_of
       run_stop room is = last_of _ (every S (λ t. Q t.stop) tick_stop is _)
 

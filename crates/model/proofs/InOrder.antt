@@ -24,8 +24,8 @@ use Rattle.model.specs.Record.{record_words, record_at}
 use Rattle.model.specs.Closing.{read_outputs, steps, outputs_shown, as_listed, log_record, write, close}
 use Rattle.model.specs.Run.{Allowed, ticks_get, opening, body, closing, machine, world_at_start, ticks_of, seen}
 use Rattle.model.specs.Questions.{Areas, refusal}
-use Rattle.model.specs.Answer.{Answer, played, play, answer_to, answer}
-use Rattle.model.specs.Order.{numbered_ticks, InOrder, record_of, Recorded, ReadBack, ShowsWhatWaits, Ended, WholeRunInOrder}
+use Rattle.model.specs.Answer.{played, play, answer_to, answer}
+use Rattle.model.specs.Order.{record_of, Recorded, ReadBack, ShowsWhatWaits, Ended, WholeRunInOrder}
 use Rattle.model.proofs.Laid.{Laid, laid}
 use Rattle.model.proofs.Worlds.{WorldSized, run_from_sized, start_world_sized}
 use Rattle.model.proofs.ReadBack.{carried_back, parts_back}
@@ -149,24 +149,19 @@ pub answer_is : (areas : Areas) (room : ℕ) (cb sb : List ℕ) → refusal (som
 unfolding answer answer_to
 answer_is areas room cb sb h = rw h
 
--- Every run of a circuit that is read from words is in order, whatever its ticks get.
-pub run_in_order :
-    (a : Answer) (room : ℕ) (ws : List ℕ) (is : List Allowed) → let c = circuit ws in a ≡ played (seen c (ticks_of c room is)) → InOrder a room c is (numbered_ticks c room is)
-unfolding ticks_of
-run_in_order a room ws is h =
-    let c = circuit ws in
+-- For every circuit and script that are not refused, the whole run is in order.
+pub in_order : (areas : Areas) (room : ℕ) (cb sb : List ℕ) → refusal (some areas) cb sb ≡ 0 → WholeRunInOrder areas room cb sb
+unfolding play ticks_of
+in_order areas room cb sb h =
+    let c = circuit (words cb) in
+    let is = ticks_get c (words sb) in
     let w = world_at_start c room in
     record {
       order = order (machine c) is w;
       follows = follows (numbered (machine c)) is w;
       recorded = all_recorded c is w;
-      read_back = all_back c (laid ws) is w (start_world_sized c room);
+      read_back = all_back c (laid (words cb)) is w (start_world_sized c room);
       shows_what_waits = all_shown c is w;
       ended = all_ended c is w;
-      answered = h ∙ ap (λ (ts : List (Tick (plain (machine c)))). played (seen c ts)) (erasure (numbered (machine c)) is w);
+      answered = answer_is areas room cb sb h ∙ ap (λ (ts : List (Tick (plain (machine c)))). played (seen c ts)) (erasure (numbered (machine c)) is w);
     }
-
--- For every circuit and script that are not refused, the whole run is in order.
-pub in_order : (areas : Areas) (room : ℕ) (cb sb : List ℕ) → refusal (some areas) cb sb ≡ 0 → WholeRunInOrder areas room cb sb
-unfolding play
-in_order areas room cb sb h = run_in_order (answer areas room cb sb) room (words cb) (ticks_get (circuit (words cb)) (words sb)) (answer_is areas room cb sb h)

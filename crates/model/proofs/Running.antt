@@ -71,7 +71,7 @@ module _ (c : Circuit) (P : Chained → Type 0) (keep : RunKeeps c P) where
   BodyKeeps body = (g i : ℕ) → eqb (kind_of_gate c g) 29 ≡ true → Keeps (body g i)
 
   module _ (body : Body) (runs : BodyKeeps body) where
-    pub loop_on_keeps :
+    loop_on_keeps :
         (g : ℕ) (first step : ℤ) (more done : ℕ) (r : Chained) → eqb (kind_of_gate c g) 29 ≡ true → P r → P (loop_on c body g first step more done r).after
     unfolding loop_on looped
     loop_on_keeps g first step zero done r k p = p
@@ -119,7 +119,7 @@ module _ (c : Circuit) (P : Chained → Type 0) (keep : RunKeeps c P) where
         go zero p = keep.no_step r.state r.calls t.rest p
         go (suc left) p = operate_keeps inside t.input r.state left r.calls t.rest p
 
-    pub run_calls_keeps : (inside : Bool) (under n : ℕ) → Keeps (run_calls (operate c body inside) inside under n)
+    run_calls_keeps : (inside : Bool) (under n : ℕ) → Keeps (run_calls (operate c body inside) inside under n)
     unfolding run_calls
     run_calls_keeps inside under zero r p = p
     run_calls_keeps inside under (suc n) r p = go (next inside under r) (λ t e. (next_running inside under r t e).0) (λ q h. run_calls_keeps inside under n q h)
@@ -134,7 +134,7 @@ module _ (c : Circuit) (P : Chained → Type 0) (keep : RunKeeps c P) where
     unfolding run_nested
     run_nested_keeps inside under r p = run_calls_keeps inside under (suc r.left) r p
 
-  pub run_body_keeps : (deep : ℕ) → BodyKeeps (run_body c deep)
+  run_body_keeps : (deep : ℕ) → BodyKeeps (run_body c deep)
   unfolding run_body begin_body
   run_body_keeps zero g i k r p = keep.too_deep r p
   run_body_keeps (suc deep) g i k r p =
@@ -146,7 +146,7 @@ module _ (c : Circuit) (P : Chained → Type 0) (keep : RunKeeps c P) where
 
 -- ---- the steps that are left never rise
 
-pub falling : (c : Circuit) (most : ℕ) → RunKeeps c (λ r. r.left ≤ most)
+falling : (c : Circuit) (most : ℕ) → RunKeeps c (λ r. r.left ≤ most)
 unfolding chained make_call fire_output
 falling c most =
     record {

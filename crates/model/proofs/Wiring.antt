@@ -22,7 +22,7 @@ use Rattle.model.specs.Base.{if◌then◌else◌, keep, all, among, both, from, 
 use Rattle.model.specs.Value.{as_int, le64, value_of}
 use Rattle.model.specs.Kinds.{In, value, kind_at, pure, time_source, receiving, kinds_opened}
 use Rattle.model.specs.Circuit.{Circuit, circuit, part, word_at, minus_one, source_of, reads, kind_of_gate, entry_of_loop, input, output, inputs_of, gate_at_input, source, stored_in, setting, gate_at_output, readers_of, gates_such}
-use Rattle.model.specs.Script.{stimulus, script}
+use Rattle.model.specs.Script.{stimulus}
 use Rattle.model.specs.Run.{allowed, ticks_get}
 use Rattle.model.specs.Delays.{nat}
 use Rattle.model.specs.Exec.{var}
@@ -38,7 +38,7 @@ use Rattle.model.proofs.Reals.{Real, nothing_real, truth_real, int_real, finite_
 use Rattle.model.proofs.Wired.{Wired}
 use Rattle.model.proofs.Sound.{Brings, other_outputs}
 use Rattle.model.proofs.Scripts.{stimulus_few, stimulus_each, script_all}
-use Rattle.model.proofs.Starting.{GivenFine, AllowedFine}
+use Rattle.model.proofs.Starting.{AllowedFine}
 
 -- ---- lists
 
@@ -408,14 +408,11 @@ length_finite : (d : ℕ) → good_length d ≡ true → finite d ≡ true
 unfolding good_length
 length_finite d h = (both_true (finite d) _ (both_true (finite d && le64 0 d) _ h).0).0
 
--- what a script gives is fine, and so what its ticks get
-pub given_fine : (areas : Option Areas) (cb sb : List ℕ) → Accepted areas cb sb → let c = circuit (words cb) in All (GivenFine c) (script c.constants (words sb))
-given_fine areas cb sb a =
-    let c = circuit (words cb) in
-    script_all (λ dt. finite dt ≡ true) (Brings c) areas cb sb a (λ i. length_finite _) (stimulus_brings c (laid (words cb)) (constants_real (words cb) a.constants))
-
 pub gets_fine :
     (areas : Option Areas) (cb sb : List ℕ) → Accepted areas cb sb →
     let c = circuit (words cb) in All (AllowedFine c) (ticks_get c (words sb))
 unfolding allowed
-gets_fine areas cb sb a = map_all (AllowedFine (circuit (words cb))) _ (given_fine areas cb sb a)
+gets_fine areas cb sb a =
+    let c = circuit (words cb) in
+    map_all (AllowedFine c) _
+    (script_all (λ dt. finite dt ≡ true) (Brings c) areas cb sb a (λ i. length_finite _) (stimulus_brings c (laid (words cb)) (constants_real (words cb) a.constants)))

@@ -11,7 +11,7 @@ use Rattle.model.specs.Record.{LogRecord, record_words, record_at}
 use Rattle.model.specs.Closing.{as_listed, log_record}
 use Rattle.model.specs.Run.{Allowed, ticks_get, machine, world_at_start, seen}
 use Rattle.model.specs.Questions.{Areas}
-use Rattle.model.specs.Answer.{Answer, played, answer}
+use Rattle.model.specs.Answer.{played, answer}
 
 module _ (c : Circuit) where
   -- a tick whose activations are known by the number of their raising
@@ -46,8 +46,8 @@ module _ (c : Circuit) where
   abbrev pub Ended : Turn (numbered (machine c)) → Type 0
   Ended u = u.ran ≡ true → (run_unit c u.from u.unit.act).calls ≡ no_calls
 
--- What is promised of the run of a circuit with a log of so many bytes, whose ticks get this, and of its answer a.
-pub record InOrder (a : Answer) (room : ℕ) (c : Circuit) (is : List Allowed) (ticks : List (NumberedTick c)) : Type 0 where
+-- What is promised of a call with these areas, a log of so many bytes, a circuit and a script, where it is not refused.
+pub record InOrder (areas : Areas) (room : ℕ) (circuit_bytes script_bytes : List ℕ) (c : Circuit) (is : List Allowed) (ticks : List (NumberedTick c)) : Type 0 where
   -- (a) to (e), of the whole run
   pub order : Order (machine c) ticks
   -- one tick for each that the script gives, up to a stop; each tick and each unit begins in the world that the one before it left; what openings raised
@@ -57,11 +57,11 @@ pub record InOrder (a : Answer) (room : ℕ) (c : Circuit) (is : List Allowed) (
   pub shows_what_waits : ShowsWhatWaits c ticks
   pub ended : All (λ t. All (Ended c) t.late × All (Ended c) t.main) ticks
   -- the answer is made of this run, the numbers left out
-  pub answered : a ≡ played (seen c (map (bare_tick (numbered (machine c))) ticks))
+  pub answered : answer areas room circuit_bytes script_bytes ≡ played (seen c (map (bare_tick (numbered (machine c))) ticks))
 
--- the circuit, the run and the answer of a call that is not refused
+-- the circuit and the run of a call
 abbrev pub WholeRunInOrder : Areas → ℕ → List ℕ → List ℕ → Type 0
 WholeRunInOrder areas room circuit_bytes script_bytes =
     let c = circuit (words circuit_bytes) in
     let is = ticks_get c (words script_bytes) in
-    InOrder (answer areas room circuit_bytes script_bytes) room c is (numbered_ticks c room is)
+    InOrder areas room circuit_bytes script_bytes c is (numbered_ticks c room is)

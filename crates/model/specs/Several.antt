@@ -13,15 +13,15 @@ unfoldable pub call_number : Several → ℕ
 call_number (turned_away n) = n
 call_number (answered rs) = 0
 
--- parts of so many bytes, each as its answer leaves it, and what lies behind them; `after` says what an answer leaves in its part
-unfoldable pub parts_after : (Answer → List ℕ → List ℕ) → ℕ → List Answer → List ℕ → List ℕ
-parts_after after size [] bs = bs
-parts_after after size (a ∷ rs) bs = after a (take size bs) ++ parts_after after size rs (drop size bs)
+-- the parts of a log, each as its answer leaves it, and what lies behind them
+unfoldable pub parts_after : ℕ → List Answer → List ℕ → List ℕ
+parts_after size [] log = log
+parts_after size (a ∷ rs) log = log_after a (take size log) ++ parts_after size rs (drop size log)
 
 -- the log afterwards, where each part has so many bytes
 unfoldable pub call_log : Several → ℕ → List ℕ → List ℕ
 call_log (turned_away n) size log = log
-call_log (answered rs) size log = parts_after log_after size rs log
+call_log (answered rs) size log = parts_after size rs log
 
 -- the three words that are told of an answer: its number, the ticks done, the bytes that hold records
 unfoldable pub told_of : Answer → List ℕ

@@ -5,7 +5,6 @@ ghost use Rattle.words.specs.Slices.{before, after};
 ghost use Rattle.model.specs.Questions.{refusal};
 ghost use Rattle.run.specs.Call.{RightCall};
 ghost use Rattle.class.specs.Call.{Right as RightClass, call_of, left_of};
-ghost use Rattle.board.specs.Call.{Right as RightBoard, call_of as board_call, left_of as board_left};
 ghost use Rattle.hours.specs.Call.{Right as RightHours, call_of as hours_call, left_of as hours_left};
 ghost use Rattle.size.specs.Call.{Right as RightSize};
 ghost use Rattle.player.specs.Numbers.{TellsHost};
@@ -56,25 +55,6 @@ pub extern "C" fn hazhirun_class(
     ensures { RightClass (call_of circuit book log values units delays told) (left_of log values units delays told) result }
 {
     class::class(circuit, book, log, values, units, delays, told)
-}
-
-// Asks 21 of the books and the pool; where it does not refuse the call the circuits are asked about, each with its script and its parts of the log and the areas, and
-// played tick by tick, in their listed order, under a pool of so many steps a tick. The number of the whole call; the words of `told` become three for each circuit: its
-// number, the ticks done, and the bytes of its part that hold records. It takes some 350 kB of the stack.
-#[unsafe(no_mangle)]
-pub extern "C" fn hazhirun_board(
-    circuits: &[u8],
-    scripts: &[u8],
-    pool: u64,
-    log: &mut [u8],
-    values: &mut [u8],
-    units: &mut [u8],
-    delays: &mut [u8],
-    told: &mut [u64],
-) -> u64
-    ensures { RightBoard (board_call circuits scripts pool log values units delays told) (board_left log values units delays told) result }
-{
-    board::board(circuits, scripts, pool, log, values, units, delays, told)
 }
 
 // Asks the questions about the circuit, and 16, 17 and 18 of a finished log, of the outputs for driver and activity, the length of a tick in milliseconds, and the room;

@@ -44,7 +44,6 @@ use Rattle.promises.proofs.Times.{Length, length_good}
 use Rattle.promises.proofs.Values.{Proper}
 use Rattle.promises.proofs.Shape.{PinFits, Shaped, value_at, values_at}
 use Rattle.promises.proofs.Settles.{Fitting, world_good}
-use Rattle.promises.proofs.Opens.{GivenGood}
 use Rattle.promises.proofs.Worlds.{Gets}
 
 -- ---- the kinds
@@ -106,12 +105,12 @@ pin_fits c g p i e l h = go (get_or (kind_at (kind_of_gate c g)).ins p value).wa
 
 -- ---- lists
 
-pub drop_below : (m n : ℕ) (xs : List ℕ) → Below m xs → Below m (drop n xs)
+drop_below : (m n : ℕ) (xs : List ℕ) → Below m xs → Below m (drop n xs)
 drop_below m zero xs b = b
 drop_below m (suc n) [] b = b
 drop_below m (suc n) (x ∷ xs) b = drop_below m n xs (λ i. b (suc i))
 
-pub take_below : (m n : ℕ) (xs : List ℕ) → 0 < m → Below m xs → Below m (take n xs)
+take_below : (m n : ℕ) (xs : List ℕ) → 0 < m → Below m xs → Below m (take n xs)
 take_below m zero xs l b i = l
 take_below m (suc n) [] l b i = l
 take_below m (suc n) (x ∷ xs) l b zero = b 0
@@ -264,17 +263,12 @@ script_most c limit sb q =
     let h₂ = both_true (a && within 0 most_ticks T) _ h₁.0 in
     omega (arith, script_ticks c limit ws, (within_true 0 most_ticks T (both_true a _ h₂.0).1).1)
 
-pub script_good :
-    (areas : Option Areas) (cb sb : List ℕ) → Below 256 cb → Below 256 sb → Accepted areas cb sb → Shaped (circuit (words cb)) →
-    let c = circuit (words cb) in All (GivenGood c) (script c.constants (words sb))
-script_good areas cb sb low below a Z =
-    let c = circuit (words cb) in
-    let lengths = part_below (words sb) 2 (word_at (words sb) 0) (words_below sb below) in
-    script_all Length (Fitting c) areas cb sb a (λ i. length_good _ (lengths i)) (stimulus_fits c Z (constants_proper (words cb) (words_below cb low) a.constants))
-
 pub script_gets :
     (areas : Option Areas) (cb sb : List ℕ) → Below 256 cb → Below 256 sb → Accepted areas cb sb → Shaped (circuit (words cb)) → (limit : ℕ) → limit ≤ most_steps →
     let c = circuit (words cb) in All (Gets c) (gets c limit (words sb))
 unfolding allowed
 script_gets areas cb sb low below a Z limit l =
-    map_all (Gets (circuit (words cb))) (allow limit) (all_map (λ x q. record { given = q; limit = l }) (script_good areas cb sb low below a Z))
+    let c = circuit (words cb) in
+    let lengths = part_below (words sb) 2 (word_at (words sb) 0) (words_below sb below) in
+    let g = script_all Length (Fitting c) areas cb sb a (λ i. length_good _ (lengths i)) (stimulus_fits c Z (constants_proper (words cb) (words_below cb low) a.constants)) in
+    map_all (Gets c) (allow limit) (all_map (λ x q. record { given = q; limit = l }) g)

@@ -1,4 +1,4 @@
--- the theorems: `every_log_whole`, `limited_whole`, `run_whole`
+-- the theorems: `every_log_whole`, `limited_whole`
 pub mod Theorems
 -- seconds that are added up stay finite: `plus_time`
 pub mod Times

@@ -3,7 +3,7 @@ use mathlib.Core.Path.{◌≡◌, refl, sym, ap, subst, ◌∙◌}
 use mathlib.Core.Bool.{◌&&◌}
 use mathlib.Core.List.{List, [], ◌∷◌, map}
 use mathlib.Core.Option.{none, some}
-use Prim.Native.Nat.{ℕ, zero, suc, ◌+◌, ◌*◌, ◌/◌, ◌%◌, ◌^◌, ◌≤◌, ◌<◌}
+use Prim.Native.Nat.{ℕ, zero, suc, ◌+◌, ◌*◌, ◌/◌, ◌%◌, ◌^◌, ◌<◌}
 use native.Mathlib.Omega.{arith}
 use lib.Dec.{leb}
 use lib.Arith.{mod-mul}
@@ -11,11 +11,10 @@ use lib.ListN.{length}
 use borrow.Author.Tests.{eq-eqb}
 use Rattle.words.specs.Words.{word, words, bytes}
 use Rattle.words.proofs.Laws.{length_bytes}
-use Rattle.schedule.specs.Promise.{All}
 use Rattle.model.specs.Base.{if◌then◌else◌}
 use Rattle.model.specs.Circuit.{circuit}
 use Rattle.model.specs.Script.{most_ticks}
-use Rattle.model.specs.Run.{Played, Allowed, most_steps, gets, ticks_of, seen}
+use Rattle.model.specs.Run.{Played, most_steps, gets, ticks_of, seen}
 use Rattle.model.specs.Questions.{Areas, queues, question_7, circuit_refusal, or_else, refusal}
 use Rattle.model.specs.Answer.{play, played, answer_to, answer}
 use Rattle.model.proofs.Lists.{both_true}
@@ -24,9 +23,8 @@ use Rattle.records.specs.Records.{records_in, records, log_words}
 use Rattle.records.specs.Whole.{whole_from, whole, log_refusal}
 use Rattle.records.specs.Good.{GoodLog}
 use Rattle.records.proofs.Good.{good_whole}
-use Rattle.promises.specs.Logged.{WholeRecords, Bytes, EveryLogWhole, EveryLimitedLogWhole}
+use Rattle.promises.specs.Logged.{WholeRecords, EveryLogWhole, EveryLimitedLogWhole}
 use Rattle.promises.proofs.Values.{as_word}
-use Rattle.promises.proofs.Worlds.{Gets}
 use Rattle.promises.proofs.Logs.{run_logged}
 use Rattle.promises.proofs.Circuits.{shaped, script_gets, script_most}
 
@@ -55,15 +53,15 @@ unfolding words bytes
 words_as [] = refl
 words_as (v ∷ ws) = λ j. word_as v j ∷ words_as ws j
 
--- Whatever the ticks of a run may make: its log is whole records, if each gets what is good.
-pub run_whole :
-    (areas : Areas) (room : ℕ) (cb sb : List ℕ) → Bytes cb → refusal (some areas) cb sb ≡ 0 →
-    let c = circuit (words cb) in (is : List Allowed) → length is ≤ most_ticks → All (Gets c) is → WholeRecords c (bytes (seen c (ticks_of c room is)).log)
+pub limited_whole : EveryLimitedLogWhole
 unfolding seen whole records
-run_whole areas room cb sb lc h is l g =
+limited_whole areas room limit cb sb lc ls k h =
+    let a = accepted (some areas) cb sb h in
     let c = circuit (words cb) in
-    let Z = shaped (some areas) cb sb lc (accepted (some areas) cb sb h) in
-    let m = run_logged c Z room is l g in
+    let Z = shaped (some areas) cb sb lc a in
+    let is = gets c limit (words sb) in
+    let l = script_most c limit sb a.script_sizes in
+    let m = run_logged c Z room is l (script_gets (some areas) cb sb lc ls a Z limit k) in
     let w = good_whole c most_ticks 1 m.records (omega (arith, m.few, l)) m.good in
     let ws = (seen c (ticks_of c room is)).log in
     let e : words (bytes ws) ≡ log_words m.records = words_as ws ∙ m.words in
@@ -72,13 +70,6 @@ run_whole areas room cb sb lc h is l g =
       whole = rw (eq-eqb (length (bytes ws) % 8) 0 (omega (arith, length_bytes ws))) (ap (whole_from c most_ticks 1) e ∙ w.0);
       good = subst (GoodLog c 1) (sym r) m.good;
     }
-
-pub limited_whole : EveryLimitedLogWhole
-limited_whole areas room limit cb sb lc ls k h =
-    let a = accepted (some areas) cb sb h in
-    let c = circuit (words cb) in
-    let Z = shaped (some areas) cb sb lc a in
-    run_whole areas room cb sb lc h (gets c limit (words sb)) (script_most c limit sb a.script_sizes) (script_gets (some areas) cb sb lc ls a Z limit k)
 
 -- a circuit that is not refused with areas is not refused without
 circuit_asked : (areas : Areas) (cb sb : List ℕ) → refusal (some areas) cb sb ≡ 0 → circuit_refusal none cb ≡ 0
@@ -91,18 +82,13 @@ circuit_asked areas cb sb h =
     let q₃ = (both_true k _ q₂).0 in
     rw (a.sizes, a.constants, a.gates, a.inputs, a.calls, a.bodies, a.order, q₃)
 
--- so no reader refuses whole records of it
-pub whole_read : (areas : Areas) (cb sb log : List ℕ) → refusal (some areas) cb sb ≡ 0 → WholeRecords (circuit (words cb)) log → log_refusal cb log ≡ 0
-unfolding log_refusal or_else if◌then◌else◌
-whole_read areas cb sb log h w = rw (circuit_asked areas cb sb h, w.whole)
-
 pub every_log_whole : EveryLogWhole
-unfolding answer answer_to play
+unfolding answer answer_to play log_refusal or_else if◌then◌else◌
 every_log_whole areas room cb sb p lc ls e = go (refusal (some areas) cb sb) refl e
   where
     go : (n : ℕ) → refusal (some areas) cb sb ≡ n → answer_to n room cb sb ≡ played p → (log_refusal cb (bytes p.log) ≡ 0) × WholeRecords (circuit (words cb)) (bytes p.log)
     go zero h e =
         let q : play room (circuit (words cb)) (words sb) ≡ p = cc in
         let w = limited_whole areas room most_steps cb sb lc ls (omega arith) h in
-        subst (λ (x : Played). (log_refusal cb (bytes x.log) ≡ 0) × WholeRecords (circuit (words cb)) (bytes x.log)) q (whole_read areas cb sb _ h w, w)
+        subst (λ (x : Played). (log_refusal cb (bytes x.log) ≡ 0) × WholeRecords (circuit (words cb)) (bytes x.log)) q (rw (circuit_asked areas cb sb h, w.whole), w)
     go (suc n) h e = let z : ◌≡◌ {A = ℕ} 0 1 = cc in absurd (omega (arith, z))

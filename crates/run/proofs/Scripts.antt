@@ -18,7 +18,6 @@ use Rattle.model.specs.Questions.{names_constant}
 use Rattle.model.proofs.Lists.{both_true}
 use Rattle.opening.specs.Opening.{stimuli_of}
 use Rattle.run.specs.Running.{GoodScript}
-use Rattle.run.specs.Progress.{counts_of, used_by}
 
 -- ---- parts of lists
 
@@ -173,29 +172,37 @@ module _ (c : Circuit) (ws : List ℕ) (good : GoodScript c ws) where
   abbrev N : ℕ
   N = word_at ws 1
 
-  counts_length : length (counts_of ws) ≡ T
+  -- how many stimuli each tick gets
+  abbrev pub counts_of : List ℕ
+  counts_of = part ws (2 + T) T
+
+  -- the stimuli of the first k ticks
+  abbrev pub used_by : ℕ → ℕ
+  used_by k = used counts_of k
+
+  counts_length : length counts_of ≡ T
   counts_length = part_length ws (2 + T) T (let e = good.words in omega arith)
 
-  count_is : (k : ℕ) → k < T → get_or (counts_of ws) k 0 ≡ word_at ws (2 + T + k)
+  count_is : (k : ℕ) → k < T → get_or counts_of k 0 ≡ word_at ws (2 + T + k)
   count_is k h = part_at ws (2 + T) T k h
 
-  pub used_by_next : (k : ℕ) → k < T → used_by ws (k + 1) ≡ used_by ws k + word_at ws (2 + T + k)
+  pub used_by_next : (k : ℕ) → k < T → used_by (k + 1) ≡ used_by k + word_at ws (2 + T + k)
   used_by_next k h =
-      ap (used_by ws) (let e : k + 1 ≡ suc k = omega arith in e) ∙ used_next (counts_of ws) k (let e = counts_length in omega arith) ∙ ap (λ (x : ℕ). used_by ws k + x) (count_is k h)
+      ap used_by (let e : k + 1 ≡ suc k = omega arith in e) ∙ used_next counts_of k (let e = counts_length in omega arith) ∙ ap (λ (x : ℕ). used_by k + x) (count_is k h)
 
   -- what the next tick gets is there
-  pub used_fits : (k : ℕ) → k < T → used_by ws k + word_at ws (2 + T + k) ≤ N
-  used_fits k h = let e = used_by_next k h in let f = used_most (counts_of ws) (k + 1) in let g = good.counts in omega arith
+  pub used_fits : (k : ℕ) → k < T → used_by k + word_at ws (2 + T + k) ≤ N
+  used_fits k h = let e = used_by_next k h in let f = used_most counts_of (k + 1) in let g = good.counts in omega arith
 
   pub script_length : length (script c.constants ws) ≡ T
   unfolding script
-  script_length = given_length (part ws 2 T) (counts_of ws) _ (part_length ws 2 T (let e = good.words in omega arith) ∙ sym counts_length) ∙ part_length ws 2 T (let e = good.words in omega arith)
+  script_length = given_length (part ws 2 T) counts_of _ (part_length ws 2 T (let e = good.words in omega arith) ∙ sym counts_length) ∙ part_length ws 2 T (let e = good.words in omega arith)
 
   -- what tick k + 1 gets
   pub script_next :
       (k : ℕ) → k < T →
       drop k (script c.constants ws)
-      ≡ record { dt = word_at ws (2 + k); stimuli = stimuli_of c ws (2 + 2 * T + used_by ws k) (2 + 2 * T + N + used_by ws k) (word_at ws (2 + T + k)) } ∷ drop (k + 1) (script c.constants ws)
+      ≡ record { dt = word_at ws (2 + k); stimuli = stimuli_of c ws (2 + 2 * T + used_by k) (2 + 2 * T + N + used_by k) (word_at ws (2 + T + k)) } ∷ drop (k + 1) (script c.constants ws)
   unfolding script stimuli_of stimulus
   script_next k h =
       let a = 2 + 2 * T in
@@ -204,19 +211,19 @@ module _ (c : Circuit) (ws : List ℕ) (good : GoodScript c ws) where
       let acts = both (stimulus c.constants) (part ws a N) (part ws (a + N) N) in
       let fits = used_fits k h in
       let two : length (part ws 2 T) ≡ T = part_length ws 2 T (omega arith) in
-      let e : drop k (given (part ws 2 T) (counts_of ws) acts) ≡ record { dt = get_or (part ws 2 T) k 0; stimuli = take (get_or (counts_of ws) k 0) (drop (used_by ws k) acts) } ∷ drop (suc k) (given (part ws 2 T) (counts_of ws) acts)
-      = given_next (part ws 2 T) (counts_of ws) acts k (two ∙ sym counts_length) (omega arith) in
-      let s : take n (drop (used_by ws k) acts) ≡ stimuli_of c ws (a + used_by ws k) (a + N + used_by ws k) n
-      = ap (take n) (both_drop (stimulus c.constants) (used_by ws k) (part ws a N) (part ws (a + N) N))
-      ∙ both_take (stimulus c.constants) n (drop (used_by ws k) (part ws a N)) (drop (used_by ws k) (part ws (a + N) N))
+      let e : drop k (given (part ws 2 T) counts_of acts) ≡ record { dt = get_or (part ws 2 T) k 0; stimuli = take (get_or counts_of k 0) (drop (used_by k) acts) } ∷ drop (suc k) (given (part ws 2 T) counts_of acts)
+      = given_next (part ws 2 T) counts_of acts k (two ∙ sym counts_length) (omega arith) in
+      let s : take n (drop (used_by k) acts) ≡ stimuli_of c ws (a + used_by k) (a + N + used_by k) n
+      = ap (take n) (both_drop (stimulus c.constants) (used_by k) (part ws a N) (part ws (a + N) N))
+      ∙ both_take (stimulus c.constants) n (drop (used_by k) (part ws a N)) (drop (used_by k) (part ws (a + N) N))
       ∙ both_same (stimulus c.constants) (λ g m. stimulus c.constants (g % 2 ^ 16) (m % 2 ^ 16)) (λ g. eqb (kind_of_gate c g) 28) (names_constant c) alike
-      (take n (drop (used_by ws k) (part ws a N))) (take n (drop (used_by ws k) (part ws (a + N) N)))
-      (sub_all (λ g. eqb (kind_of_gate c g) 28) n _ (rest_all (λ g. eqb (kind_of_gate c g) 28) (used_by ws k) _ good.gates))
-      (sub_all (names_constant c) n _ (rest_all (names_constant c) (used_by ws k) _ good.constants))
-      ∙ ap₂ (both (λ g m. stimulus c.constants (g % 2 ^ 16) (m % 2 ^ 16))) (part_of ws a (used_by ws k) n N fits) (part_of ws (a + N) (used_by ws k) n N fits) in
+      (take n (drop (used_by k) (part ws a N))) (take n (drop (used_by k) (part ws (a + N) N)))
+      (sub_all (λ g. eqb (kind_of_gate c g) 28) n _ (rest_all (λ g. eqb (kind_of_gate c g) 28) (used_by k) _ good.gates))
+      (sub_all (names_constant c) n _ (rest_all (names_constant c) (used_by k) _ good.constants))
+      ∙ ap₂ (both (λ g m. stimulus c.constants (g % 2 ^ 16) (m % 2 ^ 16))) (part_of ws a (used_by k) n N fits) (part_of ws (a + N) (used_by k) n N fits) in
       e
-      ∙ ap₂ (λ (d : ℕ) (z : List Act). record { dt = d; stimuli = z } ∷ drop (suc k) (given (part ws 2 T) (counts_of ws) acts)) (part_at ws 2 T k h) (ap (λ (x : ℕ). take x (drop (used_by ws k) acts)) (count_is k h) ∙ s)
-      ∙ ap (λ (x : ℕ). record { dt = word_at ws (2 + k); stimuli = stimuli_of c ws (a + used_by ws k) (a + N + used_by ws k) n } ∷ drop x (given (part ws 2 T) (counts_of ws) acts)) (let z : suc k ≡ k + 1 = omega arith in z)
+      ∙ ap₂ (λ (d : ℕ) (z : List Act). record { dt = d; stimuli = z } ∷ drop (suc k) (given (part ws 2 T) counts_of acts)) (part_at ws 2 T k h) (ap (λ (x : ℕ). take x (drop (used_by k) acts)) (count_is k h) ∙ s)
+      ∙ ap (λ (x : ℕ). record { dt = word_at ws (2 + k); stimuli = stimuli_of c ws (a + used_by k) (a + N + used_by k) n } ∷ drop x (given (part ws 2 T) counts_of acts)) (let z : suc k ≡ k + 1 = omega arith in z)
     where
       alike : (x y : ℕ) → eqb (kind_of_gate c x) 28 ≡ true → names_constant c y ≡ true → stimulus c.constants x y ≡ stimulus c.constants (x % 2 ^ 16) (y % 2 ^ 16)
       alike x y e f =

@@ -15,12 +15,11 @@ use Rattle.model.specs.Unit.{World}
 use Rattle.model.specs.Run.{Played, Allowed, last_stop, seen}
 use Rattle.areas.specs.Areas.{Contents}
 use Rattle.passes.specs.Waiting.{bare, waiting}
-use Rattle.ticks.specs.declared.Ticked.{Ticked}
 use Rattle.ticks.specs.Ticks.{Ticks}
 use Rattle.run.specs.Running.{more, Running, Logged}
 
 -- what stands behind the first records, a new one before it
-pub log_grows : (xs ys ws log : List ℕ) (at size : ℕ) → length xs ≡ at → log ≡ xs ++ drop at ws →
+log_grows : (xs ys ws log : List ℕ) (at size : ℕ) → length xs ≡ at → log ≡ xs ++ drop at ws →
     take at log ++ ys ++ drop (at + size) log ≡ (xs ++ ys) ++ drop (at + size) ws
 log_grows xs ys ws log at size n e =
     ap (λ (l : List ℕ). take at l ++ ys ++ drop (at + size) l) e
@@ -86,33 +85,33 @@ module _ (c : Circuit) where
 
       -- it came to no stop
       pub running_on :
-          (i : Allowed) (b : Contents) (after : List ℕ) (x : Ticked) → drop k is ≡ i ∷ drop (k + 1) is → x.stop ≡ 0 → Ticks c a b log after at x r.world (ticked i) →
-          Running c is w (k + 1) b before after (at + x.size)
-      running_on i b after x e f t =
+          (i : Allowed) (b : Contents) (after : List ℕ) (size : ℕ) → drop k is ≡ i ∷ drop (k + 1) is → Ticks c a b log after at size 0 r.world (ticked i) →
+          Running c is w (k + 1) b before after (at + size)
+      running_on i b after size e t =
           record {
             world = (ticked i).world;
             state = t.state;
-            room = (let y = t.room in let z = r.room in omega arith);
+            room = (let x = t.room in let y = r.room in omega arith);
             records = r.records ++ (ticked i).world.logged;
-            size = length-append r.records (ticked i).world.logged ∙ (let y = r.size in let z = t.logged in omega arith);
-            words = t.log ∙ log_grows r.records (ticked i).world.logged (words before) (words log) at x.size r.size r.words;
+            size = length-append r.records (ticked i).world.logged ∙ (let x = r.size in let y = t.logged in omega arith);
+            words = t.log ∙ log_grows r.records (ticked i).world.logged (words before) (words log) at size r.size r.words;
             tail = t.behind ∙ r.tail;
-            seen = r.seen ∙ ap (more r.records k) (next_tick i e ∙ seen_on (ticked i) _ (t.stopped ∙ f)) ∙ more_more r.records (ticked i).world.logged k 1 _ ∙ ap (λ (l : List (Activation S)). more (r.records ++ (ticked i).world.logged) (k + 1) (seen c (run_on S (drop (k + 1) is) (ticked i).world l tt))) t.carried;
+            seen = r.seen ∙ ap (more r.records k) (next_tick i e ∙ seen_on (ticked i) _ t.stopped) ∙ more_more r.records (ticked i).world.logged k 1 _ ∙ ap (λ (x : List (Activation S)). more (r.records ++ (ticked i).world.logged) (k + 1) (seen c (run_on S (drop (k + 1) is) (ticked i).world x tt))) t.carried;
           }
 
       -- it came to a stop, which ends the run
       pub running_stop :
-          (i : Allowed) (b : Contents) (after : List ℕ) (x : Ticked) → drop k is ≡ i ∷ drop (k + 1) is → (x.stop ≡ 0 → ⊥) → Ticks c a b log after at x r.world (ticked i) →
-          Logged (seen c (run S is w)) before after (at + x.size) x.stop k
+          (i : Allowed) (b : Contents) (after : List ℕ) (size stop : ℕ) → drop k is ≡ i ∷ drop (k + 1) is → (stop ≡ 0 → ⊥) → Ticks c a b log after at size stop r.world (ticked i) →
+          Logged (seen c (run S is w)) before after (at + size) stop k
       unfolding more
-      running_stop i b after x e f t =
+      running_stop i b after size stop e f t =
           let p : seen c (run S is w) ≡ more r.records k (record { log = (ticked i).world.logged; stop = (ticked i).stop; ticks = 0 })
           = r.seen ∙ ap (more r.records k) (next_tick i e ∙ seen_stop (ticked i) _ (λ y. f (sym t.stopped ∙ y))) in
           record {
-            stop = ap (λ (y : Played). y.stop) p ∙ t.stopped;
-            ticks = ap (λ (y : Played). y.ticks) p ∙ (omega arith);
-            size = ap (λ (y : Played). length y.log) p ∙ length-append r.records (ticked i).world.logged ∙ (let y = r.size in let z = t.logged in omega arith);
-            words = t.log ∙ log_grows r.records (ticked i).world.logged (words before) (words log) at x.size r.size r.words ∙ ap (λ (y : Played). y.log ++ drop (at + x.size) (words before)) (sym p);
+            stop = ap (λ (x : Played). x.stop) p ∙ t.stopped;
+            ticks = ap (λ (x : Played). x.ticks) p ∙ (omega arith);
+            size = ap (λ (x : Played). length x.log) p ∙ length-append r.records (ticked i).world.logged ∙ (let x = r.size in let y = t.logged in omega arith);
+            words = t.log ∙ log_grows r.records (ticked i).world.logged (words before) (words log) at size r.size r.words ∙ ap (λ (x : Played). x.log ++ drop (at + size) (words before)) (sym p);
             tail = t.behind ∙ r.tail;
           }
 

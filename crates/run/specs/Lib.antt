@@ -1,4 +1,3 @@
 pub mod Running
-pub mod Progress
 pub mod Call
 pub mod Told

@@ -1,25 +1,26 @@
 // A run: a script played over a circuit, tick after tick.
-ghost use Rattle.std.specs.Prelude.{◌≡◌, ◌*◌, ◌^◌, ◌≤◌, ◌<◌, length};
+ghost use Rattle.std.specs.Prelude.{◌≡◌, [], ◌*◌, ◌^◌, ◌≤◌, ◌<◌, length};
 ghost use Rattle.words.specs.Words.{words};
 ghost use Rattle.words.specs.Slices.{before};
+ghost use Rattle.model.specs.Opening.{start};
 ghost use Rattle.model.specs.Run.{most_steps};
 ghost use Rattle.links.specs.Links.{net};
 ghost use Rattle.links.specs.Lent.{Linked, Room};
-ghost use Rattle.states.specs.Lent.{Parts, Slots};
+ghost use Rattle.states.specs.Lent.{Parts, Slots, SlotsStay};
+ghost use Rattle.areas.specs.Lent.{OverAll};
 ghost use Rattle.unit.specs.Unit.{FewCalls};
 ghost use Rattle.run.specs.Running.{GoodScript, Logs, Started, Zeroed};
 ghost use Rattle.run.specs.Told.{told};
 ghost use Rattle.run.specs.Call.{RightCall, Ready};
 
 use crate::clearing::clear;
-use crate::next::{Progress, next_tick, start};
 use circuit::{refusal_lent, script_refusal};
 use links::layout::CELLS;
 use records::MOST_STEPS;
+use ticks::tick;
 use words::get;
 
 pub mod clearing;
-pub mod next;
 
 // The answer to a call: refused with the number of a question; or played, with the stop, or 0, the ticks done, and how many bytes of the log hold records.
 #[derive(Drop)]
@@ -34,6 +35,16 @@ pub struct Outcome {
     pub stop: u64,
     pub ticks: u64,
     pub size: usize,
+}
+
+// The areas at the start of a run, whatever they held.
+fn start(links: &[usize], values: &mut [u8], units: &mut [u8], delays: &mut [u8])
+    requires { Linked links × Room values × Room units × Parts links delays }
+    ensures { OverAll links values units delays (λ c _ new. (new.state ≡ start c) × (new.lists.carried ≡ []) × SlotsStay links delays) }
+{
+    wires::start::start(links, values);
+    units::raising::start(links, units);
+    queues::start(links, delays);
 }
 
 // All ticks of a script, up to a stop.
@@ -54,19 +65,29 @@ fn play(
 {
     let ticks = get(script, 0) as usize;
     let stimuli = get(script, 1) as usize;
+    let gates = 2 + 2 * ticks;
+    let constants = gates + stimuli;
     let mut k = 0;
     let mut used = 0;
     let mut at = 0;
     while k < ticks {
-        let p = Progress {
-            ticks,
-            stimuli,
-            done: k,
-            used,
+        let n = get(script, 2 + ticks + k) as usize;
+        let dt = get(script, 2 + k);
+        let t = tick(
+            links,
+            values,
+            units,
+            delays,
+            script,
+            gates + used,
+            constants + used,
+            n,
+            dt,
+            log,
             at,
-        };
-        let t = next_tick(links, values, units, delays, script, p, log, limit);
-        at = t.at;
+            limit,
+        );
+        at += t.size;
         if t.stop != 0 {
             return Outcome {
                 stop: t.stop,
@@ -74,7 +95,7 @@ fn play(
                 size: at,
             };
         }
-        used = t.used;
+        used += n;
         k += 1;
     }
     Outcome {

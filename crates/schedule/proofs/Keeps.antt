@@ -56,7 +56,7 @@ module _ (S : Setup) where
           let k = raise_all S (activate u) d.raises t q d.world d.stop in
           turning S u w k.raised (eqb d.stop 0) (pass S next activate n k.next k.queue k.world k.stop)
 
-      pub pass_keeps : (n : ℕ) (t : Tag) (q : Q) (w : W) (s : ℕ) → P n w → PassKeeps B P (pass S next activate n t q w s)
+      pass_keeps : (n : ℕ) (t : Tag) (q : Q) (w : W) (s : ℕ) → P n w → PassKeeps B P (pass S next activate n t q w s)
       unfolding pass turn
       pass_keeps zero t q w zero p = go (next q)
         where

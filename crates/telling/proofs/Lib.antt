@@ -2,5 +2,3 @@
 pub mod Numbers
 -- words told one behind the other: `put_over`, `over_next`
 pub mod Telling
--- several answers, three words for each: `told_first`, `told_next`, `told_at`
-pub mod Answers

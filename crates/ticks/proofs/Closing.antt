@@ -119,7 +119,7 @@ module _ (c : Circuit) where
         -- it fits
         pub ticks_fit :
             fits before at rs ≡ true →
-            Ticks c a b before after at (record { size = length rs; stop = r₂.stop; left = r₂.left }) w (tick S w i (map (waiting c) a.lists.carried) tt)
+            Ticks c a b before after at (length rs) r₂.stop w (tick S w i (map (waiting c) a.lists.carried) tt)
         unfolding write if◌then◌else◌ state≔
         ticks_fit y =
             let z = t_of in
@@ -128,7 +128,6 @@ module _ (c : Circuit) where
             let g = z.world ∙ ap (λ (x : Closed World). x.world) k in
             record {
               stopped = z.stop ∙ ap (λ (x : Closed World). cond x.fits (main_from c q v s).stop log_full) k ∙ ap (λ (x : Passed S (MainQ (Activation S))). x.stop) (main_is late e f) ∙ main.stop;
-              left = ap (λ (x : World). x.left) g;
               carried = z.carried ∙ ap (λ (x : Passed S (MainQ (Activation S))). x.queue.carried) (main_is late e f) ∙ ap (λ (x : MainQ (Activation S)). x.carried) main.queue;
               state = ap (λ (x : World). x.state) g;
               room = ap (λ (x : World). x.room + 8 * length rs) g ∙ (let j = leb-true (8 * length rs) w.room n in omega arith);
@@ -140,7 +139,7 @@ module _ (c : Circuit) where
         -- it does not fit
         pub ticks_full :
             fits before at rs ≡ false →
-            Ticks c a b before after at (record { size = 0; stop = log_full; left = r₂.left }) w (tick S w i (map (waiting c) a.lists.carried) tt)
+            Ticks c a b before after at 0 log_full w (tick S w i (map (waiting c) a.lists.carried) tt)
         unfolding write if◌then◌else◌ state≔
         ticks_full y =
             let z = t_of in
@@ -149,7 +148,6 @@ module _ (c : Circuit) where
             let g = z.world ∙ ap (λ (x : Closed World). x.world) k in
             record {
               stopped = z.stop ∙ ap (λ (x : Closed World). cond x.fits (main_from c q v s).stop log_full) k;
-              left = ap (λ (x : World). x.left) g;
               carried = z.carried ∙ ap (λ (x : Passed S (MainQ (Activation S))). x.queue.carried) (main_is late e f) ∙ ap (λ (x : MainQ (Activation S)). x.carried) main.queue;
               state = ap (λ (x : World). x.state) g;
               room = ap (λ (x : World). x.room + 8 * 0) g ∙ (omega arith);

@@ -108,21 +108,21 @@ unfolding head_of
 head_is limit late changed left stop tick made v e₁ e₂ = rw (e₁, e₂) refl
 
 -- what a tick answers, by what writing its record came to
-abbrev pub ticked_by : Written → Ran → Ticked
-ticked_by (Fits n) r = record { size = n; stop = r.stop; left = r.left }
-ticked_by TooLong r = record { size = 0; stop = log_full; left = r.left }
+abbrev pub ticked_by : Written → ℕ → Ticked
+ticked_by (Fits n) stop = record { size = n; stop = stop }
+ticked_by TooLong stop = record { size = 0; stop = log_full }
 
-ticked_is : (t : Bool) (rs : List ℕ) (r : Ran) → ticked_by (written_as t rs) r ≡ ticked_as t rs r
+ticked_is : (t : Bool) (rs : List ℕ) (stop : ℕ) → ticked_by (written_as t rs) stop ≡ ticked_as t rs stop
 unfolding written_as ticked_as
-ticked_is true rs r = refl
-ticked_is false rs r = refl
+ticked_is true rs stop = refl
+ticked_is false rs stop = refl
 
 -- the record was written, or did not fit
 pub closes :
     (c : Circuit) (limit late changed : ℕ) (r : Ran) (v b : Values) (u : Units) (before after : List ℕ) (at : ℕ) (h : Head) {x y : Written} →
     b ≡ with_wires v (outputs_read c v.wires r.stop) → h ≡ head_of limit late changed r.left r.stop b →
     x ≡ written_as (fits before at (words_with h b u)) (words_with h b u) → Writes before after at (words_with h b u) → x ≡ y →
-    Closes c limit late changed r v b u before after at (ticked_by y r)
+    Closes c limit late changed r v b u before after at (ticked_by y r.stop)
 unfolding words_of
 closes c limit late changed r v b u before after at h e₁ e₂ e₃ e₄ e₅ =
     let rs = words_of limit late changed r b u in
@@ -130,7 +130,7 @@ closes c limit late changed r v b u before after at h e₁ e₂ e₃ e₄ e₅ =
     record {
       values = e₁;
       answer =
-          ap (λ (z : Written). ticked_by z r) (sym e₅ ∙ e₃ ∙ ap (λ (z : List ℕ). written_as (fits before at z) z) same)
-          ∙ ticked_is (fits before at rs) rs r;
+          ap (λ (z : Written). ticked_by z r.stop) (sym e₅ ∙ e₃ ∙ ap (λ (z : List ℕ). written_as (fits before at z) z) same)
+          ∙ ticked_is (fits before at rs) rs r.stop;
       log = subst (λ (z : List ℕ). Writes before after at z) same e₄;
     }

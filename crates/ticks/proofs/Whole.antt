@@ -6,7 +6,7 @@ use mathlib.Core.List.{List, map}
 use native.Mathlib.Omega.{arith}
 use lib.Dec.{eqb}
 use lib.ListN.{length}
-use Rattle.schedule.specs.Schedule.{tick, most_units, late_pass, main_pass}
+use Rattle.schedule.specs.Schedule.{tick, most_units, late_pass, main_pass, log_full}
 use Rattle.lists.specs.declared.Filed.{Filed}
 use Rattle.model.specs.Base.{if◌then◌else◌}
 use Rattle.model.specs.Circuit.{Circuit}
@@ -78,27 +78,27 @@ module _ (c : Circuit) (i : Allowed) (a a₁ a₂ : Contents) (v b : Values) (u 
     areas_are : with_state a₃ ended ≡ together b u d
     areas_are = ap (λ (x : Values). with_state a₃ (together x u d).state) read ∙ sym (ap (λ (x : Values). together x u d) read)
 
-    tick_fits : fits before at rs ≡ true → Ticks c a (together b u d) before after at (ticked_as true rs r₂) w (tick (bare c) w i (map (waiting c) a.lists.carried) tt)
-    unfolding words_of head_of steps_made ticked_as
+    tick_fits : fits before at rs ≡ true → Ticks c a (together b u d) before after at (length rs) r₂.stop w (tick (bare c) w i (map (waiting c) a.lists.carried) tt)
+    unfolding words_of head_of steps_made
     tick_fits y =
-        subst (λ (x : Contents). Ticks c a x before after at (ticked_as true rs r₂) w (tick (bare c) w i (map (waiting c) a.lists.carried) tt)) areas_are
+        subst (λ (x : Contents). Ticks c a x before after at (length rs) r₂.stop w (tick (bare c) w i (map (waiting c) a.lists.carried) tt)) areas_are
         (ticks_fit c w i a a₁ a₂ a₃ r₁ r₂ came same late_is l.pending l.carried main_is₁ (head_of i.limit late changed r₂.left r₂.stop b) ended reads refl refl n refl x before after at room (omega arith) kept y)
 
-    tick_full : fits before at rs ≡ false → Ticks c a (together b u d) before after at (ticked_as false rs r₂) w (tick (bare c) w i (map (waiting c) a.lists.carried) tt)
-    unfolding words_of head_of steps_made ticked_as
+    tick_full : fits before at rs ≡ false → Ticks c a (together b u d) before after at 0 log_full w (tick (bare c) w i (map (waiting c) a.lists.carried) tt)
+    unfolding words_of head_of steps_made
     tick_full y =
-        subst (λ (x : Contents). Ticks c a x before after at (ticked_as false rs r₂) w (tick (bare c) w i (map (waiting c) a.lists.carried) tt)) areas_are
+        subst (λ (x : Contents). Ticks c a x before after at 0 log_full w (tick (bare c) w i (map (waiting c) a.lists.carried) tt)) areas_are
         (ticks_full c w i a a₁ a₂ a₃ r₁ r₂ came same late_is l.pending l.carried main_is₁ (head_of i.limit late changed r₂.left r₂.stop b) ended reads refl refl n refl x before after at room (omega arith) kept y)
 
     pub tick_answers :
-        (t : Ticked) → t ≡ ticked_as (fits before at rs) rs r₂ →
-        Ticks c a (together b u d) before after at t w (tick (bare c) w i (map (waiting c) a.lists.carried) tt)
+        (t : Ticked) → t ≡ ticked_as (fits before at rs) rs r₂.stop →
+        Ticks c a (together b u d) before after at t.size t.stop w (tick (bare c) w i (map (waiting c) a.lists.carried) tt)
     unfolding ticked_as
     tick_answers t e = go (fits before at rs) refl
       where
-        go : (x : Bool) → fits before at rs ≡ x → Ticks c a (together b u d) before after at t w (tick (bare c) w i (map (waiting c) a.lists.carried) tt)
-        go true y = let z : t ≡ ticked_as true rs r₂ = e ∙ ap (λ (f : Bool). ticked_as f rs r₂) y in rw z (tick_fits y)
-        go false y = let z : t ≡ ticked_as false rs r₂ = e ∙ ap (λ (f : Bool). ticked_as f rs r₂) y in rw z (tick_full y)
+        go : (x : Bool) → fits before at rs ≡ x → Ticks c a (together b u d) before after at t.size t.stop w (tick (bare c) w i (map (waiting c) a.lists.carried) tt)
+        go true y = let z : t ≡ ticked_as true rs r₂.stop = e ∙ ap (λ (f : Bool). ticked_as f rs r₂.stop) y in rw z (tick_fits y)
+        go false y = let z : t ≡ ticked_as false rs r₂.stop = e ∙ ap (λ (f : Bool). ticked_as f rs r₂.stop) y in rw z (tick_full y)
 
 -- the opening, the passes and the record make a tick
 pub ticks_through :
@@ -106,6 +106,6 @@ pub ticks_through :
     (a₁ ≡ with_went (reopened c a) (opened c a given)) × (o ≡ (opened c a given).answer) → RanLate c a₁ a₂ limit (stop_of o) r₁ → late ≡ length a₂.kept.begun → changed ≡ d.changed →
     RanMain c a₂ (together v u d) r₁.left r₁.stop r₂ → Closes c limit late changed r₂ v b u before after at t →
     (w : World) → w.state ≡ a.state → w.room ≡ length before - 8 * at →
-    Ticks c a (together b u d) before after at t w (tick (bare c) w (allow limit given) (map (waiting c) a.lists.carried) tt)
+    Ticks c a (together b u d) before after at t.size t.stop w (tick (bare c) w (allow limit given) (map (waiting c) a.lists.carried) tt)
 ticks_through c limit given a a₁ a₂ v b u d o r₁ r₂ late changed before after at t inside opens l n x m ends w same room =
     tick_answers c (allow limit given) a a₁ a₂ v b u d r₁ r₂ late changed before after at opens.0 (subst (λ (x : Filed). RanLate c a₁ a₂ limit (stop_of x) r₁) opens.1 l) n x m ends.values inside ends.log w same room t ends.answer

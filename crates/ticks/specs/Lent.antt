@@ -13,4 +13,4 @@ use Rattle.ticks.specs.Ticks.{Ticks}
 abbrev pub TicksAs : Circuit → Contents → Contents → List ℕ → List ℕ → ℕ → Ticked → Allowed → Type 0
 TicksAs c a b before after at r i =
     (w : World) → w.state ≡ a.state → w.room ≡ length before - 8 * at
-    → Ticks c a b before after at r w (tick (bare c) w i (map (waiting c) a.lists.carried) tt)
+    → Ticks c a b before after at r.size r.stop w (tick (bare c) w i (map (waiting c) a.lists.carried) tt)

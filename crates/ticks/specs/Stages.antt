@@ -49,13 +49,13 @@ words_with h v u = record_words (record_of h u.begun (map as_listed u.lists.carr
 unfoldable pub words_of : ℕ → ℕ → ℕ → Ran → Values → Units → List ℕ
 words_of limit late changed r v u = words_with (head_of limit late changed r.left r.stop v) v u
 
--- the answer of a tick after the passes' answer, by whether its record fits
-unfoldable pub ticked_as : Bool → List ℕ → Ran → Ticked
-ticked_as true rs r = record { size = length rs; stop = r.stop; left = r.left }
-ticked_as false rs r = record { size = 0; stop = log_full; left = r.left }
+-- the answer of a tick, by whether its record fits
+unfoldable pub ticked_as : Bool → List ℕ → ℕ → Ticked
+ticked_as true rs stop = record { size = length rs; stop = stop }
+ticked_as false rs stop = record { size = 0; stop = log_full }
 
 -- The end of a tick after the passes' answer r: the outputs are read, v became b, and the record is written to the log, which became `after`.
 pub record Closes (c : Circuit) (limit late changed : ℕ) (r : Ran) (v b : Values) (u : Units) (before after : List ℕ) (at : ℕ) (t : Ticked) : Type 0 where
   pub values : b ≡ with_wires v (outputs_read c v.wires r.stop)
-  pub answer : t ≡ ticked_as (fits before at (words_of limit late changed r b u)) (words_of limit late changed r b u) r
+  pub answer : t ≡ ticked_as (fits before at (words_of limit late changed r b u)) (words_of limit late changed r b u) r.stop
   pub log : Writes before after at (words_of limit late changed r b u)

@@ -26,12 +26,11 @@ use wires;
 use wires::refreshing::refresh_all;
 use words::counting::less;
 
-// What a tick comes to: how many words its record has, 0 where it does not fit, its stop, or 0, and the steps left of those that it might make.
+// What a tick comes to: how many words its record has, 0 where it does not fit, and its stop, or 0.
 #[derive(Drop)]
 pub struct Ticked {
     pub size: usize,
     pub stop: u64,
-    pub left: u64,
 }
 
 // The late pass, unless the opening found a list full.
@@ -136,15 +135,10 @@ fn close(
     read_outputs(links, values, stop);
     let h = head(links, values, limit, late, changed, left, stop);
     match write_record(links, values, units, log, at, h) {
-        Written::Fits(n) => Ticked {
-            size: n,
-            stop,
-            left,
-        },
+        Written::Fits(n) => Ticked { size: n, stop },
         Written::Full => Ticked {
             size: 0,
             stop: LOG_FULL,
-            left,
         },
     }
 }

@@ -13,3 +13,11 @@ pub fn garbage(length: usize, seed: u64) -> Vec<u8> {
     bytes.truncate(length);
     bytes
 }
+
+/// The words of the line of docs/FORMAT.md that begins so.
+pub fn format_words(named: &str) -> Vec<i64> {
+    let page = include_str!("../../../docs/FORMAT.md");
+    let start = format!("{named}: ");
+    let line = page.lines().find_map(|line| line.strip_prefix(&start)).expect(&start);
+    line.split_whitespace().map(|word| word.parse().expect(word)).collect()
+}

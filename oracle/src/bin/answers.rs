@@ -6,8 +6,7 @@
 //! `check` and `run`, and of a log its length and a number made of its words.
 //! A class has a book in place of the script, and one thing more, the words lent
 //! for what is told; its answer has the number of the call and one made of all
-//! that it leaves. A board is `board` behind its name, the pool, the words and the
-//! bytes lent, and the bytes of its two books; its answer is likewise. A report is `report` behind its name, what is named, the bytes
+//! that it leaves. A report is `report` behind its name, what is named, the bytes
 //! and the words lent, and the bytes of circuit and log; its answer is likewise. A
 //! size is `size` behind its name, the ticks, the words lent and the bytes of its
 //! circuit; its answer has the number of the call and the words that it leaves.
@@ -17,7 +16,7 @@ use std::panic::catch_unwind;
 
 use oracle::class::{Held, call};
 use oracle::hours::{self, Named};
-use oracle::{Answer, Lent, board, check, run, size};
+use oracle::{Answer, Lent, check, run, size};
 
 /// An answer of more words, or with more steps in its first tick, is slow.
 const MANY_WORDS: usize = 50_000;
@@ -44,23 +43,17 @@ fn main() {
 fn in_short(case: &str) -> String {
     let parts: Vec<&str> = case.split('\t').collect();
     match parts[0] {
-        "board" => return board_in_short(&parts[1..]),
         "report" => return report_in_short(&parts[1..]),
         "size" => return size_in_short(&parts[1..]),
         _ => {}
     }
-    let lent = lent(&parts);
+    let [log, values, units, delays] = [0, 1, 2, 3].map(|at| parts[at].parse().expect("a size"));
+    let lent = Lent { log, values, units, delays };
     let (circuit, script) = (bytes(parts[4]), bytes(parts[5]));
     match parts.get(6) {
         None => case_in_short(&circuit, &script, &lent),
         Some(told) => class_in_short(&circuit, &script, &lent, told.parse().expect("a size")),
     }
-}
-
-/// The bytes lent, which stand first.
-fn lent(parts: &[&str]) -> Lent {
-    let [log, values, units, delays] = [0, 1, 2, 3].map(|at| parts[at].parse().expect("a size"));
-    Lent { log, values, units, delays }
 }
 
 fn case_in_short(circuit: &[u8], script: &[u8], lent: &Lent) -> String {
@@ -80,20 +73,6 @@ fn case_in_short(circuit: &[u8], script: &[u8], lent: &Lent) -> String {
 fn class_in_short(circuit: &[u8], book: &[u8], lent: &Lent, told: usize) -> String {
     let (number, left) = call(circuit, book, Held::filled(lent, told, 165));
     let speed = if left.told.contains(&11) { "slow" } else { "quick" };
-    left_in_short(speed, number, left)
-}
-
-/// What is lent holds 165 in each byte. A board with a large pool is slow.
-fn board_in_short(parts: &[&str]) -> String {
-    let pool: u64 = parts[0].parse().expect("a word");
-    let before = Held::filled(&lent(&parts[2..]), parts[1].parse().expect("a size"), 165);
-    let (number, left) = board::call(&bytes(parts[6]), &bytes(parts[7]), pool, before);
-    let speed = if number == 0 && pool > MANY_STEPS as u64 { "slow" } else { "quick" };
-    left_in_short(speed, number, left)
-}
-
-/// The number of a call, and one made of each thing that it leaves.
-fn left_in_short(speed: &str, number: u8, left: Held) -> String {
     let told: Vec<u8> = left.told.iter().flat_map(|word| word.to_le_bytes()).collect();
     let parts = [left.log, left.values, left.units, left.delays, told];
     let hashes = parts.map(|bytes| format!("{:016x}", hash_of_bytes(bytes.into_iter())));

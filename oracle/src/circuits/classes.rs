@@ -8,9 +8,6 @@ mod logs;
 mod spans;
 mod told;
 
-pub(super) use answers::stretch;
-pub(super) use asked::{faulty, queues};
-
 use crate::build::{Book, Circuit, Gate, Script};
 use crate::case::Class;
 use crate::generate::book;
@@ -37,7 +34,7 @@ fn class(name: impl AsRef<str>, shows: impl Into<String>, circuit: &Circuit, boo
 }
 
 /// Document 01's first example: a World event that flips a Toggle.
-pub(super) fn toggle() -> (Circuit, Gate) {
+fn toggle() -> (Circuit, Gate) {
     let mut c = Circuit::new();
     c.constant(7);
     let world = c.world_event(0);
@@ -56,17 +53,17 @@ fn fed(world: Gate, ticks: usize) -> Vec<u8> {
 }
 
 /// So many ticks that each flip the Toggle of `toggle`: records of 17 words.
-pub(super) fn flips(ticks: usize) -> Vec<u8> {
+fn flips(ticks: usize) -> Vec<u8> {
     fed(toggle().1, ticks)
 }
 
 /// So many ticks of 0.25 without stimuli: of `toggle`, records of 15 words.
-pub(super) fn quiet(ticks: usize) -> Vec<u8> {
+fn quiet(ticks: usize) -> Vec<u8> {
     Script::new().ticks(ticks, 0.25).bytes()
 }
 
 /// A script for `toggle` that is refused with this number.
-pub(super) fn refused(number: u8) -> Vec<u8> {
+fn refused(number: u8) -> Vec<u8> {
     let mut script = flips(1);
     let (at, word) = match number {
         8 => (0, 2),
@@ -78,16 +75,16 @@ pub(super) fn refused(number: u8) -> Vec<u8> {
 }
 
 /// A book of these scripts, one behind the other.
-pub(super) fn of(scripts: &[Vec<u8>]) -> Vec<u8> {
+fn of(scripts: &[Vec<u8>]) -> Vec<u8> {
     Book::of(scripts).bytes()
 }
 
 /// So many of something, in words.
-pub(super) fn many(number: usize, of: &str) -> String {
+fn many(number: usize, of: &str) -> String {
     format!("{number} {of}{}", if number == 1 { "" } else { "s" })
 }
 
 /// Word `at` of these bytes is `word` now.
-pub(super) fn set(bytes: &mut [u8], at: usize, word: i64) {
+fn set(bytes: &mut [u8], at: usize, word: i64) {
     bytes[8 * at..][..8].copy_from_slice(&word.to_le_bytes());
 }

@@ -1,7 +1,7 @@
 //! docs/CIRCUITS.md, written from the list of the stated circuits.
 
 use super::places::{HELD_OTHERWISE, PLACES};
-use super::{Case, Group, boards, classes, groups, reports, sizes};
+use super::{Case, Group, classes, groups, reports, sizes};
 use crate::generate::stated_families;
 
 /// The text of docs/CIRCUITS.md.
@@ -13,7 +13,6 @@ pub fn document() -> String {
         text += &if group.name == "families" { families(group) } else { table(&group.cases) };
     }
     text += &format!("{CLASSES_INTRODUCTION}{}", class_table());
-    text += &format!("{BOARDS_INTRODUCTION}{}", board_table());
     text += &format!("{REPORTS_INTRODUCTION}{}", report_table());
     text += &format!("{SIZES_INTRODUCTION}{}", size_table());
     text += PLACES_INTRODUCTION;
@@ -28,8 +27,7 @@ const INTRODUCTION: &str = "# The stated circuits
 Every circuit and script that the player and the source are compared on, with what each shows. This page is
 written from the list in `oracle/src/circuits` (`oracle circuits > docs/CIRCUITS.md`), and a test holds it to
 that list. `oracle circuits NAME DIR` writes one as `circuit.bin` and `script.bin`, a class as `circuit.bin` and
-`book.bin`, a board as `circuits.bin` and `scripts.bin`, a report as `circuit.bin` and `log.bin`, or a size as
-`circuit.bin`; `vectors/` holds the answers.
+`book.bin`, a report as `circuit.bin` and `log.bin`, or a size as `circuit.bin`; `vectors/` holds the answers.
 ";
 
 const CLASSES_INTRODUCTION: &str = "\n## Classes
@@ -37,15 +35,6 @@ const CLASSES_INTRODUCTION: &str = "\n## Classes
 Books of scripts, each over one circuit in one call: their counts and arrays, the order of the questions, spans,
 parts of the log, what is refused or stopped, what is left, and what is told (document 02, K1). Most are over
 the circuit of `toggle`.
-
-";
-
-const BOARDS_INTRODUCTION: &str = "\n## Boards
-
-Circuits and scripts in two books, played on one board under a shared pool of steps a tick: counts, arrays and pools,
-the questions of each circuit with its parts of the areas, spans, what each may make and is charged, where a tick may
-find no step left, parts of the log, circuits apart, and what is told (document 02, K8). A van makes so many steps for
-each event; a runaway stands until its tick, in which it makes every step that it may and stops with 11.
 
 ";
 
@@ -89,11 +78,6 @@ fn class_table() -> String {
     listed("class", rows, RANDOM_CLASSES)
 }
 
-fn board_table() -> String {
-    let rows = boards().into_iter().map(|board| (board.name, board.shows)).collect();
-    listed("board", rows, RANDOM_BOARDS)
-}
-
 fn report_table() -> String {
     let rows = reports().into_iter().map(|report| (report.name, report.shows)).collect();
     listed("report", rows, RANDOM_REPORTS)
@@ -117,9 +101,6 @@ fn listed(what: &str, rows: Vec<(String, String)>, of_random: &str) -> String {
 
 const RANDOM_CLASSES: &str = "Circuits of every family with books of 0 to 17 scripts, made for them, cut short, damaged or \
      another circuit's, at any byte, with spans that stray and logs of any length";
-
-const RANDOM_BOARDS: &str = "Circuits of every family, vans and runaways on boards of up to nine, made well, damaged or \
-     astray, under pools from one that is too small to one that suffices, with logs of any length";
 
 const RANDOM_REPORTS: &str = "Logs of random circuits of every family, as they are or with other drivers and activities, \
      whole or damaged, with outputs and lengths named well and badly";

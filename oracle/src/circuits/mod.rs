@@ -1,7 +1,6 @@
 //! The stated circuits: every circuit and script that the player is compared
 //! on, each with what it shows. docs/CIRCUITS.md is written from this list.
 
-mod boards;
 mod carried;
 mod classes;
 mod families;
@@ -19,8 +18,7 @@ mod start;
 mod traps;
 mod vehicles;
 
-pub use crate::case::{Board, Case, Class, Report, Size};
-pub use boards::boards;
+pub use crate::case::{Case, Class, Report, Size};
 pub use classes::classes;
 pub use list::document;
 pub use places::{HELD_OTHERWISE, PLACES};

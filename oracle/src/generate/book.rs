@@ -37,7 +37,7 @@ pub fn book(seed: u64) -> Class {
 }
 
 /// A script for the circuit of `own`.
-pub(super) fn made(r: &mut Random, family: Family, own: &Case) -> Vec<u8> {
+fn made(r: &mut Random, family: Family, own: &Case) -> Vec<u8> {
     if r.chance(10) {
         return own.script.clone();
     }
@@ -57,7 +57,7 @@ pub(super) fn made(r: &mut Random, family: Family, own: &Case) -> Vec<u8> {
 }
 
 /// A script that was not made for the circuit, or that has a fault.
-pub(super) fn other(r: &mut Random, family: Family, own: &Case) -> Vec<u8> {
+fn other(r: &mut Random, family: Family, own: &Case) -> Vec<u8> {
     let mut script = made(r, family, own);
     let past = script.len() as i64 / 8;
     match r.below(7) {
@@ -76,7 +76,7 @@ pub(super) fn other(r: &mut Random, family: Family, own: &Case) -> Vec<u8> {
 }
 
 /// A book of these scripts in any order, with bytes between some of them.
-pub(super) fn lay(r: &mut Random, scripts: &[Vec<u8>]) -> Book {
+fn lay(r: &mut Random, scripts: &[Vec<u8>]) -> Book {
     let mut order: Vec<usize> = (0..scripts.len()).collect();
     r.shuffle(&mut order);
     let mut book = Book::new(scripts.len());
@@ -94,7 +94,7 @@ fn pad(r: &mut Random, book: &mut Book, most: usize) {
 }
 
 /// Another span in place of the one of script `k`.
-pub(super) fn stray(r: &mut Random, book: &Book, k: usize) -> (i64, i64) {
+fn stray(r: &mut Random, book: &Book, k: usize) -> (i64, i64) {
     let (start, length) = book.spans[k];
     let (other, _) = r.pick(&book.spans);
     let end = book.length();
@@ -126,20 +126,15 @@ fn spoil(r: &mut Random, book: &mut Vec<u8>, count: usize) {
     }
 }
 
-/// A log of any small length, of about the records of so many, or a long one.
-pub(super) fn log_for(r: &mut Random, parts: usize) -> usize {
-    match r.below(10) {
+/// What is lent beside the delays: logs of every small length, of about the
+/// records, and long ones; areas that are larger, and a few that are too small.
+fn lend(r: &mut Random, class: &mut Class, count: usize) {
+    let parts = count.max(1);
+    class.lent.log = match r.below(10) {
         0 | 1 => r.below(8 * parts + 8),
         2..=6 => parts * r.below(3_000) + r.below(8 * parts),
         _ => 65_536,
-    }
-}
-
-/// What is lent beside the delays: logs of every length; areas that are larger,
-/// and a few that are too small.
-fn lend(r: &mut Random, class: &mut Class, count: usize) {
-    let parts = count.max(1);
-    class.lent.log = log_for(r, parts);
+    };
     if r.chance(25) {
         class.told = r.below(3 * parts + 3);
     }

@@ -367,7 +367,6 @@ impl Machine {
             self.tally.stack -= 1; // oracle:
             self.steps += 1;
             self.total_steps += 1;
-            if self.tally.ran_out(self.steps) { return Err(self.error(g, "no steps left")); } // oracle: on a board
             if self.steps > MAX_STEPS_PER_TICK {
                 return Err(self.error(g, "runaway exec chain: too many gates in one tick"));
             }
@@ -388,7 +387,6 @@ impl Machine {
             self.tally.stack -= 1; // oracle:
             self.steps += 1;
             self.total_steps += 1;
-            if self.tally.ran_out(self.steps) { return Err(self.error(g, "no steps left")); } // oracle: on a board
             if self.steps > MAX_STEPS_PER_TICK {
                 return Err(self.error(g, "runaway exec chain: too many gates in one tick"));
             }

@@ -112,7 +112,7 @@ fn vans() -> Class {
 }
 
 /// These ticks of a script.
-pub(in crate::circuits) fn stretch(script: &[u8], ticks: std::ops::Range<usize>) -> Vec<u8> {
+fn stretch(script: &[u8], ticks: std::ops::Range<usize>) -> Vec<u8> {
     let words = words(script).expect("whole words");
     let (t, s) = (words[0] as usize, words[1] as usize);
     let (lengths, counts) = (&words[2..][..t], &words[2 + t..][..t]);

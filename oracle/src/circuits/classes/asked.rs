@@ -52,7 +52,7 @@ fn circuit(number: u8, name: &str, beside: &str, book: Vec<u8>) -> Class {
 }
 
 /// That of question 1 is made on the bytes.
-pub(in crate::circuits) fn faulty(number: u8) -> Circuit {
+fn faulty(number: u8) -> Circuit {
     let (mut c, _) = toggle();
     match number {
         2 => c.constants[0].0 = 4,
@@ -70,7 +70,7 @@ pub(in crate::circuits) fn faulty(number: u8) -> Circuit {
     c
 }
 
-pub(in crate::circuits) fn queues(mut c: Circuit, many: i64) -> Circuit {
+fn queues(mut c: Circuit, many: i64) -> Circuit {
     for k in 0..many {
         c.gate(QUEUE_TICKS + k % 2, 0);
     }

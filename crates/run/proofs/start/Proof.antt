@@ -1,7 +1,7 @@
 use Rattle.run.proofs.Playing.{started}
 use borrow.Author.Rules.{rules}
-use Rattle.run.proofs.next.start.Statement.{statement}
-use Rattle.run.proofs.next.start.Tie as tie
+use Rattle.run.proofs.start.Statement.{statement}
+use Rattle.run.proofs.start.Tie as tie
 
 start-requires : tie.Need-start-requires
 start-requires c κs = search rules
