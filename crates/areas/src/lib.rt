@@ -1,1 +1,3 @@
 // What the three lent areas hold together: specs/Areas.antt.
+#![tactic(auto)]
+

@@ -1,6 +1,6 @@
 // A case of the packed questions: its numbers, and what the two functions answer to it.
+ghost use Rattle.words.specs.Words.{words};
 ghost use Rattle.std.specs.Prelude.{◌≡◌};
-ghost use Rattle.words.specs.Slices.{before, was};
 ghost use Rattle.asked.specs.Case.{case_of, answers, right};
 
 use circuit::{check, refusal};
@@ -26,7 +26,7 @@ pub struct Answers {
 
 // The numbers from their six words.
 pub fn numbers(head: &[u8]) -> Case
-    ensures { result ≡ case_of (was head) }
+    ensures { result ≡ case_of (words head.now) }
 {
     Case {
         check: read(head, 0),
@@ -40,7 +40,7 @@ pub fn numbers(head: &[u8]) -> Case
 
 // What both answer to this circuit and script, with areas of the case's lengths lent to `refusal`.
 pub fn ask(case: Case, circuit: &[u8], script: &[u8]) -> Answers
-    ensures { result ≡ answers case (before circuit) (before script) }
+    ensures { result ≡ answers case circuit.now script.now }
 {
     Answers {
         check: check(circuit, script),

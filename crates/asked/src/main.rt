@@ -1,7 +1,8 @@
 // Asks `check` and `refusal` about every case of questions.bin, and prints for each number how many cases had it as they should. Then asks `size` about every size of
 // sizes.bin, and compares number and words told with what is due, every word. Each file has first how many.
+#![tactic(auto)]
+
 ghost use Rattle.std.specs.Prelude.{◌≡◌};
-ghost use Rattle.words.specs.Slices.{before, after};
 ghost use Rattle.io.specs.Counts.{IsPrefixLen};
 ghost use Rattle.asked.specs.SizeMet.{size_met};
 
@@ -69,7 +70,7 @@ fn next_number(fd: i32) -> u64 {
 
 // Reads n bytes to the front of a buffer, none where it has no room for them, and answers how many came.
 fn next_bytes(fd: i32, buffer: &mut [u8], n: usize) -> usize
-    ensures { IsPrefixLen result (after buffer) }
+    ensures { IsPrefixLen result buffer.new }
 {
     if buffer.len() < n {
         return 0;
@@ -122,7 +123,7 @@ fn ask_next_case(fd: i32, tally: Tally) -> Tally {
 
 // Asks about a size with these words for what is told, and compares them with `words`.
 fn ask_size_lent(due: SizeDue, circuit: &[u8], words: &[u64], told: &mut [u64]) -> bool
-    ensures { result ≡ size_met due (before circuit) (before words) (before told) }
+    ensures { result ≡ size_met due circuit.now words.now told.old }
 {
     let number = size::size(circuit, due.ticks, told);
     is_size_as_due(due, number, told, words)

@@ -1,6 +1,6 @@
 // A size of the packed ones: its numbers, and whether what came of it is what was due.
+ghost use Rattle.words.specs.Words.{words};
 ghost use Rattle.std.specs.Prelude.{◌≡◌};
-ghost use Rattle.words.specs.Slices.{before, was};
 ghost use Rattle.asked.specs.SizeDue.{size_due_of, size_as_due};
 
 use packed::same::is_same_words;
@@ -20,7 +20,7 @@ pub struct SizeDue {
 impl SizeDue {
     // The numbers from their six words.
     pub fn of(head: &[u8]) -> Self
-        ensures { result ≡ size_due_of (was head) }
+        ensures { result ≡ size_due_of (words head.now) }
     {
         Self {
             ticks: read(head, 0),
@@ -35,7 +35,7 @@ impl SizeDue {
 
 // Whether the call's number is the one due, and the words that it leaves are these.
 pub fn is_size_as_due(due: SizeDue, number: u64, told: &[u64], words: &[u64]) -> bool
-    ensures { result ≡ size_as_due due number (before told) (before words) }
+    ensures { result ≡ size_as_due due number told.now words.now }
 {
     if number != due.number {
         return false;

@@ -1,6 +1,7 @@
 // A book of byte strings, and the equal parts of a log that are lent to them.
+#![tactic(auto)]
+
 ghost use Rattle.std.specs.Prelude.{◌≡◌, ◌*◌, ◌≤◌, ◌<◌};
-ghost use Rattle.words.specs.Slices.{before};
 ghost use Rattle.model.specs.Book.{count, good_book, part_of};
 ghost use Rattle.books.specs.Lent.{Spans, Few};
 
@@ -15,7 +16,7 @@ pub struct Span {
 
 // How many strings the book says to hold.
 pub fn count(book: &[u8]) -> usize
-    ensures { result ≡ count (before book) }
+    ensures { result ≡ count book.now }
 {
     read(book, 0) as usize
 }
@@ -23,7 +24,7 @@ pub fn count(book: &[u8]) -> usize
 // Whether it holds from 1 to `most`, and both arrays lie in it.
 pub fn good_book(most: usize, book: &[u8]) -> bool
     requires { Few most }
-    ensures { result ≡ good_book most (before book) }
+    ensures { result ≡ good_book most book.now }
 {
     let n = count(book);
     if n < 1 {
@@ -38,7 +39,7 @@ pub fn good_book(most: usize, book: &[u8]) -> bool
 // String k of a book of n; an empty one where it leaves the book. Start and length are added only where the sum lies in the book.
 pub fn entry(book: &[u8], n: usize, k: usize) -> Span
     requires { (n ≡ count book.now) × Few n × (k < n) }
-    ensures { Spans (before book) k result }
+    ensures { Spans book.now k result }
 {
     let start = read(book, 1 + k) as usize;
     let size = read(book, 1 + n + k) as usize;

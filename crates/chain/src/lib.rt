@@ -1,4 +1,6 @@
 // One call of a chain: the gate makes its step, and what it fires is called.
+#![tactic(auto)]
+
 ghost use Rattle.model.specs.Chain.{chained, fire_output, make_call};
 ghost use Rattle.links.specs.Links.{net};
 ghost use Rattle.links.specs.Lent.{Linked, Room};
@@ -23,8 +25,8 @@ pub struct Ran {
 
 // Output o is fired: its calls wait, if they fit.
 pub fn fire_output(links: &[usize], units: &mut [u8], left: u64, o: usize) -> Ran
-    requires { Linked links × Room units }
-    ensures { OverUnits links units (λ c old new. Runs old new result (fire_output c o (started old left))) }
+    requires { Linked links.now × Room units.old }
+    ensures { OverUnits links.now (units.old, units.new) (λ c old new. Runs old new result (fire_output c o (started old left))) }
 {
     match push_calls(links, units, o) {
         Filed::Full => Ran {
@@ -50,10 +52,10 @@ pub fn make_call(
     k: u64,
     inside: bool,
 ) -> Ran
-    requires all_lent { AllLent links values units delays }
+    requires all_lent { AllLent links.now values.old units.old delays.old }
     requires entered { Entered (net links.now) i g k }
-    ensures over_all { OverAll links values units delays (λ c old new. Runs old new result (make_call c inside i (started old left))) }
-    ensures slots_stay { SlotsStay links delays }
+    ensures over_all { OverAll links.now (values.old, values.new) (units.old, units.new) (delays.old, delays.new) (λ c old new. Runs old new result (make_call c inside i (started old left))) }
+    ensures slots_stay { SlotsStay links.now delays.new }
 {
     let step = exec(links, values, units, delays, i, g, k, inside);
     match step {

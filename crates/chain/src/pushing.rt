@@ -1,7 +1,6 @@
 // The calls of an output: remote ones behind the forks, the others before the stack.
 ghost use Rattle.std.specs.Prelude.{[], ◌∷◌};
 ghost use Rattle.std.proofs.Math.Option.{some};
-ghost use Rattle.words.specs.Slices.{before};
 ghost use Rattle.model.specs.Chain.{push_calls};
 ghost use Rattle.links.specs.Links.{call_of};
 ghost use Rattle.links.specs.Lent.{Linked, Room, Short};
@@ -14,8 +13,8 @@ use units::calls::{push_call, push_fork};
 
 // The call with this target goes behind the forks, if it is remote.
 fn fork_one(units: &mut [u8], target: usize) -> Filed
-    requires { Room units }
-    ensures { Changes units (λ _ old new. Pushes old new result (forks_behind (call_of target ∷ []) old.calls)) }
+    requires { Room units.old }
+    ensures { Changes (units.old, units.new) (λ _ old new. Pushes old new result (forks_behind (call_of target ∷ []) old.calls)) }
 {
     if is_remote(target) {
         return push_fork(units, called_input(target));
@@ -25,8 +24,8 @@ fn fork_one(units: &mut [u8], target: usize) -> Filed
 
 // The call with this target goes on top of the stack, if it is not remote.
 fn stack_one(units: &mut [u8], target: usize) -> Filed
-    requires { Room units }
-    ensures { Changes units (λ _ old new. Pushes old new result (stack_before (call_of target ∷ []) old.calls)) }
+    requires { Room units.old }
+    ensures { Changes (units.old, units.new) (λ _ old new. Pushes old new result (stack_before (call_of target ∷ []) old.calls)) }
 {
     if is_remote(target) {
         return Filed::Done;
@@ -36,8 +35,8 @@ fn stack_one(units: &mut [u8], target: usize) -> Filed
 
 // The call with this target, where it belongs.
 fn push_one(units: &mut [u8], target: usize) -> Filed
-    requires { Room units }
-    ensures { Changes units (λ _ old new. Pushes old new result (stack_before (call_of target ∷ []) (forks_behind (call_of target ∷ []) old.calls))) }
+    requires { Room units.old }
+    ensures { Changes (units.old, units.new) (λ _ old new. Pushes old new result (stack_before (call_of target ∷ []) (forks_behind (call_of target ∷ []) old.calls))) }
 {
     if is_remote(target) {
         return push_fork(units, called_input(target));
@@ -47,8 +46,8 @@ fn push_one(units: &mut [u8], target: usize) -> Filed
 
 // The remote ones of n calls from call a on, in their order, behind the forks.
 fn push_forks(links: &[usize], units: &mut [u8], a: usize, n: usize) -> Filed
-    requires { Linked links × Room units × Short a × Short n }
-    ensures { UnitsChange links units (λ _ old new. Pushes old new result (forks_behind (calls_in (before links) a n) old.calls)) }
+    requires { Linked links.now × Room units.old × Short a × Short n }
+    ensures { UnitsChange links.now (units.old, units.new) (λ _ old new. Pushes old new result (forks_behind (calls_in links.now a n) old.calls)) }
 {
     let mut k = 0;
     while k < n {
@@ -62,8 +61,8 @@ fn push_forks(links: &[usize], units: &mut [u8], a: usize, n: usize) -> Filed
 
 // The others, from the last to the first, before the stack.
 fn push_stack(links: &[usize], units: &mut [u8], a: usize, n: usize) -> Filed
-    requires { Linked links × Room units × Short a × Short n }
-    ensures { UnitsChange links units (λ _ old new. Pushes old new result (stack_before (calls_in (before links) a n) old.calls)) }
+    requires { Linked links.now × Room units.old × Short a × Short n }
+    ensures { UnitsChange links.now (units.old, units.new) (λ _ old new. Pushes old new result (stack_before (calls_in links.now a n) old.calls)) }
 {
     let mut k = n;
     while 0 < k {
@@ -77,8 +76,8 @@ fn push_stack(links: &[usize], units: &mut [u8], a: usize, n: usize) -> Filed
 
 // n calls from call a on, each where it belongs.
 fn push_all(links: &[usize], units: &mut [u8], a: usize, n: usize) -> Filed
-    requires { Linked links × Room units × Short a × Short n }
-    ensures { UnitsChange links units (λ _ old new. Pushes old new result (stack_before (calls_in (before links) a n) (forks_behind (calls_in (before links) a n) old.calls))) }
+    requires { Linked links.now × Room units.old × Short a × Short n }
+    ensures { UnitsChange links.now (units.old, units.new) (λ _ old new. Pushes old new result (stack_before (calls_in links.now a n) (forks_behind (calls_in links.now a n) old.calls))) }
 {
     match push_forks(links, units, a, n) {
         Filed::Full => Filed::Full,
@@ -88,8 +87,8 @@ fn push_all(links: &[usize], units: &mut [u8], a: usize, n: usize) -> Filed
 
 // The calls of output o. Most outputs have one or none.
 pub fn push_calls(links: &[usize], units: &mut [u8], o: usize) -> Filed
-    requires { Linked links × Room units }
-    ensures { UnitsChange links units (λ c old new. Pushes old new result (push_calls c (some o) old.calls)) }
+    requires { Linked links.now × Room units.old }
+    ensures { UnitsChange links.now (units.old, units.new) (λ c old new. Pushes old new result (push_calls c (some o) old.calls)) }
 {
     let n = call_count(links, o);
     if n == 0 {

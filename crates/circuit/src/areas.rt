@@ -1,7 +1,6 @@
 // Question 7: are there at most 8 Queues, and are the areas large enough for them?
 ghost use Rattle.std.specs.Prelude.{◌≡◌, true, ◌&&◌, ◌+◌, ◌*◌, ◌≤◌, max, leb, length};
 ghost use Rattle.words.specs.Words.{words};
-ghost use Rattle.words.specs.Slices.{was};
 ghost use Rattle.model.specs.Base.{keep};
 ghost use Rattle.model.specs.Circuit.{part, circuit as circuit_of};
 ghost use Rattle.model.specs.Questions.{question_1, within, queues};
@@ -15,7 +14,7 @@ const AREA: usize = 65536;
 // How many of the `count` kinds from word `first` on are Queues.
 fn queues_among(circuit: &[u8], first: usize, count: usize) -> usize
     requires { (first + count) * 8 ≤ length circuit.now }
-    ensures { result ≡ length (keep (within 16 17) (part (was circuit) first count)) }
+    ensures { result ≡ length (keep (within 16 17) (part (words circuit.now) first count)) }
 {
     let mut queues: usize = 0;
     let mut i = 0;
@@ -31,7 +30,7 @@ fn queues_among(circuit: &[u8], first: usize, count: usize) -> usize
 // How many Queues a circuit has.
 pub fn queues(circuit: &[u8]) -> usize
     requires { question_1 circuit.now (words circuit.now) ≡ true }
-    ensures { result ≡ queues (circuit_of (was circuit)) }
+    ensures { result ≡ queues (circuit_of (words circuit.now)) }
 {
     let count = get(circuit, 0) as usize;
     let first = 4 + 2 * get(circuit, 1) as usize;

@@ -20,8 +20,8 @@ use model::Value;
 
 // Whether a call with this target goes to a gate in the body of the gate that has output o.
 fn call_inside(links: &[usize], o: usize, target: usize) -> bool
-    requires { Linked links }
-    ensures { result ≡ stays_inside (net_of links) o (call_of target) }
+    requires { Linked links.now }
+    ensures { result ≡ stays_inside (net_of links.now) o (call_of target) }
 {
     let from = body_of_gate(links, gate_at_output(links, o));
     let to = body_of_gate(links, gate_at_input(links, called_input(target)));
@@ -30,8 +30,8 @@ fn call_inside(links: &[usize], o: usize, target: usize) -> bool
 
 // Whether each call of output o does.
 fn calls_inside(links: &[usize], o: usize) -> bool
-    requires { Linked links }
-    ensures { result ≡ calls_inside (net_of links) o }
+    requires { Linked links.now }
+    ensures { result ≡ calls_inside (net_of links.now) o }
 {
     let first = first_call(links, o);
     let n = call_count(links, o);
@@ -47,8 +47,8 @@ fn calls_inside(links: &[usize], o: usize) -> bool
 
 // Whether the calls of each output do.
 fn all_calls_inside(links: &[usize]) -> bool
-    requires { Linked links }
-    ensures { result ≡ all (calls_inside (net_of links)) (from 0 (length (net_of links).outputs)) }
+    requires { Linked links.now }
+    ensures { result ≡ all (calls_inside (net_of links.now)) (from 0 (length (net_of links.now).outputs)) }
 {
     let n = links::outputs(links);
     let mut o = 0;
@@ -65,8 +65,8 @@ fn all_calls_inside(links: &[usize]) -> bool
 
 // Whether the body that gate g lies in is 0 or that of a Loop.
 fn in_a_body(links: &[usize], g: usize) -> bool
-    requires { Linked links }
-    ensures { result ≡ in_a_body (net_of links) g }
+    requires { Linked links.now }
+    ensures { result ≡ in_a_body (net_of links.now) g }
 {
     let body = body_of_gate(links, g);
     if body == 0 {
@@ -77,8 +77,8 @@ fn in_a_body(links: &[usize], g: usize) -> bool
 
 // Whether going outwards from the body that gate g lies in ends outside. It does so after as many bodies as there are gates, or never.
 fn comes_out(links: &[usize], g: usize) -> bool
-    requires { Linked links }
-    ensures { result ≡ comes_out (net_of links) (length (net_of links).kinds) (body_of_gate (net_of links) g) }
+    requires { Linked links.now }
+    ensures { result ≡ comes_out (net_of links.now) (length (net_of links.now).kinds) (body_of_gate (net_of links.now) g) }
 {
     let mut left = links::gates(links);
     let mut around = body_of_gate(links, g);
@@ -108,8 +108,8 @@ fn is_number(v: Value, g: usize) -> bool
 
 // Whether gate e is an entry that names gate g.
 fn names(links: &[usize], g: usize, e: usize) -> bool
-    requires { Linked links }
-    ensures { result ≡ names (net_of links).kinds (net_of links).stored (net_of links).first_input g e }
+    requires { Linked links.now }
+    ensures { result ≡ names (net_of links.now).kinds (net_of links.now).stored (net_of links.now).first_input g e }
 {
     if kind_of_gate(links, e) == LOOP_ENTRY {
         return is_number(setting(links, e, 0), g);
@@ -119,8 +119,8 @@ fn names(links: &[usize], g: usize, e: usize) -> bool
 
 // Whether gate g, if it is a Loop, has one entry, and that in its own body.
 fn has_entry(links: &[usize], g: usize) -> bool
-    requires { Linked links × (g < most_gates) }
-    ensures { result ≡ has_entry (net_of links) g }
+    requires { Linked links.now × (g < most_gates) }
+    ensures { result ≡ has_entry (net_of links.now) g }
 {
     if kind_of_gate(links, g) != LOOP {
         return true;
@@ -144,8 +144,8 @@ fn has_entry(links: &[usize], g: usize) -> bool
 
 // Whether gate g lies in a body that there is, has its entry if it is a Loop, and lies in no ring of bodies.
 fn gate_good(links: &[usize], g: usize) -> bool
-    requires { Linked links × (g < most_gates) }
-    ensures { result ≡ well_placed (net_of links) g }
+    requires { Linked links.now × (g < most_gates) }
+    ensures { result ≡ well_placed (net_of links.now) g }
 {
     if !in_a_body(links, g) {
         return false;
@@ -158,8 +158,8 @@ fn gate_good(links: &[usize], g: usize) -> bool
 
 // Whether each gate is so.
 fn gates_good(links: &[usize]) -> bool
-    requires { Linked links }
-    ensures { result ≡ all (well_placed (net_of links)) (gates (net_of links)) }
+    requires { Linked links.now }
+    ensures { result ≡ all (well_placed (net_of links.now)) (gates (net_of links.now)) }
 {
     let n = links::gates(links);
     let mut g = 0;
@@ -174,8 +174,8 @@ fn gates_good(links: &[usize]) -> bool
 
 // Of all calls and all gates.
 pub fn bodies_good(links: &[usize]) -> bool
-    requires { Linked links }
-    ensures { result ≡ question_19 (net_of links) }
+    requires { Linked links.now }
+    ensures { result ≡ question_19 (net_of links.now) }
 {
     if !all_calls_inside(links) {
         return false;

@@ -1,7 +1,6 @@
 // Question 5: does each call go from an exec output or RER_Output to an E or RER_Input?
 ghost use Rattle.std.specs.Prelude.{◌≡◌, true};
 ghost use Rattle.words.specs.Words.{words};
-ghost use Rattle.words.specs.Slices.{was};
 ghost use Rattle.model.specs.Questions.{question_1, may_call, may_be_called, question_5};
 ghost use Rattle.kinds.specs.Pins.{in_of};
 ghost use Rattle.links.specs.Lent.{Linked, net_of};
@@ -21,8 +20,8 @@ fn takes_calls(pin: Pin) -> bool
 
 // Whether output o is there and makes calls.
 fn may_call(links: &[usize], o: usize) -> bool
-    requires { Linked links }
-    ensures { result ≡ may_call (net_of links) o }
+    requires { Linked links.now }
+    ensures { result ≡ may_call (net_of links.now) o }
 {
     if links::outputs(links) <= o {
         return false;
@@ -35,16 +34,16 @@ fn may_call(links: &[usize], o: usize) -> bool
 
 // Whether the input of a target is there and takes calls; `pin_at` says of one that is not there that it is a value.
 fn may_be_called(links: &[usize], target: usize) -> bool
-    requires { Linked links }
-    ensures { result ≡ may_be_called (net_of links) target }
+    requires { Linked links.now }
+    ensures { result ≡ may_be_called (net_of links.now) target }
 {
     takes_calls(links::pin_at(links, target / 2))
 }
 
 // Whether each call comes from where it may, and goes where it may.
 pub fn calls_good(circuit: &[u8], links: &[usize]) -> bool
-    requires { (question_1 circuit.now (words circuit.now) ≡ true) × Linked links }
-    ensures { result ≡ question_5 (was circuit) (net_of links) }
+    requires { (question_1 circuit.now (words circuit.now) ≡ true) × Linked links.now }
+    ensures { result ≡ question_5 (words circuit.now) (net_of links.now) }
 {
     let n = get(circuit, 3) as usize;
     let first = 4

@@ -1,6 +1,6 @@
 // Tests of words in a row.
+ghost use Rattle.words.specs.Words.{words};
 ghost use Rattle.std.specs.Prelude.{◌≡◌, ◌+◌, ◌*◌, ◌≤◌, length};
-ghost use Rattle.words.specs.Slices.{was};
 ghost use Rattle.model.specs.Base.{all};
 ghost use Rattle.model.specs.Circuit.{part};
 ghost use Rattle.model.specs.Questions.{within};
@@ -17,7 +17,7 @@ pub fn within(low: u64, high: u64, word: u64) -> bool
 // Whether the `count` words from `first` on are each low to high.
 pub fn all_within(area: &[u8], first: usize, count: usize, low: u64, high: u64) -> bool
     requires { (first + count) * 8 ≤ length area.now }
-    ensures { result ≡ all (within low high) (part (was area) first count) }
+    ensures { result ≡ all (within low high) (part (words area.now) first count) }
 {
     let mut i = 0;
     while i < count {

@@ -1,7 +1,6 @@
 // Question 2: is each constant of kind 1 to 3, a Float finite, a Bool 0 or 1?
 ghost use Rattle.std.specs.Prelude.{◌≡◌, true, ◌+◌, ◌*◌, ◌≤◌, length};
 ghost use Rattle.words.specs.Words.{words};
-ghost use Rattle.words.specs.Slices.{was};
 ghost use Rattle.model.specs.Base.{both};
 ghost use Rattle.model.specs.Circuit.{part};
 ghost use Rattle.model.specs.Questions.{question_1, question_2, good_constant, yes_all};
@@ -24,7 +23,7 @@ pub fn good_constant(kind: u64, content: u64) -> bool
 // Whether so many constants are good: their kinds stand from word 4 on, and their contents behind them.
 fn good_constants(circuit: &[u8], count: usize) -> bool
     requires { (4 + count + count) * 8 ≤ length circuit.now }
-    ensures { result ≡ yes_all (both good_constant (part (was circuit) 4 count) (part (was circuit) (4 + count) count)) }
+    ensures { result ≡ yes_all (both good_constant (part (words circuit.now) 4 count) (part (words circuit.now) (4 + count) count)) }
 {
     let mut i = 0;
     while i < count {
@@ -40,7 +39,7 @@ fn good_constants(circuit: &[u8], count: usize) -> bool
 // Whether all constants of a circuit are good.
 pub fn constants(circuit: &[u8]) -> bool
     requires { question_1 circuit.now (words circuit.now) ≡ true }
-    ensures { result ≡ question_2 (was circuit) }
+    ensures { result ≡ question_2 (words circuit.now) }
 {
     good_constants(circuit, get(circuit, 1) as usize)
 }

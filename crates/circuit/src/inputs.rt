@@ -2,7 +2,6 @@
 // no source on an S or a kind 11 or 13 Input, each setting as it has to be?
 ghost use Rattle.std.specs.Prelude.{◌≡◌, true, ◌&&◌, ◌||◌, eqb};
 ghost use Rattle.words.specs.Words.{words};
-ghost use Rattle.words.specs.Slices.{was};
 ghost use Rattle.model.specs.Base.{if◌then◌else◌};
 ghost use Rattle.model.specs.Circuit.{minus_one, kind_of_gate};
 ghost use Rattle.model.specs.Questions.{within, question_1, value_output, int_such_that, int_or_nothing, float_or_nothing, good_setting, names_constant, good_input, question_4};
@@ -32,8 +31,8 @@ fn takes_source(pin: Pin) -> bool
 
 // Whether output o is there and shows a value; `out_at` says of one that is not there that it fires.
 pub fn value_output(links: &[usize], o: usize) -> bool
-    requires { Linked links }
-    ensures { result ≡ value_output (net_of links) o }
+    requires { Linked links.now }
+    ensures { result ≡ value_output (net_of links.now) o }
 {
     match links::out_at(links, o) {
         Out::Fires => false,
@@ -43,8 +42,8 @@ pub fn value_output(links: &[usize], o: usize) -> bool
 
 // Whether the pin's source is -1, or a value output where the pin takes one and no constant is stored.
 fn good_source(links: &[usize], pin: Pin, source: u64, stored: u64) -> bool
-    requires { Linked links }
-    ensures { result ≡ (if eqb source minus_one then true else value_output (net_of links) source && (in_of pin).source && eqb stored 0) }
+    requires { Linked links.now }
+    ensures { result ≡ (if eqb source minus_one then true else value_output (net_of links.now) source && (in_of pin).source && eqb stored 0) }
 {
     if source == MINUS_ONE {
         return true;
@@ -72,8 +71,8 @@ fn takes_constant(pin: Pin) -> bool
 
 // Whether a constant has this name; 0 names nothing.
 fn names_constant(links: &[usize], k: usize) -> bool
-    requires { Linked links }
-    ensures { result ≡ names_constant (net_of links) k }
+    requires { Linked links.now }
+    ensures { result ≡ names_constant (net_of links.now) k }
 {
     k < links::constants(links)
 }
@@ -116,8 +115,8 @@ fn float_or_nothing(v: Value) -> bool
 
 // The Int number of a gate of this kind.
 fn names_gate(links: &[usize], kind: u64, v: Value) -> bool
-    requires { Linked links }
-    ensures { result ≡ int_such_that (λ g. eqb (kind_of_gate (net_of links) g) kind) v }
+    requires { Linked links.now }
+    ensures { result ≡ int_such_that (λ g. eqb (kind_of_gate (net_of links.now) g) kind) v }
 {
     match v {
         Value::Nothing => false,
@@ -141,8 +140,8 @@ fn names_channel(v: Value) -> bool
 
 // Whether a pin, if it is a setting, may be set to v.
 fn good_setting(links: &[usize], pin: Pin, v: Value) -> bool
-    requires { Linked links }
-    ensures { result ≡ good_setting (net_of links) (in_of pin).setting v }
+    requires { Linked links.now }
+    ensures { result ≡ good_setting (net_of links.now) (in_of pin).setting v }
 {
     match pin {
         Pin::Ticks => int_or_nothing(v),
@@ -158,8 +157,8 @@ fn good_setting(links: &[usize], pin: Pin, v: Value) -> bool
 
 // Whether an input is good, by what it is, its words for source and stored, and the value stored.
 fn good_input(links: &[usize], pin: Pin, source: u64, stored: u64, v: Value) -> bool
-    requires { Linked links }
-    ensures { result ≡ good_input (net_of links) (in_of pin) source stored v }
+    requires { Linked links.now }
+    ensures { result ≡ good_input (net_of links.now) (in_of pin) source stored v }
 {
     if !good_source(links, pin, source, stored) {
         return false;
@@ -175,8 +174,8 @@ fn good_input(links: &[usize], pin: Pin, source: u64, stored: u64, v: Value) -> 
 
 // Whether each input is good.
 pub fn inputs_good(circuit: &[u8], links: &[usize]) -> bool
-    requires { (question_1 circuit.now (words circuit.now) ≡ true) × Linked links }
-    ensures { result ≡ question_4 (was circuit) (net_of links) }
+    requires { (question_1 circuit.now (words circuit.now) ≡ true) × Linked links.now }
+    ensures { result ≡ question_4 (words circuit.now) (net_of links.now) }
 {
     let n = get(circuit, 2) as usize;
     let first = 4 + 2 * (get(circuit, 1) as usize + get(circuit, 0) as usize);

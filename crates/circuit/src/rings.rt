@@ -1,6 +1,5 @@
 // Question 6: is there an order in which each pure gate comes after its pure sources?
 ghost use Rattle.std.specs.Prelude.{◌≡◌, ℕ, ◌<◌, ◌≤◌, length, get_or};
-ghost use Rattle.words.specs.Slices.{after};
 ghost use Rattle.model.specs.Kinds.{pure};
 ghost use Rattle.model.specs.Circuit.{kind_of_gate, most_gates};
 ghost use Rattle.model.specs.Questions.{question_6};
@@ -13,8 +12,8 @@ use links::layout::MOST_GATES;
 
 // The word of the gate that input i reads; 0 where it reads none.
 fn source_bit(links: &[usize], i: usize) -> u64
-    requires { Linked links }
-    ensures { result ≡ source_bit (net_of links) i }
+    requires { Linked links.now }
+    ensures { result ≡ source_bit (net_of links.now) i }
 {
     match links::source(links, i) {
         Read::Output(o) => gate_bit(links::gate_at_output(links, o)),
@@ -24,8 +23,8 @@ fn source_bit(links: &[usize], i: usize) -> u64
 
 // The gates that gate g waits for: those that it reads, if it is pure.
 fn awaited(links: &[usize], g: usize) -> u64
-    requires { Linked links }
-    ensures { result ≡ awaited (net_of links) g }
+    requires { Linked links.now }
+    ensures { result ≡ awaited (net_of links.now) g }
 {
     let kind = links::kind_of_gate(links, g);
     if !kinds::is_pure(kind) {
@@ -44,8 +43,8 @@ fn awaited(links: &[usize], g: usize) -> u64
 
 // `words` gets what each of n gates waits for.
 fn fill(links: &[usize], words: &mut [u64], n: usize)
-    requires { Linked links × (n ≤ length words.old) }
-    ensures { (g : ℕ) → g < n → get_or (after words) g 0 ≡ awaited (net_of links) g }
+    requires { Linked links.now × (n ≤ length words.old) }
+    ensures { (g : ℕ) → g < n → get_or words.new g 0 ≡ awaited (net_of links.now) g }
 {
     let mut g = 0;
     while g < n {
@@ -56,8 +55,8 @@ fn fill(links: &[usize], words: &mut [u64], n: usize)
 
 // The pure ones of n gates.
 fn pure_gates(links: &[usize], n: usize) -> u64
-    requires { Linked links × (n ≤ most_gates) }
-    ensures { result ≡ gates_where (λ g. pure (kind_of_gate (net_of links) g)) n }
+    requires { Linked links.now × (n ≤ most_gates) }
+    ensures { result ≡ gates_where (λ g. pure (kind_of_gate (net_of links.now) g)) n }
 {
     let mut word: u64 = 0;
     let mut g = n;
@@ -70,8 +69,8 @@ fn pure_gates(links: &[usize], n: usize) -> u64
 
 // At most as many rounds as there are gates: what is unplaced then stands in a ring, or behind one.
 pub fn ordered(links: &[usize]) -> bool
-    requires { Linked links }
-    ensures { result ≡ question_6 (net_of links) }
+    requires { Linked links.now }
+    ensures { result ≡ question_6 (net_of links.now) }
 {
     let n = links::gates(links);
     let mut words: [u64; MOST_GATES] = [0; MOST_GATES];

@@ -1,7 +1,6 @@
 // Questions 8, 9 and 10, of a script: its sizes, its ticks, its stimuli.
 ghost use Rattle.std.specs.Prelude.{◌≡◌, true, ◌&&◌, ◌+◌, ◌*◌, ◌≤◌, eqb, length, get_or};
 ghost use Rattle.words.specs.Words.{words};
-ghost use Rattle.words.specs.Slices.{before, was};
 ghost use Rattle.model.specs.Base.{all, sum};
 ghost use Rattle.model.specs.Circuit.{part, circuit as circuit_of};
 ghost use Rattle.model.specs.Script.{most_ticks};
@@ -25,7 +24,7 @@ fn words_of(ticks: u64, stimuli: u64) -> u64
 
 // Whether the bytes are whole words, at least two, the two sizes in range and the length as they give.
 pub fn script_sizes(script: &[u8]) -> bool
-    ensures { result ≡ question_8 (before script) (was script) }
+    ensures { result ≡ question_8 script.now (words script.now) }
 {
     let bytes = script.len();
     if bytes % 8 != 0 {
@@ -62,7 +61,7 @@ fn good_length(bits: u64) -> bool
 // Whether all tick lengths are good.
 fn good_lengths(script: &[u8], count: usize) -> bool
     requires { (2 + count) * 8 ≤ length script.now }
-    ensures { result ≡ all good_length (part (was script) 2 count) }
+    ensures { result ≡ all good_length (part (words script.now) 2 count) }
 {
     let mut i = 0;
     while i < count {
@@ -78,7 +77,7 @@ fn good_lengths(script: &[u8], count: usize) -> bool
 // Whether the stimulus counts are each at most 64, and together as many as there are stimuli.
 fn good_counts(script: &[u8], first: usize, count: usize, stimuli: u64) -> bool
     requires { (count ≤ most_ticks) × ((first + count) * 8 ≤ length script.now) }
-    ensures { result ≡ (all (within 0 64) (part (was script) first count) && eqb (sum (part (was script) first count)) stimuli) }
+    ensures { result ≡ (all (within 0 64) (part (words script.now) first count) && eqb (sum (part (words script.now) first count)) stimuli) }
 {
     let mut total: u64 = 0;
     let mut i = 0;
@@ -97,7 +96,7 @@ fn good_counts(script: &[u8], first: usize, count: usize, stimuli: u64) -> bool
 // Whether all ticks of a script are good.
 pub fn ticks(script: &[u8]) -> bool
     requires { question_8 script.now (words script.now) ≡ true }
-    ensures { result ≡ question_9 (was script) }
+    ensures { result ≡ question_9 (words script.now) }
 {
     let count = get(script, 0) as usize;
     let stimuli = get(script, 1);
@@ -109,7 +108,7 @@ pub fn ticks(script: &[u8]) -> bool
 // The kind of gate g, where the `count` kinds stand from word `first` on; 0 where there is no gate g.
 fn kind_of_gate(circuit: &[u8], first: usize, count: u64, g: u64) -> u64
     requires { (first + count) * 8 ≤ length circuit.now }
-    ensures { result ≡ get_or (part (was circuit) first count) g 0 }
+    ensures { result ≡ get_or (part (words circuit.now) first count) g 0 }
 {
     if g < count {
         get(circuit, first + g as usize)
@@ -128,7 +127,7 @@ fn world_events(
     count: usize,
 ) -> bool
     requires { ((first + gates) * 8 ≤ length circuit.now) × ((at + count) * 8 ≤ length script.now) }
-    ensures { result ≡ all (λ g. eqb (get_or (part (was circuit) first gates) g 0) 28) (part (was script) at count) }
+    ensures { result ≡ all (λ g. eqb (get_or (part (words circuit.now) first gates) g 0) 28) (part (words script.now) at count) }
 {
     let mut i = 0;
     while i < count {
@@ -144,7 +143,7 @@ fn world_events(
 // Whether all stimuli of a script are good for a circuit.
 pub fn stimuli(circuit: &[u8], script: &[u8]) -> bool
     requires { (question_1 circuit.now (words circuit.now) ≡ true) × (question_8 script.now (words script.now) ≡ true) }
-    ensures { result ≡ question_10 (was script) (circuit_of (was circuit)) }
+    ensures { result ≡ question_10 (words script.now) (circuit_of (words circuit.now)) }
 {
     let gates = get(circuit, 0);
     let constants = get(circuit, 1);

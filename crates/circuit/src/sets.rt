@@ -1,6 +1,5 @@
 // Sets of gates are words: gate g is bit g. Each gate has the word of those that it waits for, and in a round it is placed if it waits for none that is unplaced.
 ghost use Rattle.std.specs.Prelude.{◌≡◌, true, ◌+◌, ◌*◌, ◌<◌, ◌≤◌, ◌^◌, length};
-ghost use Rattle.words.specs.Slices.{before};
 ghost use Rattle.model.specs.Value.{bit};
 ghost use Rattle.model.specs.Circuit.{most_gates};
 ghost use Rattle.circuit.specs.Gates.{gates_where, gate_bit, waits};
@@ -37,7 +36,7 @@ pub fn all_gates(n: usize) -> u64
 // One round: of n gates those that wait for one of `unplaced`, where `words` has what each waits for.
 pub fn round(words: &[u64], n: usize, unplaced: u64) -> u64
     requires { (n ≤ most_gates) × (n ≤ length words.now) }
-    ensures { result ≡ gates_where (waits (before words) unplaced) n }
+    ensures { result ≡ gates_where (waits words.now unplaced) n }
 {
     let mut word: u64 = 0;
     let mut g = n;

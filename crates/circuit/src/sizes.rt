@@ -1,6 +1,6 @@
 // Question 1: are the bytes whole words, and as many as the circuit's sizes give?
+ghost use Rattle.words.specs.Words.{words};
 ghost use Rattle.std.specs.Prelude.{◌≡◌, ◌+◌, ◌*◌, ◌≤◌};
-ghost use Rattle.words.specs.Slices.{before, was};
 ghost use Rattle.model.specs.Questions.{question_1};
 ghost use Rattle.model.specs.Circuit.{most_gates, most_inputs};
 ghost use Rattle.model.specs.Chain.{most_calls};
@@ -19,7 +19,7 @@ fn words_of(gates: u64, constants: u64, inputs: u64, calls: u64) -> u64
 
 // Whether the bytes are whole words, at least four, the four sizes in range and the length as they give.
 pub fn sizes(circuit: &[u8]) -> bool
-    ensures { result ≡ question_1 (before circuit) (was circuit) }
+    ensures { result ≡ question_1 circuit.now (words circuit.now) }
 {
     let bytes = circuit.len();
     if bytes % 8 != 0 {

@@ -1,6 +1,5 @@
 -- A class: the bytes that a call is lent, what it leaves of them, and what is right of it.
 use Rattle.std.specs.Prelude.{ℕ, ◌<◌, ◌≡◌, List, length}
-use Rattle.words.specs.Slices.{Slice, before, after}
 use Rattle.model.specs.Questions.{Areas}
 use Rattle.model.specs.Book.{count, entry, part_of}
 use Rattle.model.specs.Several.{Several, call_number, call_log, call_told}
@@ -56,17 +55,17 @@ pub record Right (k : Call) (l : Left) (r : ℕ) : Type 0 where
 
 -- ---- of a contract's slices
 
-abbrev pub call_of : Slice → Slice → Slice → Slice → Slice → Slice → Slice → Call
+abbrev pub call_of : List ℕ → List ℕ → List ℕ → List ℕ → List ℕ → List ℕ → List ℕ → Call
 call_of circuit book log values units delays told =
     record {
-      circuit = before circuit;
-      book = before book;
-      log = before log;
-      values = before values;
-      units = before units;
-      delays = before delays;
-      told = before told;
+      circuit = circuit;
+      book = book;
+      log = log;
+      values = values;
+      units = units;
+      delays = delays;
+      told = told;
     }
 
-abbrev pub left_of : Slice → Slice → Slice → Slice → Slice → Left
-left_of log values units delays told = record { log = after log; values = after values; units = after units; delays = after delays; told = after told }
+abbrev pub left_of : List ℕ → List ℕ → List ℕ → List ℕ → List ℕ → Left
+left_of log values units delays told = record { log = log; values = values; units = units; delays = delays; told = told }

@@ -1,7 +1,6 @@
 -- A class under way: the first n scripts have been answered.
 use Rattle.std.specs.Prelude.{ℕ, ◌*◌, ◌≤◌, ◌≡◌, List, map, length}
 use borrow.Rule.Slice.PartMut.{put_mid}
-use Rattle.words.specs.Slices.{Ref}
 use Rattle.model.specs.Base.{from}
 use Rattle.model.specs.Answer.{Answer, answer, log_after, area_after}
 use Rattle.model.specs.Book.{count, entry, cut}
@@ -36,5 +35,5 @@ pub record SoFar (k : Call) (size n : ℕ) (l : Left) : Type 0 where
   pub delays : l.delays ≡ class_area (answered (first_answers k size n)) k.delays
 
 -- the book has n scripts, and their parts lie in the log
-abbrev pub Scripts : Ref → Ref → ℕ → ℕ → Type 0
-Scripts book log n size = (n ≡ count book.now) × Few n × (n * size ≤ length log.now)
+abbrev pub Scripts : List ℕ → List ℕ → ℕ → ℕ → Type 0
+Scripts book log n size = (n ≡ count book) × Few n × (n * size ≤ length log)

@@ -1,4 +1,6 @@
 // A whole class in one call: the scripts of a book over one circuit, each with its part of the log.
+#![tactic(auto)]
+
 ghost use Rattle.std.specs.Prelude.{◌<◌};
 ghost use Rattle.links.specs.Lent.{Linked};
 ghost use Rattle.run.specs.Call.{Ready};
@@ -31,8 +33,8 @@ fn turn(
     delays: &mut [u8],
     told: &mut [u64],
 )
-    requires { Linked links × Ready links circuit values units delays × Scripts book log n size × (i < n) }
-    ensures { Turned (call_of circuit book log values units delays told) size i (left_of log values units delays told) }
+    requires { Linked links.now × Ready links.now circuit.now values.old units.old delays.old × Scripts book.now log.old n size × (i < n) }
+    ensures { Turned (call_of circuit.now book.now log.old values.old units.old delays.old told.old) size i (left_of log.new values.new units.new delays.new told.new) }
 {
     let s = entry(book, n, i);
     let start = s.start;
@@ -64,8 +66,8 @@ fn scripts(
     delays: &mut [u8],
     told: &mut [u64],
 )
-    requires { Linked links × Ready links circuit values units delays × Scripts book log n size }
-    ensures { SoFar (call_of circuit book log values units delays told) size n (left_of log values units delays told) }
+    requires { Linked links.now × Ready links.now circuit.now values.old units.old delays.old × Scripts book.now log.old n size }
+    ensures { SoFar (call_of circuit.now book.now log.old values.old units.old delays.old told.old) size n (left_of log.new values.new units.new delays.new told.new) }
 {
     let mut i = 0;
     while i < n {
@@ -87,7 +89,7 @@ pub fn class(
     delays: &mut [u8],
     told: &mut [u64],
 ) -> u64
-    ensures { Right (call_of circuit book log values units delays told) (left_of log values units delays told) result }
+    ensures { Right (call_of circuit.now book.now log.old values.old units.old delays.old told.old) (left_of log.new values.new units.new delays.new told.new) result }
 {
     let mut links = [0usize; CELLS];
     let number = refusal_lent(circuit, &mut links, values.len(), units.len(), delays.len());

@@ -1,4 +1,6 @@
 // Cycle's step: the next number, up or down, by Count.
+#![tactic(auto)]
+
 ghost use Rattle.std.specs.Prelude.{◌≡◌, suc, ◌-◌, ◌≤◌, ◌<◌};
 ghost use Rattle.words.specs.Words.{signed};
 ghost use Rattle.model.specs.Exec.{remainder, cycle_next};

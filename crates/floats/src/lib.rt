@@ -1,4 +1,6 @@
 // Floats by their bits: sums, comparisons, narrowing, and conversions to and from Ints. Every function is total; all NaN patterns stand for one NaN.
+#![tactic(auto)]
+
 ghost use Rattle.std.specs.Prelude.{◌≡◌, ◌+◌, ◌-◌, ◌*◌, ◌/◌, ◌^◌, ◌<◌, ◌≤◌, pos, neg_ℤ, if◌then◌else◌, from_bits, nat_le, to_bits};
 ghost use Rattle.std.specs.Float.{binary32, binary64};
 ghost use Rattle.model.specs.Value.{plus64, le64, lt64, eq64, plus32, le32, float_of_int, to_int};

@@ -1,7 +1,6 @@
 -- A call for the hours per driver: what it is lent, what it leaves, and what is right of it.
 use Rattle.std.specs.Prelude.{ℕ, ◌*◌, ◌≡◌, true, List, [], ◌∷◌, map, length}
 use Rattle.words.specs.Words.{words}
-use Rattle.words.specs.Slices.{Slice, before, after}
 use Rattle.model.specs.Base.{among, sum}
 use Rattle.model.specs.Circuit.{circuit as circuit_of}
 use Rattle.model.specs.Record.{LogRecord}
@@ -65,17 +64,17 @@ pub record Right (k : Call) (l : Left) (r : ℕ) : Type 0 where
 
 -- ---- of a contract's slices
 
-abbrev pub call_of : Slice → Slice → ℕ → ℕ → ℕ → Slice → Slice → Call
+abbrev pub call_of : List ℕ → List ℕ → ℕ → ℕ → ℕ → List ℕ → List ℕ → Call
 call_of circuit log driver activity len report told =
     record {
-      circuit = before circuit;
-      log = before log;
+      circuit = circuit;
+      log = log;
       driver = driver;
       activity = activity;
       len = len;
-      report = before report;
-      told = before told;
+      report = report;
+      told = told;
     }
 
-abbrev pub left_of : Slice → Slice → Left
-left_of report told = record { report = after report; told = after told }
+abbrev pub left_of : List ℕ → List ℕ → Left
+left_of report told = record { report = report; told = told }

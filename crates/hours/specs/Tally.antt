@@ -1,6 +1,7 @@
 -- How the ticks of each driver are counted in one pass, and written down: what the contracts of the code cite.
+use Rattle.words.specs.Words.{words}
 use Rattle.std.specs.Prelude.{ℕ, suc, ◌+◌, ◌*◌, ◌≤◌, ◌<◌, ◌≡◌, Bool, true, false, List, [], ◌∷◌, ◌++◌, eqb, length, get_or, set, take}
-use Rattle.words.specs.Slices.{Ref, Slice, before, after, was}
+use Rattle.words.specs.Slices.{Slice, before, after}
 use Rattle.model.specs.Base.{if◌then◌else◌, each, snoc, among}
 use Rattle.model.specs.Script.{most_ticks}
 use Rattle.links.specs.Links.{most_outputs}
@@ -51,12 +52,12 @@ abbrev pub above_all : ℕ
 above_all = suc most_ticks
 
 -- counts, of which none is above that
-abbrev pub Few : Ref → Type 0
-Few counts = (length counts.now ≡ most_counts) × UpTo above_all counts.now
+abbrev pub Few : List ℕ → Type 0
+Few counts = (length counts ≡ most_counts) × UpTo above_all counts
 
 -- the table of drivers, with n of them
-abbrev pub Known : Ref → ℕ → Type 0
-Known drivers n = (n ≤ most_drivers) × (length drivers.now ≡ most_drivers)
+abbrev pub Known : List ℕ → ℕ → Type 0
+Known drivers n = (n ≤ most_drivers) × (length drivers ≡ most_drivers)
 
 -- driver and activity are two of so many outputs
 abbrev pub Named : ℕ → ℕ → ℕ → Type 0
@@ -84,8 +85,8 @@ abbrev pub AllCounted : List Share → Slice → Slice → ℕ → Type 0
 AllCounted ss drivers counts r = CountsAll ss (before drivers) (before counts) (after drivers) (after counts) r
 
 -- whom the ticks of a log are assigned to, where the circuit has so many outputs
-abbrev pub shares_of : ℕ → ℕ → ℕ → Slice → List Share
-shares_of outs driver activity log = shares driver activity (records_in outs most_ticks (was log))
+abbrev pub shares_of : ℕ → ℕ → ℕ → List ℕ → List Share
+shares_of outs driver activity log = shares driver activity (records_in outs most_ticks (words log))
 
 -- whom a tick is assigned to, by the outputs that stand from word k on
 unfoldable pub share_there : List ℕ → ℕ → ℕ → ℕ → ℕ → Share

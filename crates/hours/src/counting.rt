@@ -1,6 +1,7 @@
 // The ticks of each driver, counted in one pass over the log. The tables are those of specs/Tally.antt: the drivers, and counts, first nobody's, then four for each driver.
+ghost use Rattle.words.specs.Words.{words};
 ghost use Rattle.std.specs.Prelude.{◌≡◌, [], ◌∷◌, ◌+◌, ◌*◌, ◌/◌, ◌<◌, ◌≤◌, length, take, drop};
-ghost use Rattle.words.specs.Slices.{before, after, was, HasWords};
+ghost use Rattle.words.specs.Slices.{HasWords};
 ghost use Rattle.model.specs.Record.{record_at};
 ghost use Rattle.walk.specs.Walk.{Fits, WholeLog};
 ghost use Rattle.hours.specs.Hours.{last_activity, assigned, shares};
@@ -23,8 +24,8 @@ const LAST_ACTIVITY: u64 = 3;
 
 // The place of driver d among the first n of the table, or n.
 fn place(drivers: &[u64], n: usize, d: u64) -> usize
-    requires { Known drivers n }
-    ensures { (result ≡ place d (take n (before drivers))) × (result ≤ n) }
+    requires { Known drivers.now n }
+    ensures { (result ≡ place d (take n drivers.now)) × (result ≤ n) }
 {
     let mut i: usize = 0;
     while i < n {
@@ -38,16 +39,16 @@ fn place(drivers: &[u64], n: usize, d: u64) -> usize
 
 // One more in place i.
 fn more(counts: &mut [u64], i: usize)
-    requires { Few counts × (i < most_counts) }
-    ensures { after counts ≡ more (before counts) i }
+    requires { Few counts.old × (i < most_counts) }
+    ensures { counts.new ≡ more counts.old i }
 {
     counts[i] += 1;
 }
 
 // A tick of driver d in activity a; n drivers so far. The drivers afterwards, or 33 where it is one too many.
 fn assign(drivers: &mut [u64], counts: &mut [u64], n: usize, d: u64, a: usize) -> usize
-    requires { Known drivers n × Few counts × (a ≤ last_activity) }
-    ensures { Counted (assigned d a ∷ []) drivers counts n result }
+    requires { Known drivers.old n × Few counts.old × (a ≤ last_activity) }
+    ensures { Counted (assigned d a ∷ []) (drivers.old, drivers.new) (counts.old, counts.new) n result }
 {
     let p = place(drivers, n, d);
     if p < n {
@@ -64,8 +65,8 @@ fn assign(drivers: &mut [u64], counts: &mut [u64], n: usize, d: u64, a: usize) -
 
 // Whether both outputs show an Int, the activity one of 0 to 3. The kinds of the outputs stand from word k on, and their contents behind them.
 fn is_assigned(log: &[u8], k: usize, outs: usize, driver: usize, activity: usize) -> bool
-    requires { Named outs driver activity × HasWords log k (outs + outs) }
-    ensures { result ≡ is_assigned (share_there (before log) outs k driver activity) }
+    requires { Named outs driver activity × HasWords log.now k (outs + outs) }
+    ensures { result ≡ is_assigned (share_there log.now outs k driver activity) }
 {
     if get(log, k + driver) != INT {
         return false;
@@ -87,9 +88,9 @@ fn count_tick(
     counts: &mut [u64],
     n: usize,
 ) -> usize
-    requires named { Named outs driver activity × HasWords log k (outs + outs) }
-    requires known { Known drivers n × Few counts }
-    ensures { Counted (share_there (before log) outs k driver activity ∷ []) drivers counts n result }
+    requires named { Named outs driver activity × HasWords log.now k (outs + outs) }
+    requires known { Known drivers.old n × Few counts.old }
+    ensures { Counted (share_there log.now outs k driver activity ∷ []) (drivers.old, drivers.new) (counts.old, counts.new) n result }
 {
     if is_assigned(log, k, outs, driver, activity) {
         let d = get(log, k + outs + driver);
@@ -112,8 +113,8 @@ fn count_record(
     n: usize,
 ) -> usize
     requires named { Named outs driver activity × Fits outs log.now at }
-    requires known { Known drivers n × Few counts }
-    ensures { Counted (shares driver activity (record_at outs (drop at (was log)) ∷ [])) drivers counts n result }
+    requires known { Known drivers.old n × Few counts.old }
+    ensures { Counted (shares driver activity (record_at outs (drop at (words log.now)) ∷ [])) (drivers.old, drivers.new) (counts.old, counts.new) n result }
 {
     if unstopped(log, at) {
         let k = shown_at(log, at);
@@ -132,8 +133,8 @@ pub fn count_all(
     counts: &mut [u64],
 ) -> usize
     requires named { Named outs driver activity × WholeLog outs log.now }
-    requires known { Known drivers 0 × (length counts.old ≡ most_counts) × UpTo 0 counts.old }
-    ensures { AllCounted (shares_of outs driver activity log) drivers counts result }
+    requires known { Known drivers.old 0 × (length counts.old ≡ most_counts) × UpTo 0 counts.old }
+    ensures { AllCounted (shares_of outs driver activity log.now) (drivers.old, drivers.new) (counts.old, counts.new) result }
 {
     let size = log.len() / 8;
     let mut at: usize = 0;

@@ -1,6 +1,7 @@
 // Hours per driver: a report on a finished log (specs/Hours.antt).
+#![tactic(auto)]
+
 ghost use Rattle.std.specs.Prelude.{◌≡◌, ◌≤◌, length};
-ghost use Rattle.words.specs.Slices.{before, after};
 ghost use Rattle.links.specs.Lent.{Linked, net_of};
 ghost use Rattle.walk.specs.Walk.{WholeLog};
 ghost use Rattle.hours.specs.Hours.{longest, good_names, reported};
@@ -29,8 +30,8 @@ const NO_ROOM: u64 = 18;
 
 // Whether driver and activity are value outputs, and the length is 1 to 60,000 milliseconds.
 fn good_names(links: &[usize], driver: u64, activity: u64, len: u64) -> bool
-    requires { Linked links }
-    ensures { result ≡ good_names (net_of links) driver activity len }
+    requires { Linked links.now }
+    ensures { result ≡ good_names (net_of links.now) driver activity len }
 {
     if !value_output(links, driver as usize) {
         return false;
@@ -54,7 +55,7 @@ fn write_hours(
     report: &mut [u8],
 ) -> usize
     requires { Named outs driver activity × WholeLog outs log.now × (len ≤ longest) }
-    ensures { Written (reported len (length (before report)) (shares_of outs driver activity log)) (before report) (after report) result }
+    ensures { Written (reported len (length report.old) (shares_of outs driver activity log.now)) report.old report.new result }
 {
     let mut drivers = [0u64; MOST_DRIVERS];
     let mut counts = [0u64; MOST_COUNTS];
@@ -80,7 +81,7 @@ pub fn hours(
     report: &mut [u8],
     told: &mut [u64],
 ) -> u64
-    ensures { Right (call_of circuit log driver activity len report told) (left_of report told) result }
+    ensures { Right (call_of circuit.now log.now driver activity len report.old told.old) (left_of report.new told.new) result }
 {
     let mut links = [0usize; CELLS];
     let number = log_refusal(circuit, log, &mut links);

@@ -1,7 +1,7 @@
 // The report, line by line, from the tables.
 ghost use Rattle.std.specs.Prelude.{◌≡◌, ◌+◌, ◌*◌, ◌<◌, ◌≤◌, get_or, take};
 ghost use Rattle.words.specs.Words.{Filled};
-ghost use Rattle.words.specs.Slices.{before, after, HasWords};
+ghost use Rattle.words.specs.Slices.{HasWords};
 ghost use Rattle.hours.specs.Hours.{most_drivers, longest};
 ghost use Rattle.hours.specs.Tally.{most_counts, Few, Known, line_row, driver_rows, rows_from, line_size, driver_size};
 
@@ -16,8 +16,8 @@ pub const DRIVER: usize = 4 * LINE;
 
 // A line becomes the words of the report from word p on.
 fn write_line(report: &mut [u8], p: usize, first: u64, d: u64, a: u64, ms: u64)
-    requires { HasWords report p line_size }
-    ensures { Filled (before report) (after report) p (line_row first d a ms) }
+    requires { HasWords report.old p line_size }
+    ensures { Filled report.old report.new p (line_row first d a ms) }
 {
     put(report, p, first);
     put(report, p + 1, d);
@@ -28,17 +28,17 @@ fn write_line(report: &mut [u8], p: usize, first: u64, d: u64, a: u64, ms: u64)
 
 // The ticks in place i as milliseconds.
 fn spent(counts: &[u64], i: usize, len: u64) -> u64
-    requires { Few counts × (i < most_counts) × (len ≤ longest) }
-    ensures { result ≡ get_or (before counts) i 0 * len }
+    requires { Few counts.now × (i < most_counts) × (len ≤ longest) }
+    ensures { result ≡ get_or counts.now i 0 * len }
 {
     counts[i] * len
 }
 
 // The four lines of driver i.
 fn write_driver(report: &mut [u8], i: usize, d: u64, counts: &[u64], len: u64)
-    requires i_lt_most_drivers { (i < most_drivers) × HasWords report (driver_size * i) driver_size }
-    requires few { Few counts × (len ≤ longest) }
-    ensures { Filled (before report) (after report) (driver_size * i) (driver_rows len d (before counts) i) }
+    requires i_lt_most_drivers { (i < most_drivers) × HasWords report.old (driver_size * i) driver_size }
+    requires few { Few counts.now × (len ≤ longest) }
+    ensures { Filled report.old report.new (driver_size * i) (driver_rows len d counts.now i) }
 {
     let k = 1 + 4 * i;
     let p = DRIVER * i;
@@ -50,9 +50,9 @@ fn write_driver(report: &mut [u8], i: usize, d: u64, counts: &[u64], len: u64)
 
 // The whole report of n drivers.
 pub fn write_report(report: &mut [u8], drivers: &[u64], n: usize, counts: &[u64], len: u64)
-    requires known { Known drivers n × HasWords report 0 (driver_size * n + line_size) }
-    requires few { Few counts × (len ≤ longest) }
-    ensures { Filled (before report) (after report) 0 (rows_from len (before counts) 0 (take n (before drivers))) }
+    requires known { Known drivers.now n × HasWords report.old 0 (driver_size * n + line_size) }
+    requires few { Few counts.now × (len ≤ longest) }
+    ensures { Filled report.old report.new 0 (rows_from len counts.now 0 (take n drivers.now)) }
 {
     let mut i: usize = 0;
     while i < n {

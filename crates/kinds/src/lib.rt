@@ -1,4 +1,6 @@
 // The 31 kinds of gates: how many inputs and outputs each has, and what each of them is. A number that is no kind's has none.
+#![tactic(auto)]
+
 ghost use Rattle.std.specs.Prelude.{◌≡◌, length, get_or};
 ghost use Rattle.model.specs.Kinds.{kind_at, pure, value, fires};
 ghost use Rattle.model.specs.Questions.{within};

@@ -1,4 +1,6 @@
 // The leaves as C functions, for the comparison with the hardware.
+#![tactic(auto)]
+
 ghost use Rattle.std.specs.Prelude.{◌≡◌};
 ghost use Rattle.model.specs.Value.{plus64, le64, lt64, eq64, plus32, le32, narrow, narrow_changes, float_of_int, to_int};
 ghost use Rattle.model.specs.Questions.{finite};

@@ -1,6 +1,6 @@
 // Words of a circuit and cells of the links: reading one, writing one, writing several in a row.
+ghost use Rattle.words.specs.Words.{words};
 ghost use Rattle.std.specs.Prelude.{◌≡◌, ◌+◌, get_or, set};
-ghost use Rattle.words.specs.Slices.{before, after, was};
 ghost use Rattle.links.specs.Links.{packed};
 ghost use Rattle.links.specs.Lent.{Short};
 ghost use Rattle.linking.specs.Building.{written};
@@ -10,14 +10,14 @@ use links::layout::DIGIT;
 
 // Word i of the circuit, and 0 past the end.
 pub fn word(circuit: &[u8], i: usize) -> usize
-    ensures { result ≡ get_or (was circuit) i 0 }
+    ensures { result ≡ get_or (words circuit.now) i 0 }
 {
     words::read(circuit, i) as usize
 }
 
 // Cell i, and 0 past the end.
 pub fn at(cells: &[usize], i: usize) -> usize
-    ensures { result ≡ get_or (before cells) i 0 }
+    ensures { result ≡ get_or cells.now i 0 }
 {
     if i < cells.len() {
         return cells[i];
@@ -27,7 +27,7 @@ pub fn at(cells: &[usize], i: usize) -> usize
 
 // Cell i becomes v. Where there is no cell i, nothing changes.
 pub fn put(cells: &mut [usize], i: usize, v: usize)
-    ensures { after cells ≡ set (before cells) i v }
+    ensures { cells.new ≡ set cells.old i v }
 {
     if i < cells.len() {
         cells[i] = v;
@@ -38,7 +38,7 @@ pub fn put(cells: &mut [usize], i: usize, v: usize)
 pub fn fill(cells: &mut [usize], base: usize, n: usize, v: usize)
     requires near { Near base }
     requires near_2 { Near n }
-    ensures { after cells ≡ written (before cells) base n (λ k. v) }
+    ensures { cells.new ≡ written cells.old base n (λ k. v) }
 {
     let mut k: usize = 0;
     while k < n {
@@ -52,7 +52,7 @@ pub fn copy(circuit: &[u8], first: usize, n: usize, cells: &mut [usize], base: u
     requires near { Near first }
     requires near_2 { Near n }
     requires near_3 { Near base }
-    ensures { after cells ≡ written (before cells) base n (λ k. get_or (was circuit) (first + k) 0) }
+    ensures { cells.new ≡ written cells.old base n (λ k. get_or (words circuit.now) (first + k) 0) }
 {
     let mut k: usize = 0;
     while k < n {

@@ -1,7 +1,7 @@
 // Lists as chains: chain o begins with heads[o], and next[i] comes behind i.
+ghost use Rattle.words.specs.Words.{words};
 ghost use Rattle.std.specs.Prelude.{◌≡◌, map, ◌+◌, ◌≤◌, length, get_or};
 ghost use Rattle.std.proofs.lemmas.List.Edits.{sets};
-ghost use Rattle.words.specs.Slices.{before, after, was};
 ghost use Rattle.model.specs.Base.{joined};
 ghost use Rattle.links.specs.Links.{listed};
 ghost use Rattle.linking.specs.Building.{chains, chained, all_chained, chain_at, size_at, target};
@@ -20,7 +20,7 @@ pub const END: usize = MOST_INPUTS;
 pub fn chain_all(circuit: &[u8], keys: usize, n: usize, heads: &mut [usize], next: &mut [usize])
     requires near { Near keys }
     requires near_2 { Near n }
-    ensures { chains (after heads) (after next) ≡ all_chained (λ i. get_or (was circuit) (keys + i) 0) n (chains (before heads) (before next)) }
+    ensures { chains heads.new next.new ≡ all_chained (λ i. get_or (words circuit.now) (keys + i) 0) n (chains heads.old next.old) }
 {
     let mut i = n;
     while 0 < i {
@@ -32,7 +32,7 @@ pub fn chain_all(circuit: &[u8], keys: usize, n: usize, heads: &mut [usize], nex
 
 // Number i comes first in chain `key`, if there is one.
 fn chain_one(heads: &mut [usize], next: &mut [usize], i: usize, key: usize)
-    ensures { chains (after heads) (after next) ≡ chained (chains (before heads) (before next)) i key }
+    ensures { chains heads.new next.new ≡ chained (chains heads.old next.old) i key }
 {
     let head = at(heads, key);
     put(next, i, head);
@@ -41,7 +41,7 @@ fn chain_one(heads: &mut [usize], next: &mut [usize], i: usize, key: usize)
 
 // How many members chain o has.
 pub fn chain_size(heads: &[usize], next: &[usize], o: usize) -> usize
-    ensures { result ≡ size_at (chains (before heads) (before next)) o }
+    ensures { result ≡ size_at (chains heads.now next.now) o }
 {
     let mut p = at(heads, o);
     let mut n: usize = 0;
@@ -69,7 +69,7 @@ pub fn write_chains(
     requires near_2 { Near (length next.now) }
     requires near_3 { Near n }
     requires near_4 { Near base }
-    ensures { after cells ≡ sets (before cells) base (joined (listed n (λ o. map (target (was circuit) targets) (chain_at (chains (before heads) (before next)) o)))) }
+    ensures { cells.new ≡ sets cells.old base (joined (listed n (λ o. map (target (words circuit.now) targets) (chain_at (chains heads.now next.now) o)))) }
 {
     let mut done: usize = 0;
     let mut o: usize = 0;
@@ -94,7 +94,7 @@ fn write_chain(
     requires near { Near targets }
     requires near_2 { Near (length next.now) }
     requires base_bound { base ≤ 4294967296 }
-    ensures { after cells ≡ sets (before cells) base (map (target (was circuit) targets) (chain_at (chains (before heads) (before next)) o)) }
+    ensures { cells.new ≡ sets cells.old base (map (target (words circuit.now) targets) (chain_at (chains heads.now next.now) o)) }
 {
     let mut p = at(heads, o);
     let mut n: usize = 0;
@@ -113,7 +113,7 @@ fn write_chain(
 fn target(circuit: &[u8], targets: usize, i: usize) -> usize
     requires near { Near targets }
     requires near_2 { Near i }
-    ensures { result ≡ target (was circuit) targets i }
+    ensures { result ≡ target (words circuit.now) targets i }
 {
     if targets == 0 {
         return i;

@@ -1,7 +1,6 @@
 // The entries of Loops: each gate's is the first entry that names it, and 0 where there is none.
 ghost use Rattle.std.specs.Prelude.{◌≡◌, ◌≤◌};
 ghost use Rattle.words.specs.Words.{words};
-ghost use Rattle.words.specs.Slices.{before, after, was};
 ghost use Rattle.model.specs.Circuit.{most_gates};
 ghost use Rattle.links.specs.Links.{most_constants};
 ghost use Rattle.linking.specs.Building.{below, ins_at, value_named, gate_of, gate_named, named_by, entered};
@@ -32,7 +31,7 @@ pub fn find_entries(
     requires near_2 { Near stored }
     requires inputs_value { inputs ≡ below (ins_at (words circuit.now) kinds) n }
     requires constants_le_most_constants { constants ≤ most_constants }
-    ensures { after entries ≡ entered (named_by (was circuit) kinds stored constants) n (before entries) }
+    ensures { entries.new ≡ entered (named_by (words circuit.now) kinds stored constants) n entries.old }
 {
     let mut i = inputs;
     let mut e = n;
@@ -71,7 +70,7 @@ fn gate_of(v: Value) -> usize
 // The constant named k, and nothing where there is none.
 fn value_named(circuit: &[u8], constants: usize, k: usize) -> Value
     requires { constants ≤ most_constants }
-    ensures { result ≡ value_named (was circuit) constants k }
+    ensures { result ≡ value_named (words circuit.now) constants k }
 {
     let kind = word_named(circuit, CONSTANTS, constants, k);
     let content = word_named(circuit, CONSTANTS + constants, constants, k);

@@ -1,7 +1,7 @@
 // The words of gates: bit g is set where gate g is of some kinds.
+ghost use Rattle.words.specs.Words.{words};
 ghost use Rattle.std.specs.Prelude.{◌≡◌, ◌+◌, ◌<◌, ◌≤◌, set};
 ghost use Rattle.std.proofs.lemmas.List.Edits.{sets};
-ghost use Rattle.words.specs.Slices.{before, after, was};
 ghost use Rattle.model.specs.Circuit.{most_gates};
 ghost use Rattle.linking.specs.Building.{gate_bit, bits_of, word_cells};
 ghost use Rattle.linking.specs.Lent.{Near};
@@ -14,7 +14,7 @@ use links::layout::*;
 pub fn write_words(circuit: &[u8], kinds: usize, n: usize, cells: &mut [usize])
     requires near { Near kinds }
     requires n_le_most_gates { n ≤ most_gates }
-    ensures { after cells ≡ sets (before cells) 4 (word_cells (was circuit) kinds n) }
+    ensures { cells.new ≡ sets cells.old 4 (word_cells (words circuit.now) kinds n) }
 {
     put_gates(
         circuit,
@@ -43,7 +43,7 @@ pub fn write_words(circuit: &[u8], kinds: usize, n: usize, cells: &mut [usize])
 fn put_buffers(circuit: &[u8], kinds: usize, n: usize, cells: &mut [usize], i: usize)
     requires near { Near kinds }
     requires n_le_most_gates { n ≤ most_gates }
-    ensures { after cells ≡ set (before cells) i (bits_of (was circuit) kinds n 10 13 + bits_of (was circuit) kinds n 16 17) }
+    ensures { cells.new ≡ set cells.old i (bits_of (words circuit.now) kinds n 10 13 + bits_of (words circuit.now) kinds n 16 17) }
 {
     let buffers = gates_within(circuit, kinds, n, BUFFER_TICKS, BUFFER_SECONDS_EXEC);
     let queues = gates_within(circuit, kinds, n, QUEUE_IN_TICKS, QUEUE_IN_SECONDS);
@@ -62,7 +62,7 @@ fn put_gates(
 )
     requires near { Near kinds }
     requires n_le_most_gates { n ≤ most_gates }
-    ensures { after cells ≡ set (before cells) i (bits_of (was circuit) kinds n low high) }
+    ensures { cells.new ≡ set cells.old i (bits_of (words circuit.now) kinds n low high) }
 {
     let gates = gates_within(circuit, kinds, n, low, high);
     put(cells, i, gates);
@@ -72,7 +72,7 @@ fn put_gates(
 fn gates_within(circuit: &[u8], kinds: usize, n: usize, low: u64, high: u64) -> usize
     requires near { Near kinds }
     requires n_le_most_gates { n ≤ most_gates }
-    ensures { result ≡ bits_of (was circuit) kinds n low high }
+    ensures { result ≡ bits_of (words circuit.now) kinds n low high }
 {
     let mut gates: usize = 0;
     let mut g: usize = 0;

@@ -2,7 +2,6 @@
 ghost use Rattle.std.specs.Prelude.{◌≡◌, [], ◌∷◌, ◌+◌, ◌≤◌};
 ghost use Rattle.std.proofs.lemmas.List.Edits.{sets};
 ghost use Rattle.words.specs.Words.{words};
-ghost use Rattle.words.specs.Slices.{before, after, was};
 ghost use Rattle.model.specs.Base.{joined};
 ghost use Rattle.model.specs.Circuit.{most_gates};
 ghost use Rattle.links.specs.Links.{listed, most_constants};
@@ -32,7 +31,7 @@ pub fn link_gates(
     requires inputs_value { inputs ≡ below (ins_at (words circuit.now) kinds) gates }
     requires small { Small (words circuit.now) kinds gates 256 }
     requires small_2 { Small (words circuit.now) (kinds + gates) gates 16777216 }
-    ensures { after cells ≡ gates_written (was circuit) kinds gates stored constants inputs outputs (before cells) }
+    ensures { cells.new ≡ gates_written (words circuit.now) kinds gates stored constants inputs outputs cells.old }
 {
     let mut entries = [0usize; MOST_GATES];
     find_entries(
@@ -52,7 +51,7 @@ pub fn link_gates(
 
 // The counts.
 fn write_counts(gates: usize, constants: usize, inputs: usize, outputs: usize, cells: &mut [usize])
-    ensures { after cells ≡ sets (before cells) 0 (gates ∷ constants ∷ inputs ∷ outputs ∷ []) }
+    ensures { cells.new ≡ sets cells.old 0 (gates ∷ constants ∷ inputs ∷ outputs ∷ []) }
 {
     put(cells, GATE_COUNT, gates);
     put(cells, CONSTANT_COUNT, constants);
@@ -75,7 +74,7 @@ fn write_gates(
     requires near_2 { Near base }
     requires small { Small (words circuit.now) kinds n 256 }
     requires small_2 { Small (words circuit.now) (kinds + n) n 16777216 }
-    ensures { after cells ≡ written (before cells) base n (gate_cell (was circuit) kinds n (before entries)) }
+    ensures { cells.new ≡ written cells.old base n (gate_cell (words circuit.now) kinds n entries.now) }
 {
     let mut inputs: usize = 0;
     let mut outputs: usize = 0;
@@ -99,7 +98,7 @@ fn write_outputs(circuit: &[u8], kinds: usize, n: usize, cells: &mut [usize], ba
     requires near { Near kinds }
     requires n_le_most_gates { n ≤ most_gates }
     requires base_bound { base ≤ 32768 }
-    ensures { after cells ≡ sets (before cells) base (joined (listed n (output_cells (was circuit) kinds))) }
+    ensures { cells.new ≡ sets cells.old base (joined (listed n (output_cells (words circuit.now) kinds))) }
 {
     let mut done: usize = 0;
     let mut g: usize = 0;
@@ -115,7 +114,7 @@ fn write_outputs(circuit: &[u8], kinds: usize, n: usize, cells: &mut [usize], ba
 pub fn count_outputs(circuit: &[u8], kinds: usize, n: usize) -> usize
     requires near { Near kinds }
     requires n_le_most_gates { n ≤ most_gates }
-    ensures { result ≡ below (outs_at (was circuit) kinds) n }
+    ensures { result ≡ below (outs_at (words circuit.now) kinds) n }
 {
     let mut outputs: usize = 0;
     let mut g: usize = 0;
@@ -130,7 +129,7 @@ pub fn count_outputs(circuit: &[u8], kinds: usize, n: usize) -> usize
 pub fn inputs_of(circuit: &[u8], kinds: usize, g: usize) -> usize
     requires near { Near kinds }
     requires near_2 { Near g }
-    ensures { result ≡ ins_at (was circuit) kinds g }
+    ensures { result ≡ ins_at (words circuit.now) kinds g }
 {
     kinds::inputs(words::read(circuit, kinds + g))
 }
@@ -139,7 +138,7 @@ pub fn inputs_of(circuit: &[u8], kinds: usize, g: usize) -> usize
 fn outputs_of(circuit: &[u8], kinds: usize, g: usize) -> usize
     requires near { Near kinds }
     requires near_2 { Near g }
-    ensures { result ≡ outs_at (was circuit) kinds g }
+    ensures { result ≡ outs_at (words circuit.now) kinds g }
 {
     kinds::outputs(words::read(circuit, kinds + g))
 }

@@ -1,7 +1,7 @@
 // What is written of the inputs: the source, the stored value, the gate, and whether it is watched.
+ghost use Rattle.words.specs.Words.{words};
 ghost use Rattle.std.specs.Prelude.{◌≡◌, ◌+◌, ◌≤◌, length, get_or};
 ghost use Rattle.std.proofs.lemmas.List.Edits.{sets};
-ghost use Rattle.words.specs.Slices.{before, after, was};
 ghost use Rattle.model.specs.Base.{joined};
 ghost use Rattle.model.specs.Kinds.{kind_at, value};
 ghost use Rattle.model.specs.Circuit.{is_watched, source_of, most_gates, most_inputs};
@@ -31,7 +31,7 @@ pub fn link_inputs(
     requires sources_bound { sources ≤ 32768 }
     requires inputs_le_most_inputs { inputs ≤ most_inputs }
     requires constants_le_most_constants { constants ≤ most_constants }
-    ensures { after cells ≡ inputs_written (was circuit) kinds gates sources inputs constants (before cells) }
+    ensures { cells.new ≡ inputs_written (words circuit.now) kinds gates sources inputs constants cells.old }
 {
     let stored = sources + inputs;
     copy(circuit, sources, inputs, cells, SOURCES);
@@ -71,7 +71,7 @@ fn copy_named(
     requires near_3 { Near named }
     requires near_4 { Near count }
     requires near_5 { Near base }
-    ensures { after cells ≡ written (before cells) base n (λ k. named_word (was circuit) named count (get_or (was circuit) (first + k) 0)) }
+    ensures { cells.new ≡ written cells.old base n (λ k. named_word (words circuit.now) named count (get_or (words circuit.now) (first + k) 0)) }
 {
     let mut k: usize = 0;
     while k < n {
@@ -86,7 +86,7 @@ fn copy_named(
 pub fn word_named(circuit: &[u8], named: usize, count: usize, k: usize) -> usize
     requires near { Near named }
     requires near_2 { Near count }
-    ensures { result ≡ named_word (was circuit) named count k }
+    ensures { result ≡ named_word (words circuit.now) named count k }
 {
     if k == 0 {
         return 0;
@@ -110,7 +110,7 @@ fn write_inputs(
     requires n_le_most_gates { n ≤ most_gates }
     requires sources_bound { sources ≤ 32768 }
     requires base_bound { base ≤ 32768 }
-    ensures { after cells ≡ sets (before cells) base (joined (listed n (input_cells (was circuit) kinds sources))) }
+    ensures { cells.new ≡ sets cells.old base (joined (listed n (input_cells (words circuit.now) kinds sources))) }
 {
     let mut done: usize = 0;
     let mut g: usize = 0;
@@ -134,7 +134,7 @@ fn write_inputs_of(
     requires near { Near sources }
     requires short { Short g }
     requires near_2 { Near base }
-    ensures { after cells ≡ written (before cells) base (length (kind_at kind).ins) (λ p. input_cell kind g (get_or (was circuit) (sources + p) 0) p) }
+    ensures { cells.new ≡ written cells.old base (length (kind_at kind).ins) (λ p. input_cell kind g (get_or (words circuit.now) (sources + p) 0) p) }
 {
     let n = kinds::inputs(kind);
     let mut p: usize = 0;

@@ -1,7 +1,8 @@
 // Fills the array of links from a circuit's bytes, once per run.
+#![tactic(auto)]
+
 ghost use Rattle.std.specs.Prelude.{◌≡◌, true, ◌+◌, ◌*◌, ◌≤◌};
 ghost use Rattle.words.specs.Words.{words};
-ghost use Rattle.words.specs.Slices.{before, after, was};
 ghost use Rattle.model.specs.Circuit.{circuit as circuit_of, most_gates, most_inputs};
 ghost use Rattle.model.specs.Questions.{question_1, question_2, question_3};
 ghost use Rattle.model.specs.Chain.{most_calls};
@@ -31,8 +32,8 @@ pub fn link(circuit: &[u8], links: &mut [usize])
     requires circuit_value { question_1 circuit.now (words circuit.now) ≡ true }
     requires circuit_value_2 { question_2 (words circuit.now) ≡ true }
     requires circuit_value_3 { question_3 (words circuit.now) (circuit_of (words circuit.now)) ≡ true }
-    requires linked { Linked links }
-    ensures { after links ≡ cells (circuit_of (was circuit)) }
+    requires linked { Linked links.old }
+    ensures { links.new ≡ cells (circuit_of (words circuit.now)) }
 {
     let gates = word(circuit, 0);
     let constants = word(circuit, 1);
@@ -57,7 +58,7 @@ fn link_all(
     requires inputs_value { inputs ≡ below (ins_at (words circuit.now) (4 + 2 * constants)) gates }
     requires small { Small (words circuit.now) (4 + 2 * constants) gates 256 }
     requires small_2 { Small (words circuit.now) (4 + 2 * constants + gates) gates 16777216 }
-    ensures { after cells ≡ all_written (was circuit) gates constants inputs calls (before cells) }
+    ensures { cells.new ≡ all_written (words circuit.now) gates constants inputs calls cells.old }
 {
     let kinds = CONSTANTS + 2 * constants;
     let sources = kinds + 2 * gates;
@@ -82,7 +83,7 @@ fn link_all(
 // The tables of the constants.
 fn link_constants(circuit: &[u8], constants: usize, cells: &mut [usize])
     requires { constants ≤ most_constants }
-    ensures { after cells ≡ constants_written (was circuit) constants (before cells) }
+    ensures { cells.new ≡ constants_written (words circuit.now) constants cells.old }
 {
     copy(circuit, CONSTANTS, constants, cells, CONSTANT_KINDS);
     copy(

@@ -1,6 +1,6 @@
 // What is written of who reads an output and whom it calls.
+ghost use Rattle.words.specs.Words.{words};
 ghost use Rattle.std.specs.Prelude.{◌≡◌, ◌<◌, ◌≤◌};
-ghost use Rattle.words.specs.Slices.{before, after, was};
 ghost use Rattle.model.specs.Circuit.{most_inputs};
 ghost use Rattle.links.specs.Lent.{Short};
 ghost use Rattle.links.specs.Links.{most_outputs};
@@ -27,7 +27,7 @@ pub fn link_lists(
     requires calls_bound { calls ≤ 32768 }
     requires count_le_most_inputs { count ≤ most_inputs }
     requires outputs_le_most_outputs { outputs ≤ most_outputs }
-    ensures { after cells ≡ lists_written (was circuit) sources inputs calls count outputs (before cells) }
+    ensures { cells.new ≡ lists_written (words circuit.now) sources inputs calls count outputs cells.old }
 {
     let mut reader_heads = [END; MOST_OUTPUTS];
     let mut reader_next = [END; MOST_INPUTS];
@@ -84,7 +84,7 @@ fn write_rows(
     requires near_2 { Near base }
     requires short { Short (below (size_at (chains reader_heads.now reader_next.now)) n) }
     requires short_2 { Short (below (size_at (chains call_heads.now call_next.now)) n) }
-    ensures { after cells ≡ written (before cells) base n (row_of (sizes_in reader_heads reader_next) (sizes_in call_heads call_next)) }
+    ensures { cells.new ≡ written cells.old base n (row_of (sizes_in reader_heads.now reader_next.now) (sizes_in call_heads.now call_next.now)) }
 {
     let mut readers: usize = 0;
     let mut calls: usize = 0;

@@ -1,6 +1,7 @@
 // The links of a circuit, read. Each function looks one thing up in the array that specs/Links.antt lays out; what the array holds makes no difference.
+#![tactic(auto)]
+
 ghost use Rattle.std.specs.Prelude.{◌≡◌, ◌+◌, ◌<◌, ◌≤◌, min, length, get_or, drop};
-ghost use Rattle.words.specs.Slices.{before};
 ghost use Rattle.model.specs.Circuit.{kind_of_gate, rank_of_gate, body_of_gate, entry_of_loop, input, output, gate_at_input, gate_at_output, watching, source, stored_in, setting, most_gates, most_inputs};
 ghost use Rattle.model.specs.declared.Value.TheVariants.{Nothing};
 ghost use Rattle.model.specs.Kinds.{value, fires};
@@ -26,8 +27,8 @@ pub enum Read {
 
 // Cell at + i, which is 0 past the last.
 fn cell(links: &[usize], at: usize, i: usize) -> usize
-    requires { Linked links × (at ≤ total) }
-    ensures { result ≡ cell (before links) (at + i) }
+    requires { Linked links.now × (at ≤ total) }
+    ensures { result ≡ cell links.now (at + i) }
 {
     if i < CELLS - at {
         return links[at + i];
@@ -37,8 +38,8 @@ fn cell(links: &[usize], at: usize, i: usize) -> usize
 
 // The count in cell n, at most `most`.
 fn counted(links: &[usize], n: usize, most: usize) -> usize
-    requires { Linked links × (n < 16) }
-    ensures { result ≡ min (cell (before links) n) most }
+    requires { Linked links.now × (n < 16) }
+    ensures { result ≡ min (cell links.now n) most }
 {
     if links[n] < most {
         return links[n];
@@ -48,8 +49,8 @@ fn counted(links: &[usize], n: usize, most: usize) -> usize
 
 // Cell i of the table that begins at `at`, of which cell n says how many are in use, and `missing` past those.
 fn entry(links: &[usize], n: usize, most: usize, at: usize, i: usize, missing: usize) -> usize
-    requires { Linked links × (n < 16) × (at + most ≤ total) }
-    ensures { result ≡ get_or (entries (before links) n most at) i missing }
+    requires { Linked links.now × (n < 16) × (at + most ≤ total) }
+    ensures { result ≡ get_or (entries links.now n most at) i missing }
 {
     if i < most {
         if i < links[n] {
@@ -63,40 +64,40 @@ fn entry(links: &[usize], n: usize, most: usize, at: usize, i: usize, missing: u
 
 // How many gates there are.
 pub fn gates(links: &[usize]) -> usize
-    requires { Linked links }
-    ensures { (result ≡ length (net_of links).kinds) × (result ≤ most_gates) }
+    requires { Linked links.now }
+    ensures { (result ≡ length (net_of links.now).kinds) × (result ≤ most_gates) }
 {
     counted(links, GATE_COUNT, MOST_GATES)
 }
 
 // How many inputs there are.
 pub fn inputs(links: &[usize]) -> usize
-    requires { Linked links }
-    ensures { (result ≡ length (net_of links).pins) × (result ≤ most_inputs) }
+    requires { Linked links.now }
+    ensures { (result ≡ length (net_of links.now).pins) × (result ≤ most_inputs) }
 {
     counted(links, INPUT_COUNT, MOST_INPUTS)
 }
 
 // How many outputs there are.
 pub fn outputs(links: &[usize]) -> usize
-    requires { Linked links }
-    ensures { (result ≡ length (net_of links).outputs) × (result ≤ most_outputs) }
+    requires { Linked links.now }
+    ensures { (result ≡ length (net_of links.now).outputs) × (result ≤ most_outputs) }
 {
     counted(links, OUTPUT_COUNT, MOST_OUTPUTS)
 }
 
 // How many constants there are, nothing among them.
 pub fn constants(links: &[usize]) -> usize
-    requires { Linked links }
-    ensures { (result ≡ length (net_of links).constants) × (result ≤ 65) }
+    requires { Linked links.now }
+    ensures { (result ≡ length (net_of links.now).constants) × (result ≤ 65) }
 {
     counted(links, CONSTANT_COUNT, MOST_CONSTANTS) + 1
 }
 
 // The constant named k, which is nothing for 0 and where there is none.
 pub fn constant(links: &[usize], k: usize) -> Value
-    requires { Linked links }
-    ensures { result ≡ get_or (net_of links).constants k Nothing }
+    requires { Linked links.now }
+    ensures { result ≡ get_or (net_of links.now).constants k Nothing }
 {
     if k == 0 {
         return Value::Nothing;
@@ -124,56 +125,56 @@ pub fn constant(links: &[usize], k: usize) -> Value
 
 // What is written of gate g.
 fn gate_entry(links: &[usize], g: usize) -> usize
-    requires { Linked links }
-    ensures { result ≡ get_or (entries (before links) 0 most_gates gates_at) g 0 }
+    requires { Linked links.now }
+    ensures { result ≡ get_or (entries links.now 0 most_gates gates_at) g 0 }
 {
     entry(links, GATE_COUNT, MOST_GATES, GATES, g, 0)
 }
 
 // The kind of gate g, and 0 where there is none.
 pub fn kind_of_gate(links: &[usize], g: usize) -> u64
-    requires { Linked links }
-    ensures { result ≡ kind_of_gate (net_of links) g }
+    requires { Linked links.now }
+    ensures { result ≡ kind_of_gate (net_of links.now) g }
 {
     (gate_entry(links, g) % DIGIT % BODY) as u64
 }
 
 // The rank of gate g, and 0 where there is none.
 pub fn rank_of_gate(links: &[usize], g: usize) -> u64
-    requires { Linked links }
-    ensures { result ≡ rank_of_gate (net_of links) g }
+    requires { Linked links.now }
+    ensures { result ≡ rank_of_gate (net_of links.now) g }
 {
     (gate_entry(links, g) / SECOND % DIGIT) as u64
 }
 
 // The body that gate g lies in: 0 outside, and where there is no gate g, else 1 + the Loop's gate.
 pub fn body_of_gate(links: &[usize], g: usize) -> usize
-    requires { Linked links }
-    ensures { result ≡ body_of_gate (net_of links) g }
+    requires { Linked links.now }
+    ensures { result ≡ body_of_gate (net_of links.now) g }
 {
     gate_entry(links, g) % DIGIT / BODY
 }
 
 // The entry of Loop g's body, and 0 where there is none.
 pub fn entry_of_loop(links: &[usize], g: usize) -> usize
-    requires { Linked links }
-    ensures { result ≡ entry_of_loop (net_of links) g }
+    requires { Linked links.now }
+    ensures { result ≡ entry_of_loop (net_of links.now) g }
 {
     gate_entry(links, g) / THIRD % DIGIT / ENTRY
 }
 
 // Input p of gate g.
 pub fn input(links: &[usize], g: usize, p: usize) -> usize
-    requires { Linked links × Short p }
-    ensures { (result ≡ input (net_of links) g p) × (result < 131072) }
+    requires { Linked links.now × Short p }
+    ensures { (result ≡ input (net_of links.now) g p) × (result < 131072) }
 {
     gate_entry(links, g) / THIRD % DIGIT % ENTRY + p
 }
 
 // Output p of gate g.
 pub fn output(links: &[usize], g: usize, p: usize) -> usize
-    requires { Linked links × Short p }
-    ensures { (result ≡ output (net_of links) g p) × (result < 131072) }
+    requires { Linked links.now × Short p }
+    ensures { (result ≡ output (net_of links.now) g p) × (result < 131072) }
 {
     gate_entry(links, g) / FOURTH % DIGIT + p
 }
@@ -182,16 +183,16 @@ pub fn output(links: &[usize], g: usize, p: usize) -> usize
 
 // What is written of input i.
 fn input_entry(links: &[usize], i: usize) -> usize
-    requires { Linked links }
-    ensures { result ≡ get_or (entries (before links) 2 most_inputs inputs_at) i 0 }
+    requires { Linked links.now }
+    ensures { result ≡ get_or (entries links.now 2 most_inputs inputs_at) i 0 }
 {
     entry(links, INPUT_COUNT, MOST_INPUTS, INPUTS, i, 0)
 }
 
 // What input i is, and a value where there is none.
 pub fn pin_at(links: &[usize], i: usize) -> kinds::Pin
-    requires { Linked links }
-    ensures { in_of result ≡ get_or (net_of links).pins i value }
+    requires { Linked links.now }
+    ensures { in_of result ≡ get_or (net_of links.now).pins i value }
 {
     if inputs(links) <= i {
         return kinds::Pin::Value;
@@ -204,24 +205,24 @@ pub fn pin_at(links: &[usize], i: usize) -> kinds::Pin
 
 // The gate that has input i, and 0 where there is none.
 pub fn gate_at_input(links: &[usize], i: usize) -> usize
-    requires { Linked links }
-    ensures { result ≡ gate_at_input (net_of links) i }
+    requires { Linked links.now }
+    ensures { result ≡ gate_at_input (net_of links.now) i }
 {
     input_entry(links, i) % DIGIT
 }
 
 // Whether a change of what input i reads is acted on.
 pub fn watching(links: &[usize], i: usize) -> bool
-    requires { Linked links }
-    ensures { result ≡ watching (net_of links) i }
+    requires { Linked links.now }
+    ensures { result ≡ watching (net_of links.now) i }
 {
     input_entry(links, i) / SECOND % DIGIT == 1
 }
 
 // What input i reads.
 pub fn source(links: &[usize], i: usize) -> Read
-    requires { Linked links }
-    ensures { output_read result ≡ source (net_of links) i }
+    requires { Linked links.now }
+    ensures { output_read result ≡ source (net_of links.now) i }
 {
     let o = entry(links, INPUT_COUNT, MOST_INPUTS, SOURCES, i, NO_SOURCE);
     if o == NO_SOURCE {
@@ -232,8 +233,8 @@ pub fn source(links: &[usize], i: usize) -> Read
 
 // The value stored in input i.
 pub fn stored_in(links: &[usize], i: usize) -> Value
-    requires { Linked links }
-    ensures { result ≡ stored_in (net_of links) i }
+    requires { Linked links.now }
+    ensures { result ≡ stored_in (net_of links.now) i }
 {
     let kind = entry(links, INPUT_COUNT, MOST_INPUTS, STORED_KINDS, i, 0);
     let content = entry(links, INPUT_COUNT, MOST_INPUTS, STORED_CONTENTS, i, 0);
@@ -242,8 +243,8 @@ pub fn stored_in(links: &[usize], i: usize) -> Value
 
 // Setting p of gate g.
 pub fn setting(links: &[usize], g: usize, p: usize) -> Value
-    requires { Linked links × Short p }
-    ensures { result ≡ setting (net_of links) g p }
+    requires { Linked links.now × Short p }
+    ensures { result ≡ setting (net_of links.now) g p }
 {
     stored_in(links, input(links, g, p))
 }
@@ -252,16 +253,16 @@ pub fn setting(links: &[usize], g: usize, p: usize) -> Value
 
 // The gate that has output o, and 0 where there is none.
 pub fn gate_at_output(links: &[usize], o: usize) -> usize
-    requires { Linked links }
-    ensures { result ≡ gate_at_output (net_of links) o }
+    requires { Linked links.now }
+    ensures { result ≡ gate_at_output (net_of links.now) o }
 {
     entry(links, OUTPUT_COUNT, MOST_OUTPUTS, OUTPUTS, o, 0)
 }
 
 // What output o is; it fires where there is none.
 pub fn out_at(links: &[usize], o: usize) -> kinds::Out
-    requires { Linked links }
-    ensures { out_of result ≡ get_or (net_of links).outputs o fires }
+    requires { Linked links.now }
+    ensures { out_of result ≡ get_or (net_of links.now).outputs o fires }
 {
     if outputs(links) <= o {
         return kinds::Out::Fires;
@@ -274,56 +275,56 @@ pub fn out_at(links: &[usize], o: usize) -> kinds::Out
 
 // The row of output o.
 fn row(links: &[usize], o: usize) -> usize
-    requires { Linked links }
-    ensures { result ≡ get_or (entries (before links) 3 most_outputs rows_at) o 0 }
+    requires { Linked links.now }
+    ensures { result ≡ get_or (entries links.now 3 most_outputs rows_at) o 0 }
 {
     entry(links, OUTPUT_COUNT, MOST_OUTPUTS, ROWS, o, 0)
 }
 
 // Where the readers of output o begin.
 pub fn first_reader(links: &[usize], o: usize) -> usize
-    requires { Linked links }
-    ensures { (result ≡ first_reader (before links) o) × Short result }
+    requires { Linked links.now }
+    ensures { (result ≡ first_reader links.now o) × Short result }
 {
     row(links, o) % DIGIT
 }
 
 // How many inputs read output o.
 pub fn reader_count(links: &[usize], o: usize) -> usize
-    requires { Linked links }
-    ensures { (result ≡ reader_count (before links) o) × Short result }
+    requires { Linked links.now }
+    ensures { (result ≡ reader_count links.now o) × Short result }
 {
     row(links, o) / SECOND % DIGIT
 }
 
 // Reader k of all, an input.
 pub fn reader(links: &[usize], k: usize) -> usize
-    requires { Linked links }
-    ensures { result ≡ reader_at (before links) k }
+    requires { Linked links.now }
+    ensures { result ≡ reader_at links.now k }
 {
     cell(links, READERS, k)
 }
 
 // Where the calls of output o begin.
 pub fn first_call(links: &[usize], o: usize) -> usize
-    requires { Linked links }
-    ensures { (result ≡ first_call (before links) o) × Short result }
+    requires { Linked links.now }
+    ensures { (result ≡ first_call links.now o) × Short result }
 {
     row(links, o) / THIRD % DIGIT
 }
 
 // How many calls output o makes.
 pub fn call_count(links: &[usize], o: usize) -> usize
-    requires { Linked links }
-    ensures { (result ≡ call_count (before links) o) × Short result }
+    requires { Linked links.now }
+    ensures { (result ≡ call_count links.now o) × Short result }
 {
     row(links, o) / FOURTH % DIGIT
 }
 
 // The target of call k of all: 2 × input + remote.
 pub fn call(links: &[usize], k: usize) -> usize
-    requires { Linked links }
-    ensures { result ≡ target (before links) k }
+    requires { Linked links.now }
+    ensures { result ≡ target links.now k }
 {
     cell(links, CALLS, k)
 }
@@ -346,40 +347,40 @@ pub fn is_remote(target: usize) -> bool
 
 // The time sources.
 pub fn time_sources(links: &[usize]) -> usize
-    requires { Linked links }
-    ensures { result ≡ cell (before links) 4 }
+    requires { Linked links.now }
+    ensures { result ≡ cell links.now 4 }
 {
     links[TIME_SOURCES]
 }
 
 // The buffers and Queues.
 pub fn buffers(links: &[usize]) -> usize
-    requires { Linked links }
-    ensures { result ≡ cell (before links) 5 }
+    requires { Linked links.now }
+    ensures { result ≡ cell links.now 5 }
 {
     links[BUFFERS]
 }
 
 // The Clocks.
 pub fn clocks(links: &[usize]) -> usize
-    requires { Linked links }
-    ensures { result ≡ cell (before links) 6 }
+    requires { Linked links.now }
+    ensures { result ≡ cell links.now 6 }
 {
     links[CLOCKS]
 }
 
 // The Stopwatches.
 pub fn stopwatches(links: &[usize]) -> usize
-    requires { Linked links }
-    ensures { result ≡ cell (before links) 7 }
+    requires { Linked links.now }
+    ensures { result ≡ cell links.now 7 }
 {
     links[STOPWATCHES]
 }
 
 // The receivers of events.
 pub fn receivers(links: &[usize]) -> usize
-    requires { Linked links }
-    ensures { result ≡ cell (before links) 8 }
+    requires { Linked links.now }
+    ensures { result ≡ cell links.now 8 }
 {
     links[RECEIVERS]
 }

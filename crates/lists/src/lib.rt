@@ -1,7 +1,8 @@
 // Bounded lists of words, each in a part of an area: first in first out, and last in first out.
+#![tactic(auto)]
+
 ghost use Rattle.std.specs.Prelude.{◌≡◌, [], ◌∷◌, ◌++◌, ◌+◌, ◌*◌, ◌<◌, ◌≤◌, length, drop};
-ghost use Rattle.words.specs.Words.{Stored};
-ghost use Rattle.words.specs.Slices.{before, after, was, is};
+ghost use Rattle.words.specs.Words.{words, Stored};
 ghost use Rattle.lists.specs.Lists.{stacked, wrapped, first_slot, queued, filed, if_room, taken, Emptied};
 
 use words::{get, put};
@@ -32,8 +33,8 @@ const SLOTS: usize = 2;
 // How many entries there are.
 pub fn count(list: &[u8], most: usize) -> usize
     requires { 8 ≤ length list.now }
-    ensures value { result ≡ length (stacked most (was list)) }
-    ensures value_2 { result ≡ length (queued most (was list)) }
+    ensures value { result ≡ length (stacked most (words list.now)) }
+    ensures value_2 { result ≡ length (queued most (words list.now)) }
     ensures upper_bound { result ≤ most }
 {
     let n = get(list, COUNT) as usize;
@@ -43,8 +44,8 @@ pub fn count(list: &[u8], most: usize) -> usize
 // The list becomes empty, whatever kind it is of. Only its count is stored.
 pub fn clear(list: &mut [u8])
     requires { 8 ≤ length list.old }
-    ensures emptied { Emptied (is list) }
-    ensures stored { Stored (before list) (after list) 0 0 }
+    ensures emptied { Emptied (words list.new) }
+    ensures stored { Stored list.old list.new 0 0 }
 {
     put(list, COUNT, 0);
 }
@@ -52,8 +53,8 @@ pub fn clear(list: &mut [u8])
 // x on top of a stack.
 pub fn stack_push(list: &mut [u8], most: usize, x: u64) -> Filed
     requires { (length list.old ≡ (most + 1) * 8) × (most ≤ 1024) }
-    ensures value { result ≡ filed most (stacked most (was list)) }
-    ensures list_value { stacked most (is list) ≡ if_room most (stacked most (was list)) (x ∷ stacked most (was list)) }
+    ensures value { result ≡ filed most (stacked most (words list.old)) }
+    ensures list_value { stacked most (words list.new) ≡ if_room most (stacked most (words list.old)) (x ∷ stacked most (words list.old)) }
 {
     let height = count(list, most);
     if most <= height {
@@ -67,8 +68,8 @@ pub fn stack_push(list: &mut [u8], most: usize, x: u64) -> Filed
 // The newest of a stack is taken off.
 pub fn stack_pop(list: &mut [u8], most: usize) -> Taken
     requires { (length list.old ≡ (most + 1) * 8) × (most ≤ 1024) }
-    ensures value { result ≡ taken (stacked most (was list)) }
-    ensures list_value { stacked most (is list) ≡ drop 1 (stacked most (was list)) }
+    ensures value { result ≡ taken (stacked most (words list.old)) }
+    ensures list_value { stacked most (words list.new) ≡ drop 1 (stacked most (words list.old)) }
 {
     let height = count(list, most);
     if height == 0 {
@@ -90,7 +91,7 @@ fn wrapped(most: usize, i: usize) -> usize
 // The slot of a ring's first entry.
 fn first_slot(list: &[u8], most: usize) -> usize
     requires { (16 ≤ length list.now) × (0 < most) }
-    ensures { (result ≡ first_slot most (was list)) × (result < most) }
+    ensures { (result ≡ first_slot most (words list.now)) × (result < most) }
 {
     let i = get(list, FIRST) as usize;
     if i < most { i } else { 0 }
@@ -99,8 +100,8 @@ fn first_slot(list: &[u8], most: usize) -> usize
 // x goes behind the others of a ring.
 pub fn enqueue(list: &mut [u8], most: usize, x: u64) -> Filed
     requires { (length list.old ≡ (most + 2) * 8) × (most ≤ 1024) }
-    ensures value { result ≡ filed most (queued most (was list)) }
-    ensures list_value { queued most (is list) ≡ if_room most (queued most (was list)) (queued most (was list) ++ x ∷ []) }
+    ensures value { result ≡ filed most (queued most (words list.old)) }
+    ensures list_value { queued most (words list.new) ≡ if_room most (queued most (words list.old)) (queued most (words list.old) ++ x ∷ []) }
 {
     let held = count(list, most);
     if most <= held {
@@ -115,8 +116,8 @@ pub fn enqueue(list: &mut [u8], most: usize, x: u64) -> Filed
 // The oldest of a ring is taken off.
 pub fn dequeue(list: &mut [u8], most: usize) -> Taken
     requires { (length list.old ≡ (most + 2) * 8) × (most ≤ 1024) }
-    ensures value { result ≡ taken (queued most (was list)) }
-    ensures list_value { queued most (is list) ≡ drop 1 (queued most (was list)) }
+    ensures value { result ≡ taken (queued most (words list.old)) }
+    ensures list_value { queued most (words list.new) ≡ drop 1 (queued most (words list.old)) }
 {
     let held = count(list, most);
     if held == 0 {

@@ -1,7 +1,9 @@
 // The record that a tick writes to the log.
+#![tactic(auto)]
+
 ghost use Rattle.std.specs.Prelude.{◌≡◌, map, ◌+◌, ◌*◌, ◌<◌, ◌≤◌, eqb, length, get_or};
-ghost use Rattle.words.specs.Words.{Filled};
-ghost use Rattle.words.specs.Slices.{before, after, was, HasWords};
+ghost use Rattle.words.specs.Words.{words, Filled};
+ghost use Rattle.words.specs.Slices.{HasWords};
 ghost use Rattle.model.specs.Base.{if◌then◌else◌};
 // The definitions `values` and `units` are named for what they hold, beside the slices of their names.
 ghost use Rattle.model.specs.Value.{kind_of, content_of};
@@ -50,8 +52,8 @@ const CARRIED: usize = CARRIED_COUNT + 1;
 
 // The head becomes the words of the log from word p on, where n units have begun and k are carried.
 fn write_head(log: &mut [u8], p: usize, head: Head, n: usize, k: usize)
-    requires { HasWords log p head_size }
-    ensures { Filled (before log) (after log) p (head_row head n k) }
+    requires { HasWords log.old p head_size }
+    ensures { Filled log.old log.new p (head_row head n k) }
 {
     let main = less(n, head.late);
     put(log, p, head.tick);
@@ -65,8 +67,8 @@ fn write_head(log: &mut [u8], p: usize, head: Head, n: usize, k: usize)
 
 // The gates of the n units whose entries stand from word `first` on become the words of the log from word p on.
 fn write_gates(units: &[u8], first: usize, n: usize, log: &mut [u8], p: usize)
-    requires { HasWords units first n × HasWords log p n }
-    ensures { Filled (before log) (after log) p (map (λ u. u.gate) (entries_in first n (before units))) }
+    requires { HasWords units.now first n × HasWords log.old p n }
+    ensures { Filled log.old log.new p (map (λ u. u.gate) (entries_in first n units.now)) }
 {
     let mut i = 0;
     while i < n {
@@ -77,8 +79,8 @@ fn write_gates(units: &[u8], first: usize, n: usize, log: &mut [u8], p: usize)
 
 // Their forms become the words from word p on.
 fn write_forms(units: &[u8], first: usize, n: usize, log: &mut [u8], p: usize)
-    requires { HasWords units first n × HasWords log p n }
-    ensures { Filled (before log) (after log) p (map (λ u. u.form) (entries_in first n (before units))) }
+    requires { HasWords units.now first n × HasWords log.old p n }
+    ensures { Filled log.old log.new p (map (λ u. u.form) (entries_in first n units.now)) }
 {
     let mut i = 0;
     while i < n {
@@ -89,8 +91,8 @@ fn write_forms(units: &[u8], first: usize, n: usize, log: &mut [u8], p: usize)
 
 // The gates and then the forms of the n units whose entries stand from word `first` on become the words of the log from word p on.
 fn write_units(units: &[u8], first: usize, n: usize, log: &mut [u8], p: usize)
-    requires { HasWords units first n × HasWords log p (2 * n) }
-    ensures { Filled (before log) (after log) p (gates_and_forms (entries_in first n (before units))) }
+    requires { HasWords units.now first n × HasWords log.old p (2 * n) }
+    ensures { Filled log.old log.new p (gates_and_forms (entries_in first n units.now)) }
 {
     write_gates(units, first, n, log, p);
     write_forms(units, first, n, log, p + n);
@@ -98,32 +100,32 @@ fn write_units(units: &[u8], first: usize, n: usize, log: &mut [u8], p: usize)
 
 // How many outputs the record of a tick with this stop shows: all, or none where there is a stop.
 fn outputs_shown(links: &[usize], stop: u64) -> usize
-    requires { Linked links }
-    ensures { (result ≡ (if eqb stop 0 then length (net_of links).outputs else 0)) × (result ≤ most_outputs) }
+    requires { Linked links.now }
+    ensures { (result ≡ (if eqb stop 0 then length (net_of links.now).outputs else 0)) × (result ≤ most_outputs) }
 {
     if stop == 0 { outputs(links) } else { 0 }
 }
 
 // The kind of what output o shows.
 fn kind_at(values: &[u8], o: usize) -> u64
-    requires { Room values × (o < most_outputs) }
-    ensures { result ≡ kind_of (held (get_or (was values) (out_tags_at + o) 0) (get_or (was values) (out_contents_at + o) 0)) }
+    requires { Room values.now × (o < most_outputs) }
+    ensures { result ≡ kind_of (held (get_or (words values.now) (out_tags_at + o) 0) (get_or (words values.now) (out_contents_at + o) 0)) }
 {
     kind_held(get(values, OUT_TAGS + o))
 }
 
 // The content of what output o shows.
 fn content_at(values: &[u8], o: usize) -> u64
-    requires { Room values × (o < most_outputs) }
-    ensures { result ≡ content_of (held (get_or (was values) (out_tags_at + o) 0) (get_or (was values) (out_contents_at + o) 0)) }
+    requires { Room values.now × (o < most_outputs) }
+    ensures { result ≡ content_of (held (get_or (words values.now) (out_tags_at + o) 0) (get_or (words values.now) (out_contents_at + o) 0)) }
 {
     content_held(get(values, OUT_TAGS + o), get(values, OUT_CONTENTS + o))
 }
 
 // The kinds of the first n outputs become the words from word p on.
 fn write_kinds(values: &[u8], log: &mut [u8], p: usize, n: usize)
-    requires { Room values × (n ≤ most_outputs) × HasWords log p n }
-    ensures { Filled (before log) (after log) p (map kind_of (outs_in n (before values))) }
+    requires { Room values.now × (n ≤ most_outputs) × HasWords log.old p n }
+    ensures { Filled log.old log.new p (map kind_of (outs_in n values.now)) }
 {
     let mut i = 0;
     while i < n {
@@ -134,8 +136,8 @@ fn write_kinds(values: &[u8], log: &mut [u8], p: usize, n: usize)
 
 // Their contents become the words from word p on.
 fn write_contents(values: &[u8], log: &mut [u8], p: usize, n: usize)
-    requires { Room values × (n ≤ most_outputs) × HasWords log p n }
-    ensures { Filled (before log) (after log) p (map content_of (outs_in n (before values))) }
+    requires { Room values.now × (n ≤ most_outputs) × HasWords log.old p n }
+    ensures { Filled log.old log.new p (map content_of (outs_in n values.now)) }
 {
     let mut i = 0;
     while i < n {
@@ -146,8 +148,8 @@ fn write_contents(values: &[u8], log: &mut [u8], p: usize, n: usize)
 
 // The kinds and then the contents of the first n outputs become the words from word p on.
 fn write_outputs(values: &[u8], log: &mut [u8], p: usize, n: usize)
-    requires { Room values × (n ≤ most_outputs) × HasWords log p (2 * n) }
-    ensures { Filled (before log) (after log) p (kinds_and_contents (outs_in n (before values))) }
+    requires { Room values.now × (n ≤ most_outputs) × HasWords log.old p (2 * n) }
+    ensures { Filled log.old log.new p (kinds_and_contents (outs_in n values.now)) }
 {
     write_kinds(values, log, p, n);
     write_contents(values, log, p + n, n);
@@ -162,9 +164,9 @@ pub fn write_record(
     at: usize,
     head: Head,
 ) -> Written
-    requires { Linked links × Room values × Room units × (at * 8 ≤ length log.old) }
-    ensures value { result ≡ written_as (fits (before log) at (record_in links values units head)) (record_in links values units head) }
-    ensures writes { Writes (before log) (after log) at (record_in links values units head) }
+    requires { Linked links.now × Room values.now × Room units.now × (at * 8 ≤ length log.old) }
+    ensures value { result ≡ written_as (fits log.old at (record_in links.now values.now units.now head)) (record_in links.now values.now units.now head) }
+    ensures writes { Writes log.old log.new at (record_in links.now values.now units.now head) }
 {
     let n = begun(units);
     let k = carried(units);

@@ -50,8 +50,8 @@ fn natural(z: i64) -> u64
 
 // What the inputs of Loop g read, which are ready.
 fn read_counts(links: &[usize], values: &[u8], g: usize, broke: bool) -> Counts
-    requires { Linked links × Room values }
-    ensures { CountsRead (net_of links) g (wires_in links values) broke result }
+    requires { Linked links.now × Room values.now }
+    ensures { CountsRead (net_of links.now) g (wires_in links.now values.now) broke result }
 {
     let count = natural(as_int(look(links, values, input(links, g, 1)), 0));
     let first = unsigned(as_int(look(links, values, input(links, g, 2)), 0));
@@ -66,8 +66,8 @@ fn read_counts(links: &[usize], values: &[u8], g: usize, broke: bool) -> Counts
 
 // The Loop of gate g begins: Count, FirstIndex and Step are read, and no Break is set.
 pub fn begin_loop(links: &[usize], values: &mut [u8], g: usize) -> Counts
-    requires { Linked links × Room values }
-    ensures { OverValues links values (λ c old new. BeginsLoop c g old new result) }
+    requires { Linked links.now × Room values.old }
+    ensures { OverValues links.now (values.old, values.new) (λ c old new. BeginsLoop c g old new result) }
 {
     readied(links, values, input(links, g, 1), 3);
     let counts = read_counts(links, values, g, breaking(links, values));
@@ -77,9 +77,9 @@ pub fn begin_loop(links: &[usize], values: &mut [u8], g: usize) -> Counts
 
 // A run of a body is counted, if the tick may make one more.
 pub fn begin_run(links: &[usize], values: &mut [u8]) -> bool
-    requires { Linked links × Room values }
-    ensures value { result ≡ ltb 0 (wires_in links values).runs_left }
-    ensures turns { Turns links values (λ _ w. runs_left≔ w (w.runs_left - 1)) }
+    requires { Linked links.now × Room values.old }
+    ensures value { result ≡ ltb 0 (wires_in links.now values.old).runs_left }
+    ensures turns { Turns links.now (values.old, values.new) (λ _ w. runs_left≔ w (w.runs_left - 1)) }
 {
     let n = runs_left(links, values);
     if n == 0 {
@@ -98,8 +98,8 @@ pub fn begin_body(
     g: usize,
     i: u64,
 ) -> Ran
-    requires { Linked links × Room values × Room units }
-    ensures { OverValuesUnits links values units (λ c old new. Runs old new result (begin_body c g i (started old left))) }
+    requires { Linked links.now × Room values.old × Room units.old }
+    ensures { OverValuesUnits links.now (values.old, values.new) (units.old, units.new) (λ c old new. Runs old new result (begin_body c g i (started old left))) }
 {
     let e = entry_of_loop(links, g);
     set_out(links, values, output(links, e, 1), Value::Int(i));
@@ -109,8 +109,8 @@ pub fn begin_body(
 
 // Whether a Loop goes on after a run of its body that came to this stop, or 0: nothing stopped, and no Break ran.
 pub fn goes_on(links: &[usize], values: &[u8], stop: u64) -> bool
-    requires { Linked links × Room values }
-    ensures { result ≡ stays_on stop (wires_in links values) }
+    requires { Linked links.now × Room values.now }
+    ensures { result ≡ stays_on stop (wires_in links.now values.now) }
 {
     if stop != 0 {
         return false;
@@ -120,8 +120,8 @@ pub fn goes_on(links: &[usize], values: &[u8], stop: u64) -> bool
 
 // The runs of Loop g are over: the Break before it is as it was, and the Loop shows what they came to.
 pub fn loop_over(links: &[usize], values: &mut [u8], g: usize, broke: bool, looped: Looped) -> Ran
-    requires { Linked links × Room values }
-    ensures { OverValues links values (λ c old new. EndsLoop c g broke looped old new result) }
+    requires { Linked links.now × Room values.old }
+    ensures { OverValues links.now (values.old, values.new) (λ c old new. EndsLoop c g broke looped old new result) }
 {
     if looped.stop != 0 {
         return Ran {

@@ -1,4 +1,6 @@
 // Chains, and the Loops that they run: chain, operation, loop and body call each other, with the nesting that is left falling.
+#![tactic(auto)]
+
 ghost use Rattle.model.specs.Loops.{operate, run_nested, run_body, run_loop, run_chain};
 ghost use Rattle.model.specs.Chain.{chained};
 ghost use Rattle.links.specs.Lent.{Linked, net_of};
@@ -31,9 +33,9 @@ fn run_body(
     i: u64,
     nesting: usize,
 ) -> Ran
-    requires { AllLent links values units delays }
-    ensures over_all { OverAll links values units delays (λ c old new. Runs old new result (run_body c nesting g i (started old left))) }
-    ensures slots_stay { SlotsStay links delays }
+    requires { AllLent links.now values.old units.old delays.old }
+    ensures over_all { OverAll links.now (values.old, values.new) (units.old, units.new) (delays.old, delays.new) (λ c old new. Runs old new result (run_body c nesting g i (started old left))) }
+    ensures slots_stay { SlotsStay links.now delays.new }
 {
     if nesting == 0 {
         return Ran {
@@ -72,9 +74,9 @@ fn iterate(
     step: u64,
     nesting: usize,
 ) -> Looped
-    requires { AllLent links values units delays }
-    ensures over_all { OverAll links values units delays (λ c old new. LoopsAs old new result (looping c nesting g first step count 0 (started old left))) }
-    ensures slots_stay { SlotsStay links delays }
+    requires { AllLent links.now values.old units.old delays.old }
+    ensures over_all { OverAll links.now (values.old, values.new) (units.old, units.new) (delays.old, delays.new) (λ c old new. LoopsAs old new result (looping c nesting g first step count 0 (started old left))) }
+    ensures slots_stay { SlotsStay links.now delays.new }
 {
     let mut rest = left;
     let mut done = 0;
@@ -119,9 +121,9 @@ fn run_loop(
     g: usize,
     nesting: usize,
 ) -> Ran
-    requires { AllLent links values units delays }
-    ensures over_all { OverAll links values units delays (λ c old new. Runs old new result (run_loop c (run_body c nesting) g (started old left))) }
-    ensures slots_stay { SlotsStay links delays }
+    requires { AllLent links.now values.old units.old delays.old }
+    ensures over_all { OverAll links.now (values.old, values.new) (units.old, units.new) (delays.old, delays.new) (λ c old new. Runs old new result (run_loop c (run_body c nesting) g (started old left))) }
+    ensures slots_stay { SlotsStay links.now delays.new }
 {
     let counts = begin_loop(links, values, g);
     let looped = iterate(
@@ -151,9 +153,9 @@ fn operate(
     nesting: usize,
     inside: bool,
 ) -> Ran
-    requires { AllLent links values units delays }
-    ensures over_all { OverAll links values units delays (λ c old new. Runs old new result (operate c (run_body c nesting) inside i (started old left))) }
-    ensures slots_stay { SlotsStay links delays }
+    requires { AllLent links.now values.old units.old delays.old }
+    ensures over_all { OverAll links.now (values.old, values.new) (units.old, units.new) (delays.old, delays.new) (λ c old new. Runs old new result (operate c (run_body c nesting) inside i (started old left))) }
+    ensures slots_stay { SlotsStay links.now delays.new }
 {
     let g = gate_at_input(links, i);
     let k = kind_of_gate(links, g);
@@ -179,9 +181,9 @@ fn run_nested(
     nesting: usize,
     inside: bool,
 ) -> Ran
-    requires { AllLent links values units delays }
-    ensures over_all { OverAll links values units delays (λ c old new. Runs old new result (run_nested c (run_body c nesting) inside under (going_on old run))) }
-    ensures slots_stay { SlotsStay links delays }
+    requires { AllLent links.now values.old units.old delays.old }
+    ensures over_all { OverAll links.now (values.old, values.new) (units.old, units.new) (delays.old, delays.new) (λ c old new. Runs old new result (run_nested c (run_body c nesting) inside under (going_on old run))) }
+    ensures slots_stay { SlotsStay links.now delays.new }
 {
     if run.stop != 0 {
         return run;
@@ -229,9 +231,9 @@ pub fn run_chain(
     delays: &mut [u8],
     left: u64,
 ) -> Ran
-    requires { AllLent links values units delays }
-    ensures over_all { OverAll links values units delays (λ c old new. Runs old new result (run_chain c left old.calls old.state)) }
-    ensures slots_stay { SlotsStay links delays }
+    requires { AllLent links.now values.old units.old delays.old }
+    ensures over_all { OverAll links.now (values.old, values.new) (units.old, units.new) (delays.old, delays.new) (λ c old new. Runs old new result (run_chain c left old.calls old.state)) }
+    ensures slots_stay { SlotsStay links.now delays.new }
 {
     let begun = Ran {
         left: left,

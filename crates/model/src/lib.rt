@@ -1,4 +1,6 @@
 // A value on a wire. An Int and a Float are their 64 bits.
+#![tactic(auto)]
+
 #[derive(Drop)]
 pub enum Value {
     Nothing,

@@ -17,6 +17,6 @@ abbrev pub given_at : Circuit → List ℕ → ℕ → ℕ → ℕ → ℕ → G
 given_at c ws dt gates constants n = record { dt = dt; stimuli = stimuli_of c ws gates constants n }
 
 -- a gate moved on as f has it, and n Fires of gate g are still to be filed
-abbrev pub MovesGate : Slice → Slice → Slice → (Circuit → State → Opened) → Place → ℕ → ℕ → Type 0
+abbrev pub MovesGate : List ℕ → Slice → Slice → (Circuit → State → Opened) → Place → ℕ → ℕ → Type 0
 MovesGate links vs ds f p g n =
-    MovesOn (values_in links vs) (values_out links vs) (delays (net_of links) (before ds)) (delays (net_of links) (after ds)) (f (net_of links)) p g n
+    MovesOn (values_in links (before vs)) (values_out links (after vs)) (delays (net_of links) (before ds)) (delays (net_of links) (after ds)) (f (net_of links)) p g n

@@ -1,6 +1,7 @@
 // What the opening files in the lists of a tick: Fires, delivered events, stimuli. Each stops at the first that finds its list full.
+ghost use Rattle.words.specs.Words.{words};
 ghost use Rattle.std.specs.Prelude.{◌≡◌, ◌&&◌, [], ◌∷◌, map, ◌+◌, eqb};
-ghost use Rattle.words.specs.Slices.{was, HasWords};
+ghost use Rattle.words.specs.Slices.{HasWords};
 ghost use Rattle.schedule.specs.Schedule.{to_late, to_delivered, to_pending};
 ghost use Rattle.model.specs.Base.{joined};
 ghost use Rattle.model.specs.Value.{same};
@@ -34,8 +35,8 @@ pub fn is_full(r: Filed) -> bool
 
 // n Fires of gate g, to late.
 pub fn fire_late(links: &[usize], units: &mut [u8], g: usize, n: usize) -> Filed
-    requires { Linked links × Room units × Short g }
-    ensures { UnitsChange links units (λ c old new. Puts c old new result to_late (fire n g)) }
+    requires { Linked links.now × Room units.old × Short g }
+    ensures { UnitsChange links.now (units.old, units.new) (λ c old new. Puts c old new result to_late (fire n g)) }
 {
     let x = entry(g, FIRE, 0);
     let mut k = 0;
@@ -51,8 +52,8 @@ pub fn fire_late(links: &[usize], units: &mut [u8], g: usize, n: usize) -> Filed
 
 // One Fire of gate g, to pending.
 pub fn fire_pending(links: &[usize], units: &mut [u8], g: usize) -> Filed
-    requires { Linked links × Room units × Short g }
-    ensures { UnitsChange links units (λ c old new. Puts c old new result to_pending (fire 1 g)) }
+    requires { Linked links.now × Room units.old × Short g }
+    ensures { UnitsChange links.now (units.old, units.new) (λ c old new. Puts c old new result to_pending (fire 1 g)) }
 {
     activate(links, units, Place::Pending, entry(g, FIRE, 0))
 }
@@ -61,8 +62,8 @@ pub fn fire_pending(links: &[usize], units: &mut [u8], g: usize) -> Filed
 
 // Whether gate r receives what a gate of this kind sends on this channel.
 fn receives(links: &[usize], kind: u64, channel: Value, r: usize) -> bool
-    requires { Linked links }
-    ensures { result ≡ (eqb (kind_of_gate (net_of links) r) (kind + 2) && same channel (setting (net_of links) r 0)) }
+    requires { Linked links.now }
+    ensures { result ≡ (eqb (kind_of_gate (net_of links.now) r) (kind + 2) && same channel (setting (net_of links.now) r 0)) }
 {
     let k = kind_of_gate(links, r);
     if k < 2 {
@@ -83,8 +84,8 @@ fn deliver_to(
     e: usize,
     r: usize,
 ) -> Filed
-    requires { Linked links × Room units × Short e × Short r }
-    ensures { UnitsChange links units (λ c old new. Puts c old new result to_delivered (heard_by c kind channel (event old e).row (r ∷ []))) }
+    requires { Linked links.now × Room units.old × Short e × Short r }
+    ensures { UnitsChange links.now (units.old, units.new) (λ c old new. Puts c old new result to_delivered (heard_by c kind channel (event old e).row (r ∷ []))) }
 {
     if receives(links, kind, channel, r) {
         return deliver(units, r, e);
@@ -94,8 +95,8 @@ fn deliver_to(
 
 // Event e of the tick before, to the receivers of its channel, in their order.
 fn deliver_event(links: &[usize], units: &mut [u8], e: usize) -> Filed
-    requires { Linked links × Room units × Short e }
-    ensures { UnitsChange links units (λ c old new. Puts c old new result to_delivered (delivered c (event old e))) }
+    requires { Linked links.now × Room units.old × Short e }
+    ensures { UnitsChange links.now (units.old, units.new) (λ c old new. Puts c old new result to_delivered (delivered c (event old e))) }
 {
     let g = sender(units, e);
     let kind = kind_of_gate(links, g);
@@ -115,8 +116,8 @@ fn deliver_event(links: &[usize], units: &mut [u8], e: usize) -> Filed
 
 // All events of the tick before, in the order sent.
 pub fn deliver_all(links: &[usize], units: &mut [u8]) -> Filed
-    requires { Linked links × Room units }
-    ensures { UnitsChange links units (λ c old new. Puts c old new result to_delivered (joined (map (delivered c) old.events))) }
+    requires { Linked links.now × Room units.old }
+    ensures { UnitsChange links.now (units.old, units.new) (λ c old new. Puts c old new result to_delivered (joined (map (delivered c) old.events))) }
 {
     let n = events(units);
     let mut e = 0;
@@ -141,8 +142,8 @@ pub fn stimulate(
     constants_at: usize,
     n: usize,
 ) -> Filed
-    requires { Linked links × Room units × HasWords script gates_at n × HasWords script constants_at n }
-    ensures { UnitsChange links units (λ c old new. Puts c old new result to_late (stimuli_of c (was script) gates_at constants_at n)) }
+    requires { Linked links.now × Room units.old × HasWords script.now gates_at n × HasWords script.now constants_at n }
+    ensures { UnitsChange links.now (units.old, units.new) (λ c old new. Puts c old new result to_late (stimuli_of c (words script.now) gates_at constants_at n)) }
 {
     let mut k = 0;
     while k < n {

@@ -1,6 +1,9 @@
 // The opening of a tick: all that comes before its passes.
+#![tactic(auto)]
+
+ghost use Rattle.words.specs.Words.{words};
 ghost use Rattle.std.specs.Prelude.{◌≡◌};
-ghost use Rattle.words.specs.Slices.{was, HasWords};
+ghost use Rattle.words.specs.Slices.{HasWords};
 ghost use Rattle.model.specs.Value.{narrow};
 ghost use Rattle.model.specs.Opening.{begin_tick};
 ghost use Rattle.links.specs.Lent.{Linked, Room};
@@ -36,9 +39,9 @@ fn begin_tick(
     delays: &mut [u8],
     dt: u64,
 ) -> u32
-    requires { AllLent links values units delays × TickFits links values }
-    ensures over_all { OverAll links values units delays (λ c old new. new ≡ with_state (reopened c old) (begin_tick old.state dt)) }
-    ensures value { (result ≡ narrow dt) × SlotsStay links delays }
+    requires { AllLent links.now values.old units.old delays.old × TickFits links.now values.old }
+    ensures over_all { OverAll links.now (values.old, values.new) (units.old, units.new) (delays.old, delays.new) (λ c old new. new ≡ with_state (reopened c old) (begin_tick old.state dt)) }
+    ensures value { (result ≡ narrow dt) × SlotsStay links.now delays.new }
 {
     let length = narrow(dt);
     units::raising::next_tick(links, units);
@@ -56,8 +59,8 @@ fn arrive(
     constants_at: usize,
     n: usize,
 ) -> Filed
-    requires { Linked links × Room units × HasWords script gates_at n × HasWords script constants_at n }
-    ensures { OverUnits links units (λ c old new. Opens c old new result (arrived c old.state old.kept.events (stimuli_of c (was script) gates_at constants_at n))) }
+    requires { Linked links.now × Room units.old × HasWords script.now gates_at n × HasWords script.now constants_at n }
+    ensures { OverUnits links.now (units.old, units.new) (λ c old new. Opens c old new result (arrived c old.state old.kept.events (stimuli_of c (words script.now) gates_at constants_at n))) }
 {
     let r = deliver_all(links, units);
     if is_full(r) {
@@ -74,9 +77,9 @@ fn advance(
     delays: &mut [u8],
     dt: u32,
 ) -> Filed
-    requires { AllLent links values units delays }
-    ensures over_all { OverAll links values units delays (λ c old new. Opens c old new result (advanced_all c dt old.state)) }
-    ensures slots_stay { SlotsStay links delays }
+    requires { AllLent links.now values.old units.old delays.old }
+    ensures over_all { OverAll links.now (values.old, values.new) (units.old, units.new) (delays.old, delays.new) (λ c old new. Opens c old new result (advanced_all c dt old.state)) }
+    ensures slots_stay { SlotsStay links.now delays.new }
 {
     let r = advance_buffers(links, values, units, delays, dt);
     if is_full(r) {
@@ -91,9 +94,9 @@ fn advance(
 
 // Ended pulses fall, gates move on, time sources become stale, and what waits is settled; dt is the tick's length in f32 bits.
 fn finish(links: &[usize], values: &mut [u8], units: &mut [u8], delays: &mut [u8], dt: u32) -> Filed
-    requires { AllLent links values units delays }
-    ensures over_all { OverAll links values units delays (λ c old new. Opens c old new result (finished c (advanced_all c dt (lowered c old.state)))) }
-    ensures slots_stay { SlotsStay links delays }
+    requires { AllLent links.now values.old units.old delays.old }
+    ensures over_all { OverAll links.now (values.old, values.new) (units.old, units.new) (delays.old, delays.new) (λ c old new. Opens c old new result (finished c (advanced_all c dt (lowered c old.state)))) }
+    ensures slots_stay { SlotsStay links.now delays.new }
 {
     lower_all(links, values);
     let r = advance(links, values, units, delays, dt);
@@ -120,9 +123,9 @@ pub fn open(
     n: usize,
     dt: u64,
 ) -> Filed
-    requires { Linked links × Room values × Room units × Slots links delays × HasWords script gates_at n × HasWords script constants_at n × TickFits links values }
-    ensures over_all { OverAll links values units delays (λ c old new. Goes (reopened c old) new result (opened c old (given_at c (was script) dt gates_at constants_at n))) }
-    ensures slots_stay { SlotsStay links delays }
+    requires { Linked links.now × Room values.old × Room units.old × Slots links.now delays.old × HasWords script.now gates_at n × HasWords script.now constants_at n × TickFits links.now values.old }
+    ensures over_all { OverAll links.now (values.old, values.new) (units.old, units.new) (delays.old, delays.new) (λ c old new. Goes (reopened c old) new result (opened c old (given_at c (words script.now) dt gates_at constants_at n))) }
+    ensures slots_stay { SlotsStay links.now delays.new }
 {
     let length = begin_tick(links, values, units, delays, dt);
     let r = arrive(links, units, script, gates_at, constants_at, n);

@@ -50,9 +50,9 @@ fn set_row(links: &[usize], values: &mut [u8], o: usize, kinds: [u64; 8], conten
 
 // Value buffer g moves on, and shows what lands.
 fn land(links: &[usize], values: &mut [u8], delays: &mut [u8], g: usize, dt: u32)
-    requires { Linked links × Room values × Slots links delays }
-    ensures moves_gate { MovesGate links values delays (λ c. landing c dt g) to_late g 0 }
-    ensures slots_stay { SlotsStay links delays }
+    requires { Linked links.now × Room values.old × Slots links.now delays.old }
+    ensures moves_gate { MovesGate links.now (values.old, values.new) (delays.old, delays.new) (λ c. landing c dt g) to_late g 0 }
+    ensures slots_stay { SlotsStay links.now delays.new }
 {
     let landed = buffer_advance(links, delays, g, dt);
     match landed {
@@ -63,9 +63,9 @@ fn land(links: &[usize], values: &mut [u8], delays: &mut [u8], g: usize, dt: u32
 
 // Queue g moves on, and shows the record that leaves: whether one does.
 fn release(links: &[usize], values: &mut [u8], delays: &mut [u8], g: usize, dt: u32) -> bool
-    requires { Linked links × Room values × Slots links delays × (is_queue (net links.now) g ≡ true) }
-    ensures moves_gate { MovesGate links values delays (λ c. releasing c dt g) to_late g (bit result) }
-    ensures slots_stay { SlotsStay links delays }
+    requires { Linked links.now × Room values.old × Slots links.now delays.old × (is_queue (net links.now) g ≡ true) }
+    ensures moves_gate { MovesGate links.now (values.old, values.new) (delays.old, delays.new) (λ c. releasing c dt g) to_late g (bit result) }
+    ensures slots_stay { SlotsStay links.now delays.new }
 {
     let r = queue_advance(links, delays, g, dt);
     if r.due {
@@ -86,9 +86,9 @@ fn advance_queue(
     g: usize,
     dt: u32,
 ) -> Filed
-    requires { Linked links × Room values × Room units × Slots links delays × Short g × (is_queue (net links.now) g ≡ true) }
-    ensures over_all { OverAll links values units delays (λ c old new. Opens c old new result (releasing c dt g old.state)) }
-    ensures slots_stay { SlotsStay links delays }
+    requires { Linked links.now × Room values.old × Room units.old × Slots links.now delays.old × Short g × (is_queue (net links.now) g ≡ true) }
+    ensures over_all { OverAll links.now (values.old, values.new) (units.old, units.new) (delays.old, delays.new) (λ c old new. Opens c old new result (releasing c dt g old.state)) }
+    ensures slots_stay { SlotsStay links.now delays.new }
 {
     if release(links, values, delays, g, dt) {
         return fire_late(links, units, g, 1);
@@ -105,9 +105,9 @@ fn advance_buffer(
     g: usize,
     dt: u32,
 ) -> Filed
-    requires { Linked links × Room values × Room units × Slots links delays × Short g }
-    ensures over_all { OverAll links values units delays (λ c old new. Opens c old new result (advance_buffer c dt (unopened old.state) g)) }
-    ensures slots_stay { SlotsStay links delays }
+    requires { Linked links.now × Room values.old × Room units.old × Slots links.now delays.old × Short g }
+    ensures over_all { OverAll links.now (values.old, values.new) (units.old, units.new) (delays.old, delays.new) (λ c old new. Opens c old new result (advance_buffer c dt (unopened old.state) g)) }
+    ensures slots_stay { SlotsStay links.now delays.new }
 {
     match kind_of_gate(links, g) {
         // a value buffer, in ticks or in seconds
@@ -134,9 +134,9 @@ pub fn advance_buffers(
     delays: &mut [u8],
     dt: u32,
 ) -> Filed
-    requires { AllLent links values units delays }
-    ensures over_all { OverAll links values units delays (λ c old new. Opens c old new result (each (advance_buffer c dt) (unopened old.state) c.buffers)) }
-    ensures slots_stay { SlotsStay links delays }
+    requires { AllLent links.now values.old units.old delays.old }
+    ensures over_all { OverAll links.now (values.old, values.new) (units.old, units.new) (delays.old, delays.new) (λ c old new. Opens c old new result (each (advance_buffer c dt) (unopened old.state) c.buffers)) }
+    ensures slots_stay { SlotsStay links.now delays.new }
 {
     let mut d = buffers(links);
     let mut g = first_gate(d);
@@ -155,8 +155,8 @@ pub fn advance_buffers(
 
 // The interval of Clock g: what input i reads, else its setting, else 1.0.
 fn interval(links: &[usize], values: &[u8], g: usize, i: usize) -> u64
-    requires { Linked links × Room values }
-    ensures { result ≡ as_float (as_float one_point_zero (setting (net_of links) g 2)) (look (net_of links) (wires_in links values) i) }
+    requires { Linked links.now × Room values.now }
+    ensures { result ≡ as_float (as_float one_point_zero (setting (net_of links.now) g 2)) (look (net_of links.now) (wires_in links.now values.now) i) }
 {
     let other = as_float(setting(links, g, 2), ONE);
     as_float(look(links, values, i), other)
@@ -164,9 +164,9 @@ fn interval(links: &[usize], values: &[u8], g: usize, i: usize) -> u64
 
 // Clock g moves on: whether it fires. Both inputs are read, also where it is not enabled.
 fn move_clock(links: &[usize], values: &mut [u8], delays: &mut [u8], g: usize) -> bool
-    requires { Linked links × Room values × Slots links delays }
-    ensures moves_gate { MovesGate links values delays (λ c s. advance_clock c (unopened s) g) to_pending g (bit result) }
-    ensures slots_stay { SlotsStay links delays }
+    requires { Linked links.now × Room values.old × Slots links.now delays.old }
+    ensures moves_gate { MovesGate links.now (values.old, values.new) (delays.old, delays.new) (λ c s. advance_clock c (unopened s) g) to_pending g (bit result) }
+    ensures slots_stay { SlotsStay links.now delays.new }
 {
     let i = input(links, g, 0);
     ready(links, values, i);
@@ -185,9 +185,9 @@ fn advance_clock(
     delays: &mut [u8],
     g: usize,
 ) -> Filed
-    requires { Linked links × Room values × Room units × Slots links delays × Short g }
-    ensures over_all { OverAll links values units delays (λ c old new. Opens c old new result (advance_clock c (unopened old.state) g)) }
-    ensures slots_stay { SlotsStay links delays }
+    requires { Linked links.now × Room values.old × Room units.old × Slots links.now delays.old × Short g }
+    ensures over_all { OverAll links.now (values.old, values.new) (units.old, units.new) (delays.old, delays.new) (λ c old new. Opens c old new result (advance_clock c (unopened old.state) g)) }
+    ensures slots_stay { SlotsStay links.now delays.new }
 {
     if move_clock(links, values, delays, g) {
         return fire_pending(links, units, g);
@@ -202,9 +202,9 @@ pub fn advance_clocks(
     units: &mut [u8],
     delays: &mut [u8],
 ) -> Filed
-    requires { AllLent links values units delays }
-    ensures over_all { OverAll links values units delays (λ c old new. Opens c old new result (each (advance_clock c) (unopened old.state) c.clocks)) }
-    ensures slots_stay { SlotsStay links delays }
+    requires { AllLent links.now values.old units.old delays.old }
+    ensures over_all { OverAll links.now (values.old, values.new) (units.old, units.new) (delays.old, delays.new) (λ c old new. Opens c old new result (each (advance_clock c) (unopened old.state) c.clocks)) }
+    ensures slots_stay { SlotsStay links.now delays.new }
 {
     let mut d = clocks(links);
     let mut g = first_gate(d);
@@ -223,8 +223,8 @@ pub fn advance_clocks(
 
 // Stopwatch g shows its time, if it shows it anew.
 fn show_time(links: &[usize], values: &mut [u8], g: usize, shows: bool, time: u64)
-    requires { Linked links × Room values }
-    ensures { Turns links values (λ c w. set_outs c w (output c g 0) (if shows then Float time ∷ [] else [])) }
+    requires { Linked links.now × Room values.old }
+    ensures { Turns links.now (values.old, values.new) (λ c w. set_outs c w (output c g 0) (if shows then Float time ∷ [] else [])) }
 {
     if shows {
         set_out(links, values, output(links, g, 0), Value::Float(time));
@@ -233,9 +233,9 @@ fn show_time(links: &[usize], values: &mut [u8], g: usize, shows: bool, time: u6
 
 // Stopwatch g moves on, and shows its time: whether it expires. Its limit is read, also where it stands still.
 fn move_timer(links: &[usize], values: &mut [u8], delays: &mut [u8], g: usize) -> bool
-    requires { Linked links × Room values × Slots links delays }
-    ensures moves_gate { MovesGate links values delays (λ c s. advance_timer c (unopened s) g) to_late g (bit result) }
-    ensures slots_stay { SlotsStay links delays }
+    requires { Linked links.now × Room values.old × Slots links.now delays.old }
+    ensures moves_gate { MovesGate links.now (values.old, values.new) (delays.old, delays.new) (λ c s. advance_timer c (unopened s) g) to_late g (bit result) }
+    ensures slots_stay { SlotsStay links.now delays.new }
 {
     let i = input(links, g, 3);
     ready(links, values, i);
@@ -254,9 +254,9 @@ fn advance_timer(
     delays: &mut [u8],
     g: usize,
 ) -> Filed
-    requires { Linked links × Room values × Room units × Slots links delays × Short g }
-    ensures over_all { OverAll links values units delays (λ c old new. Opens c old new result (advance_timer c (unopened old.state) g)) }
-    ensures slots_stay { SlotsStay links delays }
+    requires { Linked links.now × Room values.old × Room units.old × Slots links.now delays.old × Short g }
+    ensures over_all { OverAll links.now (values.old, values.new) (units.old, units.new) (delays.old, delays.new) (λ c old new. Opens c old new result (advance_timer c (unopened old.state) g)) }
+    ensures slots_stay { SlotsStay links.now delays.new }
 {
     if move_timer(links, values, delays, g) {
         return fire_late(links, units, g, 1);
@@ -271,9 +271,9 @@ pub fn advance_timers(
     units: &mut [u8],
     delays: &mut [u8],
 ) -> Filed
-    requires { AllLent links values units delays }
-    ensures over_all { OverAll links values units delays (λ c old new. Opens c old new result (each (advance_timer c) (unopened old.state) c.stopwatches)) }
-    ensures slots_stay { SlotsStay links delays }
+    requires { AllLent links.now values.old units.old delays.old }
+    ensures over_all { OverAll links.now (values.old, values.new) (units.old, units.new) (delays.old, delays.new) (λ c old new. Opens c old new result (each (advance_timer c) (unopened old.state) c.stopwatches)) }
+    ensures slots_stay { SlotsStay links.now delays.new }
 {
     let mut d = stopwatches(links);
     let mut g = first_gate(d);

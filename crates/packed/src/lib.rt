@@ -1,5 +1,6 @@
 // What the programs that play the oracle's packed files share: packed words read from a file, the words lent for what is told, and what a call leaves compared.
-ghost use Rattle.words.specs.Slices.{before};
+#![tactic(auto)]
+
 ghost use Rattle.packed.specs.Read.{MissingIs0, HasRoom};
 
 pub mod filled;
@@ -41,7 +42,7 @@ pub fn next_word(fd: i32) -> Word
 
 // Reads as many packed words as hold so many bytes to the front of a buffer of whole words: whether they were there whole, and have room.
 pub fn next_bytes(fd: i32, buffer: &mut [u8], bytes: usize) -> bool
-    ensures { HasRoom result bytes (before buffer) }
+    ensures { HasRoom result bytes buffer.old }
 {
     if buffer.len() < bytes {
         return false;
@@ -61,7 +62,7 @@ pub fn next_bytes(fd: i32, buffer: &mut [u8], bytes: usize) -> bool
 
 // Reads n packed words to the front of these: whether they were there whole, and have room.
 pub fn next_words(fd: i32, told: &mut [u64], n: usize) -> bool
-    ensures { HasRoom result n (before told) }
+    ensures { HasRoom result n told.old }
 {
     if told.len() < n {
         return false;

@@ -1,11 +1,10 @@
 // Bytes compared, and words.
 ghost use Rattle.std.specs.Prelude.{◌≡◌};
-ghost use Rattle.words.specs.Slices.{before};
 ghost use Rattle.packed.specs.Same.{same};
 
 // Whether both are of one length, with the same bytes.
 pub fn is_same(a: &[u8], b: &[u8]) -> bool
-    ensures { result ≡ same (before a) (before b) }
+    ensures { result ≡ same a.now b.now }
 {
     let n = a.len();
     if b.len() != n {
@@ -23,7 +22,7 @@ pub fn is_same(a: &[u8], b: &[u8]) -> bool
 
 // Whether both are of one length, with the same words.
 pub fn is_same_words(told: &[u64], due: &[u64]) -> bool
-    ensures { result ≡ same (before told) (before due) }
+    ensures { result ≡ same told.now due.now }
 {
     let n = told.len();
     if due.len() != n {

@@ -1,4 +1,6 @@
 // The late pass and the main pass of a tick.
+#![tactic(auto)]
+
 ghost use Rattle.std.specs.Prelude.{◌≡◌, List, ◌<◌, ◌-◌, length};
 ghost use Rattle.schedule.specs.Schedule.{most_units};
 ghost use Rattle.model.specs.Circuit.{Circuit};
@@ -37,8 +39,8 @@ pub enum Next {
 
 // How many units may still begin.
 fn units_left(units: &[u8]) -> usize
-    requires { Room units }
-    ensures { Reads units (λ _ u. result ≡ most_units - length u.begun) }
+    requires { Room units.now }
+    ensures { Reads units.now (λ _ u. result ≡ most_units - length u.begun) }
 {
     let n = begun(units);
     if n < MOST_UNITS { MOST_UNITS - n } else { 0 }
@@ -64,9 +66,9 @@ fn begin(
     left: u64,
     to: Place,
 ) -> Ran
-    requires { Linked links × Room values × Room units × Slots links delays × FewCalls (net links.now) × (length (view (net links.now) units.old).begun < most_units) }
-    ensures over_all { OverAll links values units delays (λ c old new. BeginsUnit c old new a left to result) }
-    ensures slots_stay { SlotsStay links delays }
+    requires { Linked links.now × Room values.old × Room units.old × Slots links.now delays.old × FewCalls (net links.now) × (length (view (net links.now) units.old).begun < most_units) }
+    ensures over_all { OverAll links.now (values.old, values.new) (units.old, units.new) (delays.old, delays.new) (λ c old new. BeginsUnit c old new a left to result) }
+    ensures slots_stay { SlotsStay links.now delays.new }
 {
     begin_unit(units, listed(a));
     unit(links, values, units, delays, a, left, to)
@@ -74,8 +76,8 @@ fn begin(
 
 // The next one of the late pass is taken off: of the late list, and where that is empty of the delivered events.
 fn next_late(units: &mut [u8]) -> Next
-    requires { Room units }
-    ensures { Changes units (λ c old new. Takes c old new result) }
+    requires { Room units.old }
+    ensures { Changes (units.old, units.new) (λ c old new. Takes c old new result) }
 {
     match take_late(units) {
         Taken::Entry(x) => Next::Begins(Act::Waiting(x)),
@@ -88,8 +90,8 @@ fn next_late(units: &mut [u8]) -> Next
 
 // The end of a late pass in which no unit may begin any more: a stop if one waits.
 fn late_over(units: &[u8], left: u64) -> Ran
-    requires { Room units }
-    ensures { Reads units (λ _ u. (result.left ≡ left) × (result.stop ≡ over (next_of u.lists.late u.lists.delivered))) }
+    requires { Room units.now }
+    ensures { Reads units.now (λ _ u. (result.left ≡ left) × (result.stop ≡ over (next_of u.lists.late u.lists.delivered))) }
 {
     if late(units) != 0 {
         return Ran {
@@ -114,10 +116,10 @@ pub fn late_pass(
     delays: &mut [u8],
     left: u64,
 ) -> Ran
-    requires { Linked links × Room values × Room units × Slots links delays × FewCalls (net links.now) }
-    ensures over_all { OverAll links values units delays (λ c old new. PassesLate c old new left result) }
-    ensures over_all_2 { OverAll links values units delays (λ _ old new. LeavesMain old new) }
-    ensures slots_stay { SlotsStay links delays }
+    requires { Linked links.now × Room values.old × Room units.old × Slots links.now delays.old × FewCalls (net links.now) }
+    ensures over_all { OverAll links.now (values.old, values.new) (units.old, units.new) (delays.old, delays.new) (λ c old new. PassesLate c old new left result) }
+    ensures over_all_2 { OverAll links.now (values.old, values.new) (units.old, units.new) (delays.old, delays.new) (λ _ old new. LeavesMain old new) }
+    ensures slots_stay { SlotsStay links.now delays.new }
 {
     let mut rest = left;
     let mut n = units_left(units);
@@ -142,8 +144,8 @@ pub fn late_pass(
 
 // The end of a main pass in which no unit may begin any more: a stop if one waits.
 fn main_over(units: &[u8], left: u64) -> Ran
-    requires { Room units }
-    ensures { Reads units (λ _ u. (result.left ≡ left) × (result.stop ≡ over (first_of u.lists.pending))) }
+    requires { Room units.now }
+    ensures { Reads units.now (λ _ u. (result.left ≡ left) × (result.stop ≡ over (first_of u.lists.pending))) }
 {
     if pending(units) != 0 {
         return Ran {
@@ -162,9 +164,9 @@ pub fn main_pass(
     delays: &mut [u8],
     left: u64,
 ) -> Ran
-    requires { Linked links × Room values × Room units × Slots links delays × FewCalls (net links.now) }
-    ensures over_all { OverAll links values units delays (λ c old new. PassesMain c old new left result) }
-    ensures slots_stay { SlotsStay links delays }
+    requires { Linked links.now × Room values.old × Room units.old × Slots links.now delays.old × FewCalls (net links.now) }
+    ensures over_all { OverAll links.now (values.old, values.new) (units.old, units.new) (delays.old, delays.new) (λ c old new. PassesMain c old new left result) }
+    ensures slots_stay { SlotsStay links.now delays.new }
 {
     let mut rest = left;
     let mut n = units_left(units);

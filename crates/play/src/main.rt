@@ -1,6 +1,7 @@
 // Plays script.bin over circuit.bin, both in the folder that the program runs in, and prints the records and how the run ended, or the refusal.
+#![tactic(auto)]
+
 ghost use Rattle.std.specs.Prelude.{◌^◌, ◌<◌};
-ghost use Rattle.words.specs.Slices.{after};
 ghost use Rattle.io.specs.Counts.{IsPrefixLen};
 
 mod outputs;
@@ -77,7 +78,7 @@ struct Contents {
 
 // Reads a file to the front of a buffer. A file that ends later than the buffer, or cannot be read to its end, is not whole.
 fn read_file(name: &[u8], buffer: &mut [u8]) -> Contents
-    ensures { IsPrefixLen result.bytes (after buffer) }
+    ensures { IsPrefixLen result.bytes buffer.new }
 {
     let fd = os::open_read(name);
     if fd < 0 {

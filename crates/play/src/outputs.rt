@@ -1,6 +1,6 @@
 // How many outputs the records of a circuit show.
+ghost use Rattle.words.specs.Words.{words};
 ghost use Rattle.std.specs.Prelude.{◌≡◌, true, ◌≤◌, length};
-ghost use Rattle.words.specs.Slices.{before, was};
 // The definition `circuit` is named for what it is of, beside the slice of that name.
 ghost use Rattle.model.specs.Circuit.{circuit as circuit_of};
 ghost use Rattle.model.specs.Questions.{question_1};
@@ -13,8 +13,8 @@ use words::read;
 
 // How many outputs the circuit has.
 pub fn outputs(circuit: &[u8]) -> usize
-    ensures value { result ≡ outputs_of (was circuit) }
-    ensures value_2 { question_1 (before circuit) (was circuit) ≡ true → result ≡ length (circuit_of (was circuit)).outputs }
+    ensures value { result ≡ outputs_of (words circuit.now) }
+    ensures value_2 { question_1 circuit.now (words circuit.now) ≡ true → result ≡ length (circuit_of (words circuit.now)).outputs }
     ensures upper_bound { result ≤ most_outputs }
 {
     let gates = least(read(circuit, 0), MOST_GATES);

@@ -8,7 +8,7 @@ ghost use Rattle.play.specs.Text.{decimal, spelled};
 // Adds a byte behind the first `at`, and answers how many there are then.
 fn add_byte(text: &mut [u8], at: usize, byte: u8) -> usize
     requires { at < length text.old }
-    ensures text_value { take result (after text) ≡ take at (before text) ++ (byte ∷ []) }
+    ensures text_value { take result text.new ≡ take at text.old ++ (byte ∷ []) }
     ensures value { result ≡ at + 1 }
 {
     text[at] = byte;
@@ -30,7 +30,7 @@ fn put_digits(text: &mut [u8], at: usize, digits: &[u8; 20], n: usize)
 // Adds a number in decimal.
 fn add_decimal(text: &mut [u8], at: usize, number: u64) -> usize
     requires { at + 20 ≤ length text.old }
-    ensures text_value { take result (after text) ≡ take at (before text) ++ decimal number }
+    ensures text_value { take result text.new ≡ take at text.old ++ decimal number }
     ensures lower_bound { (at ≤ result) × (result ≤ at + 20) }
 {
     let mut digits = [0u8; 20];
@@ -42,8 +42,8 @@ fn add_decimal(text: &mut [u8], at: usize, number: u64) -> usize
 // Adds a word in signed decimal, and the byte behind it.
 pub fn add_word(text: &mut [u8], at: usize, word: u64, last: u8) -> usize
     requires { at + 22 ≤ length text.old }
-    ensures text_value { take result (after text) ≡ take at (before text) ++ (spelled word ++ (last ∷ [])) }
-    ensures prefix_len { IsPrefixLen result (after text) }
+    ensures text_value { take result text.new ≡ take at text.old ++ (spelled word ++ (last ∷ [])) }
+    ensures prefix_len { IsPrefixLen result text.new }
 {
     if word < 0x8000_0000_0000_0000 {
         let end = add_decimal(text, at, word);

@@ -1,7 +1,8 @@
 // The player as C functions, for a host program in Rust or C.
+#![tactic(auto)]
+
 ghost use Rattle.std.specs.Prelude.{◌≡◌};
 ghost use Rattle.std.proofs.Math.Option.{none};
-ghost use Rattle.words.specs.Slices.{before, after};
 ghost use Rattle.model.specs.Questions.{refusal};
 ghost use Rattle.run.specs.Call.{RightCall};
 ghost use Rattle.class.specs.Call.{Right as RightClass, call_of, left_of};
@@ -15,7 +16,7 @@ use telling::{number_of, tell_end};
 // The number of the first question whose answer is no, for a call that is lent no areas; 0 where all are yes.
 #[unsafe(no_mangle)]
 pub extern "C" fn hazhirun_check(circuit: &[u8], script: &[u8]) -> u64
-    ensures { result ≡ refusal none (before circuit) (before script) }
+    ensures { result ≡ refusal none circuit.now script.now }
 {
     check(circuit, script)
 }
@@ -32,7 +33,7 @@ pub extern "C" fn hazhirun_run(
     delays: &mut [u8],
     told: &mut [u64],
 ) -> u64
-    ensures { RightCall circuit script log values units delays (λ a. TellsHost a result (before told) (after told)) }
+    ensures { RightCall circuit.now script.now (log.old, log.new) (values.old, values.new) (units.old, units.new) (delays.old, delays.new) (λ a. TellsHost a result told.old told.new) }
 {
     let a = run::run(circuit, script, log, values, units, delays);
     tell_end(told, 0, a);
@@ -52,7 +53,7 @@ pub extern "C" fn hazhirun_class(
     delays: &mut [u8],
     told: &mut [u64],
 ) -> u64
-    ensures { RightClass (call_of circuit book log values units delays told) (left_of log values units delays told) result }
+    ensures { RightClass (call_of circuit.now book.now log.old values.old units.old delays.old told.old) (left_of log.new values.new units.new delays.new told.new) result }
 {
     class::class(circuit, book, log, values, units, delays, told)
 }
@@ -69,7 +70,7 @@ pub extern "C" fn hazhirun_hours(
     report: &mut [u8],
     told: &mut [u64],
 ) -> u64
-    ensures { RightHours (hours_call circuit log driver activity len report told) (hours_left report told) result }
+    ensures { RightHours (hours_call circuit.now log.now driver activity len report.old told.old) (hours_left report.new told.new) result }
 {
     hours::hours(circuit, log, driver, activity, len, report, told)
 }
@@ -78,7 +79,7 @@ pub extern "C" fn hazhirun_hours(
 // `told` become the most steps that any one unit can cause, and the most bytes of a log of so many ticks.
 #[unsafe(no_mangle)]
 pub extern "C" fn hazhirun_size(circuit: &[u8], ticks: u64, told: &mut [u64]) -> u64
-    ensures { RightSize (before circuit) ticks (before told) (after told) result }
+    ensures { RightSize circuit.now ticks told.old told.new result }
 {
     size::size(circuit, ticks, told)
 }

@@ -1,6 +1,9 @@
 // The records of one Queue, in a ring of 256 slots. They lie in a part of the area `delays`, of 34,832 bytes.
+#![tactic(auto)]
+
+ghost use Rattle.words.specs.Words.{words};
 ghost use Rattle.std.specs.Prelude.{◌≡◌, false, map, ◌%◌, ◌<◌, min, get_or, take, drop};
-ghost use Rattle.words.specs.Slices.{was, is, HasWords};
+ghost use Rattle.words.specs.Slices.{HasWords};
 ghost use Rattle.model.specs.State.{idle, records≔};
 ghost use Rattle.model.specs.Delays.{queue_record, hand_out, advance_records, most_records};
 ghost use Rattle.queue.specs.Queue.{queued, released, blank, front_if_due, ticked, slot, records, Placed};
@@ -53,16 +56,16 @@ pub const PART_BYTES: usize = PART * 8;
 
 // The slot of the front record.
 fn first_of(queue: &[u8]) -> usize
-    requires { HoldsPart queue }
-    ensures { result ≡ get_or (was queue) 0 0 % most_records }
+    requires { HoldsPart queue.now }
+    ensures { result ≡ get_or (words queue.now) 0 0 % most_records }
 {
     get(queue, FIRST) as usize % SLOTS
 }
 
 // How many records there are.
 fn count_of(queue: &[u8]) -> usize
-    requires { HoldsPart queue }
-    ensures { result ≡ min (get_or (was queue) 1 0) most_records }
+    requires { HoldsPart queue.now }
+    ensures { result ≡ min (get_or (words queue.now) 1 0) most_records }
 {
     let n = get(queue, COUNT) as usize;
     if n < SLOTS { n } else { SLOTS }
@@ -87,8 +90,8 @@ fn get_eight(queue: &[u8], p: usize) -> [u64; 8]
 
 // The record in slot s.
 fn load(queue: &[u8], seconds: bool, s: usize) -> Record
-    requires { HoldsPart queue × (s < most_records) }
-    ensures { queued result ≡ slot seconds (was queue) s }
+    requires { HoldsPart queue.now × (s < most_records) }
+    ensures { queued result ≡ slot seconds (words queue.now) s }
 {
     let kinds = get_eight(queue, KINDS + s * ROW);
     let contents = get_eight(queue, CONTENTS + s * ROW);
@@ -102,8 +105,8 @@ fn load(queue: &[u8], seconds: bool, s: usize) -> Record
 
 // A record goes to slot s.
 fn store(queue: &mut [u8], s: usize, r: Record)
-    requires { HoldsPart queue × (s < most_records) }
-    ensures { Placed (in_seconds r.left) (was queue) (is queue) s (queued r) }
+    requires { HoldsPart queue.old × (s < most_records) }
+    ensures { Placed (in_seconds r.left) (words queue.old) (words queue.new) s (queued r) }
 {
     let kinds = r.kinds;
     let contents = r.contents;
@@ -115,8 +118,8 @@ fn store(queue: &mut [u8], s: usize, r: Record)
 
 // The record in slot s counts down.
 fn count_slot(queue: &mut [u8], seconds: bool, dt: u32, s: usize)
-    requires { HoldsPart queue × (s < most_records) }
-    ensures { Placed seconds (was queue) (is queue) s (ticked dt (slot seconds (was queue) s)) }
+    requires { HoldsPart queue.old × (s < most_records) }
+    ensures { Placed seconds (words queue.old) (words queue.new) s (ticked dt (slot seconds (words queue.old) s)) }
 {
     let left = of_word(seconds, get(queue, COUNTDOWNS + s));
     let next = left.tick_down(dt);
@@ -125,8 +128,8 @@ fn count_slot(queue: &mut [u8], seconds: bool, dt: u32, s: usize)
 
 // All records count down.
 fn count_down(queue: &mut [u8], seconds: bool, dt: u32)
-    requires { HoldsPart queue }
-    ensures { records seconds (is queue) ≡ map (ticked dt) (records seconds (was queue)) }
+    requires { HoldsPart queue.old }
+    ensures { records seconds (words queue.new) ≡ map (ticked dt) (records seconds (words queue.old)) }
 {
     let first = first_of(queue);
     let count = count_of(queue);
@@ -154,9 +157,9 @@ fn nothing_due() -> Released
 
 // The front record leaves, if it is due.
 fn take_front(queue: &mut [u8], seconds: bool) -> Released
-    requires { HoldsPart queue }
-    ensures queue_value { released result (records seconds (is queue)) ≡ hand_out idle (records seconds (was queue)) }
-    ensures front_value { queued result.front ≡ front_if_due (records seconds (was queue)) }
+    requires { HoldsPart queue.old }
+    ensures queue_value { released result (records seconds (words queue.new)) ≡ hand_out idle (records seconds (words queue.old)) }
+    ensures front_value { queued result.front ≡ front_if_due (records seconds (words queue.old)) }
 {
     let count = count_of(queue);
     if count == 0 {
@@ -175,8 +178,8 @@ fn take_front(queue: &mut [u8], seconds: bool) -> Released
 
 // A new record, behind the others. With 256 records it is dropped.
 pub fn push(queue: &mut [u8], r: Record)
-    requires { Part queue }
-    ensures { records (in_seconds r.left) (is queue) ≡ (queue_record (records≔ idle (records (in_seconds r.left) (was queue))) (queued r).row (queued r).left).records }
+    requires { Part queue.old }
+    ensures { records (in_seconds r.left) (words queue.new) ≡ (queue_record (records≔ idle (records (in_seconds r.left) (words queue.old))) (queued r).row (queued r).left).records }
 {
     let count = count_of(queue);
     if count < SLOTS {
@@ -188,9 +191,9 @@ pub fn push(queue: &mut [u8], r: Record)
 
 // A tick of the length dt: all records count down, and the front one alone is handed out, if it is due.
 pub fn advance(queue: &mut [u8], seconds: bool, dt: u32) -> Released
-    requires { Part queue }
-    ensures queue_value { released result (records seconds (is queue)) ≡ advance_records dt (records≔ idle (records seconds (was queue))) }
-    ensures front_value { queued result.front ≡ front_if_due (map (ticked dt) (records seconds (was queue))) }
+    requires { Part queue.old }
+    ensures queue_value { released result (records seconds (words queue.new)) ≡ advance_records dt (records≔ idle (records seconds (words queue.old))) }
+    ensures front_value { queued result.front ≡ front_if_due (map (ticked dt) (records seconds (words queue.old))) }
 {
     count_down(queue, seconds, dt);
     take_front(queue, seconds)

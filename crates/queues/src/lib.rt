@@ -1,6 +1,9 @@
 // The records of Queues in the lent area `delays`, each Queue in its own part, and the area at the start of a run.
+#![tactic(auto)]
+
+ghost use Rattle.words.specs.Words.{words};
 ghost use Rattle.std.specs.Prelude.{◌≡◌, true, [], ◌≤◌, eqb, length, replicate};
-ghost use Rattle.words.specs.Slices.{was, is, SameTail};
+ghost use Rattle.words.specs.Slices.{SameTail};
 ghost use Rattle.model.specs.Base.{both};
 ghost use Rattle.model.specs.Value.{value_of};
 ghost use Rattle.model.specs.Circuit.{kind_of_gate};
@@ -63,8 +66,8 @@ pub fn queue_record(
 
 // Queue g moves on by a tick of the length dt in f32 bits: the front record, if it is due.
 pub fn queue_advance(links: &[usize], delays: &mut [u8], g: usize, dt: u32) -> Released
-    requires { Linked links × Slots links delays × (is_queue (net links.now) g ≡ true) }
-    ensures { DelaysChange links delays (λ _ old new. Moves old new g (advance_records dt (delay_in old g)) (released result []).row (released result []).fires) }
+    requires { Linked links.now × Slots links.now delays.old × (is_queue (net links.now) g ≡ true) }
+    ensures { DelaysChange links.now (delays.old, delays.new) (λ _ old new. Moves old new g (advance_records dt (delay_in old g)) (released result []).row (released result []).fires) }
 {
     let seconds = kind_of_gate(links, g) == QUEUE_IN_SECONDS;
     let p = get(delays, g) as usize;
@@ -77,8 +80,8 @@ pub fn queue_advance(links: &[usize], delays: &mut [u8], g: usize, dt: u32) -> R
 
 // The table of parts, the slots and the count are cleared.
 fn clear(delays: &mut [u8])
-    requires { SlotsFit delays }
-    ensures { Cleared (queue_at 0) (was delays) (is delays) × SameTail delays }
+    requires { SlotsFit delays.old }
+    ensures { Cleared (queue_at 0) (words delays.old) (words delays.new) × SameTail (delays.old, delays.new) }
 {
     let mut k: usize = 0;
     while k < PARTS {
@@ -89,8 +92,8 @@ fn clear(delays: &mut [u8])
 
 // Gate g, if it is a Queue, has part n, with no records: the part that the next Queue has.
 fn give_part(links: &[usize], delays: &mut [u8], g: usize, n: usize) -> usize
-    requires { Linked links × (n ≤ 64) }
-    ensures { (is delays ≡ given (net_of links) g n (was delays)) × SameTail delays × (result ≡ next_part (net_of links) g n) }
+    requires { Linked links.now × (n ≤ 64) }
+    ensures { (words delays.new ≡ given (net_of links.now) g n (words delays.old)) × SameTail (delays.old, delays.new) × (result ≡ next_part (net_of links.now) g n) }
 {
     let kind = kind_of_gate(links, g);
     if kind < QUEUE_IN_TICKS {
@@ -106,8 +109,8 @@ fn give_part(links: &[usize], delays: &mut [u8], g: usize, n: usize) -> usize
 
 // Each Queue has the part of its number.
 fn give_parts(links: &[usize], delays: &mut [u8])
-    requires { Linked links × Parts links delays }
-    ensures { Numbered (net_of links) (length (net_of links).kinds) (was delays) (is delays) × SameTail delays }
+    requires { Linked links.now × Parts links.now delays.old }
+    ensures { Numbered (net_of links.now) (length (net_of links.now).kinds) (words delays.old) (words delays.new) × SameTail (delays.old, delays.new) }
 {
     let count = gates(links);
     let mut n: usize = 0;
@@ -120,8 +123,8 @@ fn give_parts(links: &[usize], delays: &mut [u8])
 
 // The small states at the start of a run, whatever the area held.
 pub fn start(links: &[usize], delays: &mut [u8])
-    requires { Linked links × Parts links delays }
-    ensures { DelaysChange links delays (λ c old new. (new.delays ≡ replicate (length c.kinds) idle) × (new.changed ≡ 0) × (new.rest ≡ old.rest) × SlotsStay links delays) }
+    requires { Linked links.now × Parts links.now delays.old }
+    ensures { DelaysChange links.now (delays.old, delays.new) (λ c old new. (new.delays ≡ replicate (length c.kinds) idle) × (new.changed ≡ 0) × (new.rest ≡ old.rest) × SlotsStay links.now delays.new) }
 {
     clear(delays);
     give_parts(links, delays);

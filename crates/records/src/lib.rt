@@ -1,5 +1,7 @@
 // Whole logs, what every reader of a log stands on: a definition and its theorems, in specs/ and proofs/. Crate `whole` has the test of a log, `walk` the walk over its
 // records. Here are the numbers that those who write records and those who read them share.
+#![tactic(auto)]
+
 pub mod forms;
 pub mod head;
 

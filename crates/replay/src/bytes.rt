@@ -1,13 +1,12 @@
 // Bytes and words compared.
 ghost use Rattle.std.specs.Prelude.{◌≡◌};
-ghost use Rattle.words.specs.Slices.{before};
 ghost use Rattle.replay.specs.Bytes.{alike, all_alike, holds, answered};
 
 use packed::same::{is_same, is_same_words};
 
 // Whether every byte of the area is this one.
 pub fn is_alike(area: &[u8], byte: u8) -> bool
-    ensures { result ≡ alike byte (before area) }
+    ensures { result ≡ alike byte area.now }
 {
     let n = area.len();
     let mut i = 0;
@@ -22,7 +21,7 @@ pub fn is_alike(area: &[u8], byte: u8) -> bool
 
 // Whether every byte of the three areas is this one.
 pub fn are_alike(values: &[u8], units: &[u8], delays: &[u8], byte: u8) -> bool
-    ensures { result ≡ all_alike byte (before values) (before units) (before delays) }
+    ensures { result ≡ all_alike byte values.now units.now delays.now }
 {
     if !is_alike(values, byte) {
         return false;
@@ -35,7 +34,7 @@ pub fn are_alike(values: &[u8], units: &[u8], delays: &[u8], byte: u8) -> bool
 
 // Whether the log holds these records, and behind them nothing but this byte.
 pub fn is_holding(log: &[u8], records: &[u8], byte: u8) -> bool
-    ensures { result ≡ holds byte (before log) (before records) }
+    ensures { result ≡ holds byte log.now records.now }
 {
     let n = records.len();
     if log.len() < n {
@@ -56,7 +55,7 @@ pub fn is_answered(
     told: &[u64],
     words: &[u64],
 ) -> bool
-    ensures { result ≡ answered number due (before left) (before bytes) (before told) (before words) }
+    ensures { result ≡ answered number due left.now bytes.now told.now words.now }
 {
     if number != due {
         return false;

@@ -1,6 +1,6 @@
 // A class of the packed ones: its numbers, and whether what came of it is what was due.
+ghost use Rattle.words.specs.Words.{words};
 ghost use Rattle.std.specs.Prelude.{◌≡◌};
-ghost use Rattle.words.specs.Slices.{before, was};
 ghost use Rattle.replay.specs.ClassDue.{class_due_of, area_byte, class_as_due};
 
 use crate::bytes::{are_alike, is_answered};
@@ -27,7 +27,7 @@ pub struct ClassDue {
 
 // The numbers from their words.
 pub fn class_numbers(head: &[u8]) -> ClassDue
-    ensures { result ≡ class_due_of (was head) }
+    ensures { result ≡ class_due_of (words head.now) }
 {
     ClassDue {
         log: read(head, 0) as usize,
@@ -67,7 +67,7 @@ pub fn is_class_as_due(
     delays: &[u8],
     told: &[u64],
 ) -> bool
-    ensures { result ≡ class_as_due due number (before records) (before words) (before log) (before values) (before units) (before delays) (before told) }
+    ensures { result ≡ class_as_due due number records.now words.now log.now values.now units.now delays.now told.now }
 {
     if !is_answered(number, due.number, log, records, told, words) {
         return false;

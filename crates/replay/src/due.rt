@@ -1,6 +1,6 @@
 // A run of the packed ones: its numbers, and whether what came of it is what was due.
+ghost use Rattle.words.specs.Words.{words};
 ghost use Rattle.std.specs.Prelude.{◌≡◌};
-ghost use Rattle.words.specs.Slices.{before, was};
 ghost use Rattle.replay.specs.Due.{due_of, ends, as_due};
 
 use crate::bytes::{are_alike, is_holding};
@@ -23,7 +23,7 @@ pub struct Due {
 
 // The numbers from their nine words.
 pub fn numbers(head: &[u8]) -> Due
-    ensures { result ≡ due_of (was head) }
+    ensures { result ≡ due_of (words head.now) }
 {
     Due {
         log: read(head, 0) as usize,
@@ -67,7 +67,7 @@ pub fn is_as_due(
     units: &[u8],
     delays: &[u8],
 ) -> bool
-    ensures { result ≡ as_due due answer (before records) filled (before log) (before values) (before units) (before delays) }
+    ensures { result ≡ as_due due answer records.now filled log.now values.now units.now delays.now }
 {
     if !is_end(due, answer) {
         return false;

@@ -1,6 +1,7 @@
 // Plays every run of runs.bin, every class of classes.bin and every report of reports.bin, and compares what comes of each with what is due, byte by byte. Each file has first how many.
+#![tactic(auto)]
+
 ghost use Rattle.std.specs.Prelude.{◌≡◌};
-ghost use Rattle.words.specs.Slices.{before};
 ghost use Rattle.replay.specs.ClassMet.{class_met};
 ghost use Rattle.replay.specs.Met.{met};
 ghost use Rattle.replay.specs.ReportMet.{report_met};
@@ -100,7 +101,7 @@ fn play_lent(
     units: &mut [u8],
     delays: &mut [u8],
 ) -> bool
-    ensures { result ≡ met due (before circuit) (before script) (before records) (before log) (before values) (before units) (before delays) }
+    ensures { result ≡ met due circuit.now script.now records.now log.old values.old units.old delays.old }
 {
     let answer = run::run(circuit, script, log, values, units, delays);
     is_as_due(due, answer, records, FILLED, log, values, units, delays)
@@ -179,7 +180,7 @@ fn play_class_lent(
     delays: &mut [u8],
     told: &mut [u64],
 ) -> bool
-    ensures { result ≡ class_met due (before circuit) (before book) (before records) (before words) (before log) (before values) (before units) (before delays) (before told) }
+    ensures { result ≡ class_met due circuit.now book.now records.now words.now log.old values.old units.old delays.old told.old }
 {
     let number = class::class(circuit, book, log, values, units, delays, told);
     is_class_as_due(
@@ -280,7 +281,7 @@ fn play_report_lent(
     report: &mut [u8],
     told: &mut [u64],
 ) -> bool
-    ensures { result ≡ report_met due (before circuit) (before log) (before lines) (before words) (before report) (before told) }
+    ensures { result ≡ report_met due circuit.now log.now lines.now words.now report.old told.old }
 {
     let number = hours::hours(
         circuit,

@@ -1,6 +1,6 @@
 // A report of the packed ones: its numbers.
+ghost use Rattle.words.specs.Words.{words};
 ghost use Rattle.std.specs.Prelude.{◌≡◌};
-ghost use Rattle.words.specs.Slices.{was};
 ghost use Rattle.replay.specs.ReportDue.{report_due_of};
 
 use words::read;
@@ -23,7 +23,7 @@ pub struct ReportDue {
 impl ReportDue {
     // The numbers from their words.
     pub fn of(head: &[u8]) -> Self
-        ensures { result ≡ report_due_of (was head) }
+        ensures { result ≡ report_due_of (words head.now) }
     {
         Self {
             driver: read(head, 0),

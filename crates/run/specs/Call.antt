@@ -1,7 +1,7 @@
 -- A call: the bytes that it is lent, what it leaves of them, and what is right of it: the three demands, and what documents 01 and 02 promise of its run.
 use Rattle.std.specs.Prelude.{ℕ, ◌≡◌, List, length}
 use Rattle.std.proofs.Math.Option.{some}
-use Rattle.words.specs.Slices.{Ref, Slice, before, after}
+use Rattle.words.specs.Slices.{Slice, before, after}
 use Rattle.words.specs.Words.{words}
 use Rattle.model.specs.Circuit.{circuit as circuit_of}
 use Rattle.model.specs.Questions.{Areas, circuit_refusal}
@@ -47,12 +47,12 @@ pub record Right (k : Call) (l : Left) (Tells : Answer → Type 0) : Type 0 wher
   pub promised : Promised (lent k) (length k.log) k.circuit k.script
 
 -- the same of a contract's slices
-abbrev pub RightCall : Slice → Slice → Slice → Slice → Slice → Slice → (Answer → Type 0) → Type 0
+abbrev pub RightCall : List ℕ → List ℕ → Slice → Slice → Slice → Slice → (Answer → Type 0) → Type 0
 RightCall circuit script log values units delays Tells =
     Right
     (record {
-      circuit = before circuit;
-      script = before script;
+      circuit = circuit;
+      script = script;
       log = before log;
       values = before values;
       units = before units;
@@ -62,7 +62,7 @@ RightCall circuit script log values units delays Tells =
     Tells
 
 -- Links and areas with which scripts can be played over the circuit: the links show it, and it is not refused with areas of these lengths.
-abbrev pub Ready : Ref → Ref → Ref → Ref → Ref → Type 0
+abbrev pub Ready : List ℕ → List ℕ → List ℕ → List ℕ → List ℕ → Type 0
 Ready links circuit vs us ds =
-    (net links.now ≡ circuit_of (words circuit.now))
-    × (circuit_refusal (some (record { values = length vs.now; units = length us.now; delays = length ds.now })) circuit.now ≡ 0)
+    (net links ≡ circuit_of (words circuit))
+    × (circuit_refusal (some (record { values = length vs; units = length us; delays = length ds })) circuit ≡ 0)

@@ -1,7 +1,7 @@
 -- A run under way, over what the areas and the log hold.
 use Rattle.std.specs.Prelude.{ℕ, ◌+◌, ◌-◌, ◌*◌, ◌≤◌, ◌≡◌, true, List, [], ◌++◌, map, eqb, length, drop, replicate}
 use Rattle.words.specs.Words.{words, tail}
-use Rattle.words.specs.Slices.{Ref, Slice, before, after, was}
+use Rattle.words.specs.Slices.{Slice, before, after}
 use Rattle.schedule.specs.Schedule.{run, run_on}
 use Rattle.model.specs.Base.{all, sum}
 use Rattle.model.specs.Kinds.{WorldEvent}
@@ -45,15 +45,15 @@ abbrev pub seen_of : Circuit → ℕ → List ℕ → ℕ → Played
 seen_of c limit ws room = seen c (run (bare c) (gets c limit ws) (world_at_start c room))
 
 -- the same in a contract: the log shows it, and r says how it came out
-abbrev pub Logs : Slice → Slice → Slice → ℕ → Outcome → Type 0
+abbrev pub Logs : List ℕ → List ℕ → Slice → ℕ → Outcome → Type 0
 Logs links script log limit r =
-    Logged (seen_of (net_of links) limit (was script) (length (before log))) (before log) (after log) r.size r.stop r.ticks
+    Logged (seen_of (net_of links) limit (words script) (length (before log))) (before log) (after log) r.size r.stop r.ticks
 
 -- the areas are as at the start of a run
-abbrev pub Started : Ref → Ref → Ref → Ref → Type 0
+abbrev pub Started : List ℕ → List ℕ → List ℕ → List ℕ → Type 0
 Started links vs us ds =
-    ((areas (net links.now) vs.now us.now ds.now).state ≡ start (net links.now))
-    × ((areas (net links.now) vs.now us.now ds.now).lists.carried ≡ [])
+    ((areas (net links) vs us ds).state ≡ start (net links))
+    × ((areas (net links) vs us ds).lists.carried ≡ [])
 
 -- an area is made zero
 abbrev pub Zeroed : Slice → Type 0

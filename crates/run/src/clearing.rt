@@ -3,7 +3,7 @@ ghost use Rattle.run.specs.Running.{Zeroed};
 
 // Every byte of the area is zero.
 pub fn clear(area: &mut [u8])
-    ensures { Zeroed area }
+    ensures { Zeroed (area.old, area.new) }
 {
     let n = area.len();
     let mut i = 0;

@@ -1,7 +1,8 @@
 // A run: a script played over a circuit, tick after tick.
+#![tactic(auto)]
+
 ghost use Rattle.std.specs.Prelude.{◌≡◌, [], ◌*◌, ◌^◌, ◌≤◌, ◌<◌, length};
 ghost use Rattle.words.specs.Words.{words};
-ghost use Rattle.words.specs.Slices.{before};
 ghost use Rattle.model.specs.Opening.{start};
 ghost use Rattle.model.specs.Run.{most_steps};
 ghost use Rattle.links.specs.Links.{net};
@@ -39,8 +40,8 @@ pub struct Outcome {
 
 // The areas at the start of a run, whatever they held.
 fn start(links: &[usize], values: &mut [u8], units: &mut [u8], delays: &mut [u8])
-    requires { Linked links × Room values × Room units × Parts links delays }
-    ensures { OverAll links values units delays (λ c _ new. (new.state ≡ start c) × (new.lists.carried ≡ []) × SlotsStay links delays) }
+    requires { Linked links.now × Room values.old × Room units.old × Parts links.now delays.old }
+    ensures { OverAll links.now (values.old, values.new) (units.old, units.new) (delays.old, delays.new) (λ c _ new. (new.state ≡ start c) × (new.lists.carried ≡ []) × SlotsStay links.now delays.new) }
 {
     wires::start::start(links, values);
     units::raising::start(links, units);
@@ -57,11 +58,11 @@ fn play(
     log: &mut [u8],
     limit: u64,
 ) -> Outcome
-    requires linked { Linked links × Room values × Room units × Slots links delays × FewCalls (net links.now) }
+    requires linked { Linked links.now × Room values.old × Room units.old × Slots links.now delays.old × FewCalls (net links.now) }
     requires limit_bound { (limit < 2 ^ 63) × GoodScript (net links.now) (words script.now) }
-    requires started { Started links values units delays }
-    ensures logs { Logs links script log limit result }
-    ensures size_in_bounds { result.size * 8 ≤ length (before log) }
+    requires started { Started links.now values.old units.old delays.old }
+    ensures logs { Logs links.now script.now (log.old, log.new) limit result }
+    ensures size_in_bounds { result.size * 8 ≤ length log.old }
 {
     let ticks = get(script, 0) as usize;
     let stimuli = get(script, 1) as usize;
@@ -114,11 +115,11 @@ fn perform(
     units: &mut [u8],
     delays: &mut [u8],
 ) -> Outcome
-    requires linked { Linked links × Room values × Room units × Parts links delays }
+    requires linked { Linked links.now × Room values.old × Room units.old × Parts links.now delays.old }
     requires few_calls { FewCalls (net links.now) × GoodScript (net links.now) (words script.now) }
-    ensures logs { Logs links script log most_steps result }
-    ensures size_in_bounds { result.size * 8 ≤ length (before log) }
-    ensures zeroed { Zeroed values × Zeroed units × Zeroed delays }
+    ensures logs { Logs links.now script.now (log.old, log.new) most_steps result }
+    ensures size_in_bounds { result.size * 8 ≤ length log.old }
+    ensures zeroed { Zeroed (values.old, values.new) × Zeroed (units.old, units.new) × Zeroed (delays.old, delays.new) }
 {
     start(links, values, units, delays);
     let played = play(links, values, units, delays, script, log, MOST_STEPS);
@@ -138,8 +139,8 @@ pub fn script_answer(
     units: &mut [u8],
     delays: &mut [u8],
 ) -> Answer
-    requires { Linked links × Ready links circuit values units delays }
-    ensures { RightCall circuit script log values units delays (λ a. result ≡ told a) }
+    requires { Linked links.now × Ready links.now circuit.now values.old units.old delays.old }
+    ensures { RightCall circuit.now script.now (log.old, log.new) (values.old, values.new) (units.old, units.new) (delays.old, delays.new) (λ a. result ≡ told a) }
 {
     let question = script_refusal(circuit, script);
     if question != 0 {
@@ -162,7 +163,7 @@ pub fn run(
     units: &mut [u8],
     delays: &mut [u8],
 ) -> Answer
-    ensures { RightCall circuit script log values units delays (λ a. result ≡ told a) }
+    ensures { RightCall circuit.now script.now (log.old, log.new) (values.old, values.new) (units.old, units.new) (delays.old, delays.new) (λ a. result ≡ told a) }
 {
     let mut links = [0usize; CELLS];
     let number = refusal_lent(circuit, &mut links, values.len(), units.len(), delays.len());

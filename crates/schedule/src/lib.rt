@@ -1,1 +1,3 @@
 // The scheduler is a definition and its theorems: see specs/ and proofs/.
+#![tactic(auto)]
+

@@ -1,5 +1,5 @@
 -- What contracts say of settling, over the circuit of the links.
-use Rattle.std.specs.Prelude.{ℕ, ◌+◌, ◌-◌, ◌≡◌}
+use Rattle.std.specs.Prelude.{ℕ, ◌+◌, ◌-◌, ◌≡◌, List}
 use Rattle.std.proofs.Math.Option.{Option}
 use Rattle.words.specs.Slices.{Slice, before, after}
 use Rattle.schedule.specs.Schedule.{When, Filed}
@@ -21,16 +21,16 @@ use Rattle.settling.specs.Settling.{settled}
 use Rattle.settling.specs.Rounds.{Acts, answer_of, round_answer, after_round}
 
 -- wires and small states go on as f has it, and r is what f raises: of the wires alone, and of both
-abbrev pub ActsInValues : Slice → Slice → (Circuit → When → State → Settled) → Raised → Type 0
-ActsInValues links vs f r = (d : Delays) → Acts (net_of links) (values_in links vs) d (values_out links vs) d (f (net_of links)) r
+abbrev pub ActsInValues : List ℕ → Slice → (Circuit → When → State → Settled) → Raised → Type 0
+ActsInValues links vs f r = (d : Delays) → Acts (net_of links) (values_in links (before vs)) d (values_out links (after vs)) d (f (net_of links)) r
 
-abbrev pub ActsInBoth : Slice → Slice → Slice → (Circuit → When → State → Settled) → Raised → Type 0
+abbrev pub ActsInBoth : List ℕ → Slice → Slice → (Circuit → When → State → Settled) → Raised → Type 0
 ActsInBoth links vs ds f r =
     Acts
     (net_of links)
-    (values_in links vs)
+    (values_in links (before vs))
     (delays (net_of links) (before ds))
-    (values_out links vs)
+    (values_out links (after vs))
     (delays (net_of links) (after ds))
     (f (net_of links))
     r

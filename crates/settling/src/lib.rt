@@ -1,6 +1,7 @@
 // Settling: each watched input that a change reached is read again and acted on.
+#![tactic(auto)]
+
 ghost use Rattle.std.specs.Prelude.{◌≡◌, true, ℕ, ◌+◌, ◌<◌};
-ghost use Rattle.words.specs.Slices.{was};
 ghost use Rattle.schedule.specs.Schedule.{When, by_rank, put_off};
 ghost use Rattle.model.specs.Value.{truthy};
 ghost use Rattle.model.specs.Circuit.{Circuit, output, most_inputs};
@@ -78,8 +79,8 @@ fn edge_of(was: Value, v: Value) -> Edge
 
 // An Edge: its output for the direction goes up.
 fn edge_pulse(links: &[usize], values: &mut [u8], g: usize, was: Value, v: Value)
-    requires { Linked links × Room values }
-    ensures { ActsInValues links values (λ c _ s. edge c s was v (λ t o. calm (wires≔ t (pulse c t.wires (output c g o))))) Nothing }
+    requires { Linked links.now × Room values.old }
+    ensures { ActsInValues links.now (values.old, values.new) (λ c _ s. edge c s was v (λ t o. calm (wires≔ t (pulse c t.wires (output c g o))))) Nothing }
 {
     let e = edge_of(was, v);
     match e {
@@ -107,8 +108,8 @@ fn edge_raised(g: usize, was: Value, v: Value) -> Raised
 
 // Input i of gate g, an exec pin: the gate is raised where the value is true.
 fn pin_raised(links: &[usize], g: usize, i: usize, v: Value) -> Raised
-    requires { Linked links }
-    ensures { Short g → (truthy v ≡ true → i < most_inputs) → PinRaises (net_of links) g i v result }
+    requires { Linked links.now }
+    ensures { Short g → (truthy v ≡ true → i < most_inputs) → PinRaises (net_of links.now) g i v result }
 {
     if truthy(v) {
         let p = less(i, input(links, g, 0));
@@ -126,9 +127,9 @@ fn detect(
     was: Value,
     v: Value,
 ) -> Raised
-    requires { Linked links × Room values × Slots links delays }
-    ensures acts_in_both { (truthy v ≡ true → i < most_inputs) → ActsInBoth links values delays (λ c. acted c i was v) result }
-    ensures slots_stay { SlotsStay links delays }
+    requires { Linked links.now × Room values.old × Slots links.now delays.old }
+    ensures acts_in_both { (truthy v ≡ true → i < most_inputs) → ActsInBoth links.now (values.old, values.new) (delays.old, delays.new) (λ c. acted c i was v) result }
+    ensures slots_stay { SlotsStay links.now delays.new }
 {
     let g = gate_at_input(links, i);
     match kind_of_gate(links, g) {
@@ -158,9 +159,9 @@ fn detect(
 
 // Watched input i is read again, and acted on if it changed.
 pub fn check(links: &[usize], values: &mut [u8], delays: &mut [u8], i: usize) -> Raised
-    requires { Linked links × Room values × Slots links delays }
-    ensures over_values_delays { OverValuesDelays links values delays (λ c old new. Settles c old new result (λ when. check c when old.state i)) }
-    ensures slots_stay { SlotsStay links delays }
+    requires { Linked links.now × Room values.old × Slots links.now delays.old }
+    ensures over_values_delays { OverValuesDelays links.now (values.old, values.new) (delays.old, delays.new) (λ c old new. Settles c old new result (λ when. check c when old.state i)) }
+    ensures slots_stay { SlotsStay links.now delays.new }
 {
     let was = last(links, values, i);
     ready(links, values, i);
@@ -190,8 +191,8 @@ fn put_off(to: Place) -> Place
 
 // Entry x is filed where `to` says.
 fn file(links: &[usize], units: &mut [u8], to: Place, x: u64) -> Round
-    requires { Linked links × Room units }
-    ensures { UnitsChange links units (λ c old new. FilesInRound old new result (activate c to (act_of c x) old.lists)) }
+    requires { Linked links.now × Room units.old }
+    ensures { UnitsChange links.now (units.old, units.new) (λ c old new. FilesInRound old new result (activate c to (act_of c x) old.lists)) }
 {
     let filed = activate(links, units, to, x);
     match filed {
@@ -208,9 +209,9 @@ fn check_next(
     delays: &mut [u8],
     to: Place,
 ) -> Round
-    requires { AllLent links values units delays }
-    ensures over_all { OverAll links values units delays (λ c old new. GoesRound old new result (round_of c to old.state old.lists)) }
-    ensures slots_stay { SlotsStay links delays }
+    requires { AllLent links.now values.old units.old delays.old }
+    ensures over_all { OverAll links.now (values.old, values.new) (units.old, units.new) (delays.old, delays.new) (λ c old new. GoesRound old new result (round_of c to old.state old.lists)) }
+    ensures slots_stay { SlotsStay links.now delays.new }
 {
     let next = take_check(links, values);
     match next {
@@ -240,9 +241,9 @@ fn settle_on(
     to: Place,
     n: usize,
 ) -> Filed
-    requires { AllLent links values units delays }
-    ensures over_all { OverAll links values units delays (λ c old new. Goes old new result (goes_on c to n old.state old.lists)) }
-    ensures slots_stay { SlotsStay links delays }
+    requires { AllLent links.now values.old units.old delays.old }
+    ensures over_all { OverAll links.now (values.old, values.new) (units.old, units.new) (delays.old, delays.new) (λ c old new. Goes old new result (goes_on c to n old.state old.lists)) }
+    ensures slots_stay { SlotsStay links.now delays.new }
 {
     let mut k = n;
     while k > 0 {
@@ -265,9 +266,9 @@ pub fn check_waiting(
     delays: &mut [u8],
     to: Place,
 ) -> Filed
-    requires { AllLent links values units delays }
-    ensures over_all { OverAll links values units delays (λ c old new. Goes old new result (goes_on c to (most_checks c) old.state old.lists)) }
-    ensures slots_stay { SlotsStay links delays }
+    requires { AllLent links.now values.old units.old delays.old }
+    ensures over_all { OverAll links.now (values.old, values.new) (units.old, units.new) (delays.old, delays.new) (λ c old new. Goes old new result (goes_on c to (most_checks c) old.state old.lists)) }
+    ensures slots_stay { SlotsStay links.now delays.new }
 {
     let rounds = (inputs(links) + 1) * (outputs(links) + 1);
     settle_on(links, values, units, delays, to, rounds)

@@ -1,6 +1,7 @@
 // How large a run can get: the most steps that any one unit can cause, and the most bytes of a log (crate `figures` has the definition).
+#![tactic(auto)]
+
 ghost use Rattle.std.specs.Prelude.{◌≡◌};
-ghost use Rattle.words.specs.Slices.{before, after};
 ghost use Rattle.links.specs.Lent.{Linked, net_of};
 ghost use Rattle.figures.specs.Figures.{no_loop};
 ghost use Rattle.size.specs.Call.{Right};
@@ -23,8 +24,8 @@ const WRONG_TICKS: u64 = 24;
 
 // Whether no gate is a Loop.
 fn no_loop(links: &[usize]) -> bool
-    requires { Linked links }
-    ensures { result ≡ no_loop (net_of links) }
+    requires { Linked links.now }
+    ensures { result ≡ no_loop (net_of links.now) }
 {
     let n = links::gates(links);
     let mut g = 0;
@@ -40,7 +41,7 @@ fn no_loop(links: &[usize]) -> bool
 // The whole call: the number that it is refused with, or 0; then the first two words of `told` become the most steps that any one unit can cause, and the most bytes of
 // a log of so many ticks.
 pub fn size(circuit: &[u8], ticks: u64, told: &mut [u64]) -> u64
-    ensures { Right (before circuit) ticks (before told) (after told) result }
+    ensures { Right circuit.now ticks told.old told.new result }
 {
     let mut links = [0usize; CELLS];
     let number = circuit_refusal(circuit, &mut links);

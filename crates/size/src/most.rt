@@ -1,6 +1,5 @@
 // The two figures: the most steps that any one unit can cause, and the most bytes of a log.
 ghost use Rattle.std.specs.Prelude.{◌≡◌, ◌≤◌, max};
-ghost use Rattle.words.specs.Slices.{before};
 ghost use Rattle.model.specs.Script.{most_ticks};
 ghost use Rattle.kinds.specs.Pins.{in_of, out_of};
 ghost use Rattle.links.specs.Links.{net};
@@ -42,8 +41,8 @@ fn greater(a: u64, b: u64) -> u64
 
 // The greatest number of an E's gate.
 fn of_inputs(links: &[usize], numbers: &[u64]) -> u64
-    requires { Linked links }
-    ensures { result ≡ most_of_inputs (net_of links) (before numbers) }
+    requires { Linked links.now }
+    ensures { result ≡ most_of_inputs (net_of links.now) numbers.now }
 {
     let n = links::inputs(links);
     let mut most: u64 = 0;
@@ -59,8 +58,8 @@ fn of_inputs(links: &[usize], numbers: &[u64]) -> u64
 
 // The greatest sum of an exec output's calls.
 fn of_outputs(links: &[usize], numbers: &[u64]) -> u64
-    requires { Linked links }
-    ensures { result ≡ most_of_outputs (net_of links) (before numbers) }
+    requires { Linked links.now }
+    ensures { result ≡ most_of_outputs (net_of links.now) numbers.now }
 {
     let n = links::outputs(links);
     let mut most: u64 = 0;
@@ -76,16 +75,16 @@ fn of_outputs(links: &[usize], numbers: &[u64]) -> u64
 
 // The most steps that any one unit can cause; 50,000,001 for more than 50,000,000.
 pub fn unit_steps(links: &[usize], numbers: &[u64]) -> u64
-    requires { Linked links × Numbers (net links.now) numbers.now }
-    ensures { result ≡ most_unit_steps (net_of links) }
+    requires { Linked links.now × Numbers (net links.now) numbers.now }
+    ensures { result ≡ most_unit_steps (net_of links.now) }
 {
     greater(of_inputs(links, numbers), of_outputs(links, numbers))
 }
 
 // The most bytes of a log of so many ticks.
 pub fn log_bytes(links: &[usize], ticks: u64) -> u64
-    requires { Linked links × (ticks ≤ most_ticks) }
-    ensures { result ≡ most_log_bytes (net_of links) ticks }
+    requires { Linked links.now × (ticks ≤ most_ticks) }
+    ensures { result ≡ most_log_bytes (net_of links.now) ticks }
 {
     let words = HEAD + 2 * MOST_UNITS + 2 * MOST_WAITING + 2 * links::outputs(links);
     8 * (ticks * words as u64)

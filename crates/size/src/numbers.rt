@@ -1,7 +1,6 @@
 // The steps of each gate, as its number: one, and the numbers of all gates that it passes on to, in sums that stop at 50,000,001.
 // In each round those gates get theirs of which all that they pass on to have one; where as many rounds as there are gates leave a gate without, the calls form a ring.
 ghost use Rattle.std.specs.Prelude.{◌≡◌, true, ◌+◌, ◌≤◌, length, get_or, replicate};
-ghost use Rattle.words.specs.Slices.{before, after};
 ghost use Rattle.model.specs.Base.{each};
 ghost use Rattle.model.specs.Circuit.{most_gates};
 ghost use Rattle.links.specs.Links.{gates_of_word};
@@ -33,7 +32,7 @@ fn capped_sum(a: u64, b: u64) -> u64
 
 // The number of gate g, and 0 where it has none.
 pub fn number_of(numbers: &[u64], g: usize) -> u64
-    ensures { result ≡ get_or (before numbers) g 0 }
+    ensures { result ≡ get_or numbers.now g 0 }
 {
     if g < numbers.len() {
         return numbers[g];
@@ -43,8 +42,8 @@ pub fn number_of(numbers: &[u64], g: usize) -> u64
 
 // A sum, and the numbers of the gates that the calls of output o enter.
 pub fn with_output(links: &[usize], numbers: &[u64], sum: u64, o: usize) -> u64
-    requires { Linked links }
-    ensures { result ≡ each (with_number (before numbers)) sum (entered_from (net_of links) o) }
+    requires { Linked links.now }
+    ensures { result ≡ each (with_number numbers.now) sum (entered_from (net_of links.now) o) }
 {
     let first = links::first_call(links, o);
     let n = links::call_count(links, o);
@@ -59,8 +58,8 @@ pub fn with_output(links: &[usize], numbers: &[u64], sum: u64, o: usize) -> u64
 
 // One, and the numbers of all gates that gate g passes on to.
 fn gate_steps(links: &[usize], numbers: &[u64], g: usize) -> u64
-    requires { Linked links }
-    ensures { result ≡ each (with_number (before numbers)) 1 (passed_on (net_of links) g) }
+    requires { Linked links.now }
+    ensures { result ≡ each (with_number numbers.now) 1 (passed_on (net_of links.now) g) }
 {
     let first = links::output(links, g, 0);
     let n = kinds::outputs(links::kind_of_gate(links, g));
@@ -75,8 +74,8 @@ fn gate_steps(links: &[usize], numbers: &[u64], g: usize) -> u64
 
 // Each gate of a word gets its number.
 fn number_gates(links: &[usize], numbers: &mut [u64], gates: u64)
-    requires { Linked links × (most_gates ≤ length numbers.old) }
-    ensures { after numbers ≡ each (numbered (net_of links)) (before numbers) (gates_of_word gates) }
+    requires { Linked links.now × (most_gates ≤ length numbers.old) }
+    ensures { numbers.new ≡ each (numbered (net_of links.now)) numbers.old (gates_of_word gates) }
 {
     let mut word = gates as usize;
     let mut g = first_gate(word);
@@ -89,8 +88,8 @@ fn number_gates(links: &[usize], numbers: &mut [u64], gates: u64)
 
 // Whether the calls form no ring; then each gate has its number.
 pub fn number_all(links: &[usize], numbers: &mut [u64]) -> bool
-    requires { Linked links × (numbers.old ≡ replicate most_gates 0) }
-    ensures { (result ≡ no_ring (net_of links)) × (result ≡ true → Numbers (net_of links) (after numbers)) }
+    requires { Linked links.now × (numbers.old ≡ replicate most_gates 0) }
+    ensures { (result ≡ no_ring (net_of links.now)) × (result ≡ true → Numbers (net_of links.now) numbers.new) }
 {
     let n = links::gates(links);
     let mut words: [u64; MOST_GATES] = [0; MOST_GATES];

@@ -1,6 +1,6 @@
 -- What contracts say of the area `delays`, over the circuit of the links, and of a slot that is lent by itself.
-use Rattle.std.specs.Prelude.{ℕ, ◌*◌, ◌≤◌, ◌≡◌, cond, ltb, length}
-use Rattle.words.specs.Slices.{Ref, Slice, before, after}
+use Rattle.std.specs.Prelude.{ℕ, ◌*◌, ◌≤◌, ◌≡◌, cond, ltb, length, List}
+use Rattle.words.specs.Slices.{Slice, before, after}
 use Rattle.lists.specs.declared.Filed.{Filed}
 use Rattle.lists.specs.declared.Filed.TheVariants.{Full, Done}
 use Rattle.model.specs.Circuit.{Circuit}
@@ -13,30 +13,30 @@ use Rattle.links.specs.Lent.{net_of}
 use Rattle.states.specs.View.{queue_at, Delays, delays, delay_in, starting, Lent}
 
 -- a slot
-abbrev pub Slot : Ref → Type 0
-Slot slot = length slot.now ≡ 344
+abbrev pub Slot : List ℕ → Type 0
+Slot slot = length slot ≡ 344
 
 -- the area has room for a slot of each gate and the count
-abbrev pub SlotsFit : Ref → Type 0
-SlotsFit ds = queue_at 0 * 8 ≤ length ds.now
+abbrev pub SlotsFit : List ℕ → Type 0
+SlotsFit ds = queue_at 0 * 8 ≤ length ds
 
 -- and for a part for each Queue
-abbrev pub Parts : Ref → Ref → Type 0
-Parts links ds = queue_at (queues (net links.now)) * 8 ≤ length ds.now
+abbrev pub Parts : List ℕ → List ℕ → Type 0
+Parts links ds = queue_at (queues (net links)) * 8 ≤ length ds
 
 -- it has them, and says which part each Queue has: at the call, and at the return
-abbrev pub Slots : Ref → Ref → Type 0
-Slots links ds = Lent (net links.now) ds.now
+abbrev pub Slots : List ℕ → List ℕ → Type 0
+Slots links ds = Lent (net links) ds
 
-abbrev pub SlotsStay : Slice → Slice → Type 0
-SlotsStay links ds = Lent (net_of links) (after ds)
+abbrev pub SlotsStay : List ℕ → List ℕ → Type 0
+SlotsStay links ds = Lent (net_of links) ds
 
 -- what it holds
-abbrev pub delays_in : Slice → Slice → Delays
-delays_in links ds = delays (net_of links) (before ds)
+abbrev pub delays_in : List ℕ → List ℕ → Delays
+delays_in links ds = delays (net_of links) ds
 
 -- of what it held at the call and holds at the return
-abbrev pub DelaysChange : Slice → Slice → (Circuit → Delays → Delays → Type 0) → Type 0
+abbrev pub DelaysChange : List ℕ → Slice → (Circuit → Delays → Delays → Type 0) → Type 0
 DelaysChange links ds P = P (net_of links) (delays (net_of links) (before ds)) (delays (net_of links) (after ds))
 
 -- a fire of gate g was added, if there was room, and r says so

@@ -11,16 +11,16 @@ use words::{get, put};
 
 // How many there are.
 pub fn changed(links: &[usize], delays: &[u8]) -> u64
-    requires { Linked links × SlotsFit delays }
-    ensures { result ≡ (delays_in links delays).changed }
+    requires { Linked links.now × SlotsFit delays.now }
+    ensures { result ≡ (delays_in links.now delays.now).changed }
 {
     get(delays, CHANGED)
 }
 
 // A tick begins: its length is the first that was narrowed.
 pub fn begin_count(links: &[usize], delays: &mut [u8], changed: bool)
-    requires { Linked links × SlotsFit delays }
-    ensures { DelaysChange links delays (λ _ old new. new ≡ with_changed old (bit changed)) }
+    requires { Linked links.now × SlotsFit delays.old }
+    ensures { DelaysChange links.now (delays.old, delays.new) (λ _ old new. new ≡ with_changed old (bit changed)) }
 {
     if changed {
         put(delays, CHANGED, 1);
@@ -31,8 +31,8 @@ pub fn begin_count(links: &[usize], delays: &mut [u8], changed: bool)
 
 // One more, if it changed its number.
 pub fn count_changed(links: &[usize], delays: &mut [u8], changed: bool)
-    requires { Linked links × SlotsFit delays }
-    ensures { DelaysChange links delays (λ _ old new. new ≡ counting old changed) }
+    requires { Linked links.now × SlotsFit delays.old }
+    ensures { DelaysChange links.now (delays.old, delays.new) (λ _ old new. new ≡ counting old changed) }
 {
     if !changed {
         return;

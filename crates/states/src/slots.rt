@@ -1,7 +1,7 @@
 // The slot of a gate: value buffers, buffers in exec mode, Clocks and Stopwatches. Each gate has room for all of them, whatever its kind.
+ghost use Rattle.words.specs.Words.{words};
 ghost use Rattle.std.specs.Prelude.{◌≡◌, true, [], ◌≤◌, leb};
 ghost use Rattle.std.proofs.Math.Option.{some};
-ghost use Rattle.words.specs.Slices.{was, is};
 ghost use Rattle.model.specs.Value.{truthy, bit};
 ghost use Rattle.model.specs.Circuit.{part, kind_of_gate};
 ghost use Rattle.model.specs.State.{flight≔, fires≔};
@@ -85,8 +85,8 @@ pub struct Landed {
 
 // v is in flight, with its countdown.
 fn launch(slot: &mut [u8], v: Value, k: Countdown)
-    requires { Slot slot }
-    ensures { Becomes (counts_seconds (counted k)) (was slot) (is slot) (λ d. flight≔ d (launch v (counted k)) d.later) }
+    requires { Slot slot.old }
+    ensures { Becomes (counts_seconds (counted k)) (words slot.old) (words slot.new) (λ d. flight≔ d (launch v (counted k)) d.later) }
 {
     put(slot, FLIGHT, 1);
     put(slot, FLIGHT_KIND, kind_of(v));
@@ -96,8 +96,8 @@ fn launch(slot: &mut [u8], v: Value, k: Countdown)
 
 // v is the last later input.
 fn remember(slot: &mut [u8], v: Value)
-    requires { Slot slot }
-    ensures { BecomesAny (was slot) (is slot) (λ d. flight≔ d d.flight (some v)) }
+    requires { Slot slot.old }
+    ensures { BecomesAny (words slot.old) (words slot.new) (λ d. flight≔ d d.flight (some v)) }
 {
     put(slot, LATER, 1);
     put(slot, LATER_KIND, kind_of(v));
@@ -106,8 +106,8 @@ fn remember(slot: &mut [u8], v: Value)
 
 // What is in flight goes into the slot.
 fn store_flight(slot: &mut [u8], flight: Flight)
-    requires { Slot slot }
-    ensures { BecomesBy (flight_of flight) (was slot) (is slot) (λ d. flight≔ d (flight_of flight) d.later) }
+    requires { Slot slot.old }
+    ensures { BecomesBy (flight_of flight) (words slot.old) (words slot.new) (λ d. flight≔ d (flight_of flight) d.later) }
 {
     match flight {
         Flight::Empty => put(slot, FLIGHT, 0),
@@ -117,8 +117,8 @@ fn store_flight(slot: &mut [u8], flight: Flight)
 
 // The last later input goes into the slot, or that there is none.
 fn store_later(slot: &mut [u8], later: Optional)
-    requires { Slot slot }
-    ensures { BecomesAny (was slot) (is slot) (λ d. flight≔ d d.flight (later_of later)) }
+    requires { Slot slot.old }
+    ensures { BecomesAny (words slot.old) (words slot.new) (λ d. flight≔ d d.flight (later_of later)) }
 {
     match later {
         Optional::None => put(slot, LATER, 0),
@@ -128,8 +128,8 @@ fn store_later(slot: &mut [u8], later: Optional)
 
 // A value buffer goes into the slot.
 fn store_buffer(slot: &mut [u8], b: Buffer)
-    requires { Slot slot }
-    ensures { BecomesBy (flight_of b.flight) (was slot) (is slot) (λ d. flight≔ d (flight_of b.flight) (later_of b.later)) }
+    requires { Slot slot.old }
+    ensures { BecomesBy (flight_of b.flight) (words slot.old) (words slot.new) (λ d. flight≔ d (flight_of b.flight) (later_of b.later)) }
 {
     let flight = b.flight;
     let later = b.later;
@@ -139,8 +139,8 @@ fn store_buffer(slot: &mut [u8], b: Buffer)
 
 // What is in flight in the slot.
 fn load_flight(slot: &[u8], seconds: bool) -> Flight
-    requires { Slot slot }
-    ensures { flight_of result ≡ flight_in seconds (was slot) }
+    requires { Slot slot.now }
+    ensures { flight_of result ≡ flight_in seconds (words slot.now) }
 {
     if get(slot, FLIGHT) == 0 {
         return Flight::Empty;
@@ -151,8 +151,8 @@ fn load_flight(slot: &[u8], seconds: bool) -> Flight
 
 // The last later input in the slot, or none.
 fn load_later(slot: &[u8]) -> Optional
-    requires { Slot slot }
-    ensures { later_of result ≡ later_in (was slot) }
+    requires { Slot slot.now }
+    ensures { later_of result ≡ later_in (words slot.now) }
 {
     if get(slot, LATER) == 0 {
         return Optional::None;
@@ -162,8 +162,8 @@ fn load_later(slot: &[u8]) -> Optional
 
 // The value buffer in the slot.
 fn load_buffer(slot: &[u8], seconds: bool) -> Buffer
-    requires { Slot slot }
-    ensures { (flight_of result.flight ≡ flight_in seconds (was slot)) × (later_of result.later ≡ later_in (was slot)) }
+    requires { Slot slot.now }
+    ensures { (flight_of result.flight ≡ flight_in seconds (words slot.now)) × (later_of result.later ≡ later_in (words slot.now)) }
 {
     let flight = load_flight(slot, seconds);
     let later = load_later(slot);
@@ -177,8 +177,8 @@ fn load_buffer(slot: &[u8], seconds: bool) -> Buffer
 
 // A new input with its countdown.
 fn input(slot: &mut [u8], seconds: bool, v: Value, k: Countdown)
-    requires { Slot slot × (counts_seconds (counted k) ≡ seconds) }
-    ensures { Becomes seconds (was slot) (is slot) (λ d. buffer_input d v (counted k)) }
+    requires { Slot slot.old × (counts_seconds (counted k) ≡ seconds) }
+    ensures { Becomes seconds (words slot.old) (words slot.new) (λ d. buffer_input d v (counted k)) }
 {
     let b = load_buffer(slot, seconds);
     let next = b.input(v, k);
@@ -187,8 +187,8 @@ fn input(slot: &mut [u8], seconds: bool, v: Value, k: Countdown)
 
 // One tick: the value in flight lands when its countdown is due.
 fn fly(links: &[usize], slot: &mut [u8], g: usize, seconds: bool, dt: u32) -> Landed
-    requires { Linked links × Slot slot × (seconds ≡ leb 12 (kind_of_gate (net links.now) g)) }
-    ensures { Lands seconds (was slot) (is slot) (advance_flight (λ v. countdown (net_of links) g (truthy v)) dt) result }
+    requires { Linked links.now × Slot slot.old × (seconds ≡ leb 12 (kind_of_gate (net links.now) g)) }
+    ensures { Lands seconds (words slot.old) (words slot.new) (advance_flight (λ v. countdown (net_of links.now) g (truthy v)) dt) result }
 {
     if get(slot, FLIGHT) == 0 {
         return Landed {
@@ -220,8 +220,8 @@ fn load_places(slot: &[u8]) -> [u64; MOST_FIRES]
 
 // The buffer in exec mode in the slot.
 fn load_fires(slot: &[u8], seconds: bool) -> Fires
-    requires { Slot slot }
-    ensures { (result.seconds ≡ seconds) × (fires_of result ≡ fires_in seconds (was slot)) }
+    requires { Slot slot.now }
+    ensures { (result.seconds ≡ seconds) × (fires_of result ≡ fires_in seconds (words slot.now)) }
 {
     let first = get(slot, FIRST) as usize;
     let count = get(slot, COUNT) as usize;
@@ -237,8 +237,8 @@ fn load_fires(slot: &[u8], seconds: bool) -> Fires
 
 // A buffer in exec mode goes into the slot.
 fn store_fires(slot: &mut [u8], fires: Fires)
-    requires { Slot slot }
-    ensures { Becomes fires.seconds (was slot) (is slot) (λ d. fires≔ d (fires_of fires)) }
+    requires { Slot slot.old }
+    ensures { Becomes fires.seconds (words slot.old) (words slot.new) (λ d. fires≔ d (fires_of fires)) }
 {
     put(slot, FIRST, fires.first as u64);
     put(slot, COUNT, fires.count as u64);
@@ -248,8 +248,8 @@ fn store_fires(slot: &mut [u8], fires: Fires)
 
 // One fire more with its countdown, if there is room.
 fn start_fire(slot: &mut [u8], seconds: bool, k: Countdown) -> Filed
-    requires { Slot slot × (counts_seconds (counted k) ≡ seconds) }
-    ensures { Added seconds (was slot) (is slot) (counted k) result }
+    requires { Slot slot.old × (counts_seconds (counted k) ≡ seconds) }
+    ensures { Added seconds (words slot.old) (words slot.new) (counted k) result }
 {
     if MOST_FIRES <= get(slot, COUNT) as usize {
         return Filed::Full;
@@ -262,8 +262,8 @@ fn start_fire(slot: &mut [u8], seconds: bool, k: Countdown) -> Filed
 
 // A tick of the length dt: all fires count down, and those due leave from the front and fire.
 fn run_fires(slot: &mut [u8], seconds: bool, dt: u32) -> usize
-    requires { Slot slot }
-    ensures turns { Turns seconds (was slot) (is slot) (advance_fires dt) [] result }
+    requires { Slot slot.old }
+    ensures turns { Turns seconds (words slot.old) (words slot.new) (advance_fires dt) [] result }
     ensures upper_bound { result ≤ most_fires }
 {
     if get(slot, COUNT) == 0 {
@@ -284,8 +284,8 @@ fn bit_of(mark: bool) -> u64
 
 // A Clock moves on by a tick: whether it fires. Disabled it keeps its time.
 fn run_clock(slot: &mut [u8], dt: u64, interval: u64, enabled: bool) -> bool
-    requires { Slot slot }
-    ensures { TurnsAny (was slot) (is slot) (advance_elapsed dt interval enabled) [] (bit result) }
+    requires { Slot slot.old }
+    ensures { TurnsAny (words slot.old) (words slot.new) (advance_elapsed dt interval enabled) [] (bit result) }
 {
     if !enabled {
         return false;
@@ -302,8 +302,8 @@ fn run_clock(slot: &mut [u8], dt: u64, interval: u64, enabled: bool) -> bool
 
 // A Stopwatch moves on by a tick, if it runs.
 fn run_stopwatch(slot: &mut [u8], dt: u64, limit: u64) -> Stopwatch
-    requires { Slot slot }
-    ensures { TurnsAny (was slot) (is slot) (advance_time dt limit) (stopwatch_moved result).row (stopwatch_moved result).fires }
+    requires { Slot slot.old }
+    ensures { TurnsAny (words slot.old) (words slot.new) (advance_time dt limit) (stopwatch_moved result).row (stopwatch_moved result).fires }
 {
     let time = get(slot, ELAPSED);
     let running = get(slot, RUNNING) != 0;
@@ -324,8 +324,8 @@ fn run_stopwatch(slot: &mut [u8], dt: u64, limit: u64) -> Stopwatch
 
 // A pin of a Stopwatch: 0 Restart, 2 Resume, any other Pause.
 fn press(slot: &mut [u8], p: usize)
-    requires { Slot slot }
-    ensures { BecomesAny (was slot) (is slot) (pressed p) }
+    requires { Slot slot.old }
+    ensures { BecomesAny (words slot.old) (words slot.new) (pressed p) }
 {
     if p == 0 {
         put(slot, ELAPSED, 0);
@@ -339,8 +339,8 @@ fn press(slot: &mut [u8], p: usize)
 
 // The countdown that gate g, a buffer, starts for a value that is rising or not.
 fn countdown(links: &[usize], g: usize, rising: bool) -> Started
-    requires { Linked links }
-    ensures { started result ≡ countdown (net_of links) g rising }
+    requires { Linked links.now }
+    ensures { started result ≡ countdown (net_of links.now) g rising }
 {
     let seconds = SECONDS <= kind_of_gate(links, g);
     buffer_countdown(seconds, rising, setting(links, g, 1), setting(links, g, 2))
@@ -348,8 +348,8 @@ fn countdown(links: &[usize], g: usize, rising: bool) -> Started
 
 // Gate g, a value buffer, gets a new input.
 pub fn buffer_input(links: &[usize], delays: &mut [u8], g: usize, v: Value)
-    requires { Linked links × Slots links delays }
-    ensures { DelaysChange links delays (λ c old new. new ≡ starting old g (λ d left. buffer_input d v left) (countdown c g (truthy v))) }
+    requires { Linked links.now × Slots links.now delays.old }
+    ensures { DelaysChange links.now (delays.old, delays.new) (λ c old new. new ≡ starting old g (λ d left. buffer_input d v left) (countdown c g (truthy v))) }
 {
     if gates(links) <= g {
         return;
@@ -365,8 +365,8 @@ pub fn buffer_input(links: &[usize], delays: &mut [u8], g: usize, v: Value)
 
 // Gate g, a value buffer, moves on by a tick of the length dt in f32 bits: what lands.
 pub fn buffer_advance(links: &[usize], delays: &mut [u8], g: usize, dt: u32) -> Optional
-    requires { Linked links × Slots links delays }
-    ensures { DelaysChange links delays (λ c old new. Moves old new g (advance_flight (λ v. countdown c g (truthy v)) dt (delay_in old g)) (row_of result) 0) }
+    requires { Linked links.now × Slots links.now delays.old }
+    ensures { DelaysChange links.now (delays.old, delays.new) (λ c old new. Moves old new g (advance_flight (λ v. countdown c g (truthy v)) dt (delay_in old g)) (row_of result) 0) }
 {
     if gates(links) <= g {
         return Optional::None;
@@ -382,8 +382,8 @@ pub fn buffer_advance(links: &[usize], delays: &mut [u8], g: usize, dt: u32) -> 
 
 // One fire more of gate g, a buffer in exec mode, if there is room.
 pub fn add_fire(links: &[usize], delays: &mut [u8], g: usize) -> Filed
-    requires { Linked links × Slots links delays }
-    ensures { DelaysChange links delays (λ c old new. AddsFire old new g result (countdown c g true)) }
+    requires { Linked links.now × Slots links.now delays.old }
+    ensures { DelaysChange links.now (delays.old, delays.new) (λ c old new. AddsFire old new g result (countdown c g true)) }
 {
     if gates(links) <= g {
         return Filed::Done;
@@ -400,8 +400,8 @@ pub fn add_fire(links: &[usize], delays: &mut [u8], g: usize) -> Filed
 
 // Gate g, a buffer in exec mode, moves on by a tick: how many fire.
 pub fn fires_advance(links: &[usize], delays: &mut [u8], g: usize, dt: u32) -> usize
-    requires { Linked links × Slots links delays }
-    ensures delays_change { DelaysChange links delays (λ _ old new. Moves old new g (advance_fires dt (delay_in old g)) [] result) }
+    requires { Linked links.now × Slots links.now delays.old }
+    ensures delays_change { DelaysChange links.now (delays.old, delays.new) (λ _ old new. Moves old new g (advance_fires dt (delay_in old g)) [] result) }
     ensures upper_bound { result ≤ most_fires }
 {
     if gates(links) <= g {
@@ -422,8 +422,8 @@ pub fn clock_advance(
     interval: u64,
     enabled: bool,
 ) -> bool
-    requires { Linked links × Slots links delays }
-    ensures { DelaysChange links delays (λ _ old new. Moves old new g (advance_elapsed dt interval enabled (delay_in old g)) [] (bit result)) }
+    requires { Linked links.now × Slots links.now delays.old }
+    ensures { DelaysChange links.now (delays.old, delays.new) (λ _ old new. Moves old new g (advance_elapsed dt interval enabled (delay_in old g)) [] (bit result)) }
 {
     if gates(links) <= g {
         let clock = Clock {
@@ -446,8 +446,8 @@ pub fn stopwatch_advance(
     dt: u64,
     limit: u64,
 ) -> Stopwatch
-    requires { Linked links × Slots links delays }
-    ensures { DelaysChange links delays (λ _ old new. Moves old new g (advance_time dt limit (delay_in old g)) (stopwatch_moved result).row (stopwatch_moved result).fires) }
+    requires { Linked links.now × Slots links.now delays.old }
+    ensures { DelaysChange links.now (delays.old, delays.new) (λ _ old new. Moves old new g (advance_time dt limit (delay_in old g)) (stopwatch_moved result).row (stopwatch_moved result).fires) }
 {
     if gates(links) <= g {
         return Stopwatch {
@@ -464,8 +464,8 @@ pub fn stopwatch_advance(
 
 // A pin of gate g, a Stopwatch: 0 Restart, 2 Resume, any other Pause.
 pub fn stopwatch_press(links: &[usize], delays: &mut [u8], g: usize, p: usize)
-    requires { Linked links × Slots links delays }
-    ensures { DelaysChange links delays (λ _ old new. new ≡ with_delay old g (pressed p (delay_in old g))) }
+    requires { Linked links.now × Slots links.now delays.old }
+    ensures { DelaysChange links.now (delays.old, delays.new) (λ _ old new. new ≡ with_delay old g (pressed p (delay_in old g))) }
 {
     if gates(links) <= g {
         return;

@@ -1,4 +1,6 @@
 // One step of a chain: a gate, entered through one of its inputs, by kind.
+#![tactic(auto)]
+
 ghost use Rattle.std.specs.Prelude.{◌≡◌, true, ◌-◌, eqb};
 ghost use Rattle.model.specs.Circuit.{kind_of_gate, input};
 ghost use Rattle.model.specs.Exec.{var, exec-Buffer, exec-Stopwatch, exec-Queue, exec-VarGet, exec-VarSet, exec-Branch, exec-Union, exec-Toggle, exec-Cycle, exec-SendEvent, exec-Break, exec_gate};
@@ -40,8 +42,8 @@ pub enum Step {
 
 // The output of the Var that setting 1 of gate g names.
 fn var(links: &[usize], g: usize) -> usize
-    requires { Linked links }
-    ensures { result ≡ var (net_of links) g }
+    requires { Linked links.now }
+    ensures { result ≡ var (net_of links.now) g }
 {
     let n = as_int(setting(links, g, 1), 0);
     if n < 0 {
@@ -52,8 +54,8 @@ fn var(links: &[usize], g: usize) -> usize
 
 // 18 VarGet: the Var's value, as it stands in storage, to Value.
 fn exec_var_get(links: &[usize], values: &mut [u8], g: usize) -> Step
-    requires { Linked links × Room values }
-    ensures { OverValues links values (λ c old new. Makes old new result (exec-VarGet c old.state g)) }
+    requires { Linked links.now × Room values.old }
+    ensures { OverValues links.now (values.old, values.new) (λ c old new. Makes old new result (exec-VarGet c old.state g)) }
 {
     let v = shown(links, values, var(links, g));
     set_out(links, values, output(links, g, 1), v);
@@ -62,8 +64,8 @@ fn exec_var_get(links: &[usize], values: &mut [u8], g: usize) -> Step
 
 // 19 VarSet: Value, as it reads, to the Var, with no conversion; direct readers see it at once. `inside` says whether a body is running.
 fn exec_var_set(links: &[usize], values: &mut [u8], g: usize, inside: bool) -> Step
-    requires { Linked links × Room values }
-    ensures { OverValues links values (λ c old new. Makes old new result (exec-VarSet c inside old.state g)) }
+    requires { Linked links.now × Room values.old }
+    ensures { OverValues links.now (values.old, values.new) (λ c old new. Makes old new result (exec-VarSet c inside old.state g)) }
 {
     let i = input(links, g, 2);
     let o = var(links, g);
@@ -78,8 +80,8 @@ fn exec_var_set(links: &[usize], values: &mut [u8], g: usize, inside: bool) -> S
 
 // 20 Branch: a condition that is true to ExecOutA, else to ExecOutB.
 fn exec_branch(links: &[usize], values: &mut [u8], g: usize) -> Step
-    requires { Linked links × Room values }
-    ensures { OverValues links values (λ c old new. Makes old new result (exec-Branch c old.state g)) }
+    requires { Linked links.now × Room values.old }
+    ensures { OverValues links.now (values.old, values.new) (λ c old new. Makes old new result (exec-Branch c old.state g)) }
 {
     let i = input(links, g, 1);
     ready(links, values, i);
@@ -92,8 +94,8 @@ fn exec_branch(links: &[usize], values: &mut [u8], g: usize) -> Step
 
 // 21 Union: it passes once a tick, and inside a body once in each run of it.
 fn exec_union(links: &[usize], values: &mut [u8], g: usize) -> Step
-    requires { Linked links × Room values }
-    ensures { OverValues links values (λ c old new. Makes old new result (exec-Union c old.state g)) }
+    requires { Linked links.now × Room values.old }
+    ensures { OverValues links.now (values.old, values.new) (λ c old new. Makes old new result (exec-Union c old.state g)) }
 {
     if passed(links, values, g) {
         return Step::Ends;
@@ -104,8 +106,8 @@ fn exec_union(links: &[usize], values: &mut [u8], g: usize) -> Step
 
 // 22 Toggle: what is true becomes false, anything else true.
 fn exec_toggle(links: &[usize], values: &mut [u8], g: usize) -> Step
-    requires { Linked links × Room values }
-    ensures { OverValues links values (λ c old new. Makes old new result (exec-Toggle c old.state g)) }
+    requires { Linked links.now × Room values.old }
+    ensures { OverValues links.now (values.old, values.new) (λ c old new. Makes old new result (exec-Toggle c old.state g)) }
 {
     let o = output(links, g, 1);
     let v = shown(links, values, o);
@@ -115,8 +117,8 @@ fn exec_toggle(links: &[usize], values: &mut [u8], g: usize) -> Step
 
 // 23 Cycle, entered through pin p: pin 1 down, any other up, each to its own output.
 fn exec_cycle(links: &[usize], values: &mut [u8], g: usize, p: usize) -> Step
-    requires { Linked links × Room values }
-    ensures { OverValues links values (λ c old new. Makes old new result (exec-Cycle c old.state g p)) }
+    requires { Linked links.now × Room values.old }
+    ensures { OverValues links.now (values.old, values.new) (λ c old new. Makes old new result (exec-Cycle c old.state g p)) }
 {
     let i = input(links, g, 2);
     let o = output(links, g, 2);
@@ -135,8 +137,8 @@ fn exec_cycle(links: &[usize], values: &mut [u8], g: usize, p: usize) -> Step
 
 // 11, 13, a buffer in exec mode: one fire more is under way.
 fn exec_buffer(links: &[usize], delays: &mut [u8], g: usize) -> Step
-    requires { Linked links × Slots links delays }
-    ensures { OverDelays links delays (λ c old new. Makes old new result (exec-Buffer c old.state g)) }
+    requires { Linked links.now × Slots links.now delays.old }
+    ensures { OverDelays links.now (delays.old, delays.new) (λ c old new. Makes old new result (exec-Buffer c old.state g)) }
 {
     match add_fire(links, delays, g) {
         Filed::Done => Step::Ends,
@@ -146,8 +148,8 @@ fn exec_buffer(links: &[usize], delays: &mut [u8], g: usize) -> Step
 
 // 15, a Stopwatch, entered through pin p: Restart shows 0.0 at once.
 fn exec_stopwatch(links: &[usize], values: &mut [u8], delays: &mut [u8], g: usize, p: usize) -> Step
-    requires { Linked links × Room values × Slots links delays }
-    ensures { OverValuesDelays links values delays (λ c old new. Makes old new result (exec-Stopwatch c old.state g p)) }
+    requires { Linked links.now × Room values.old × Slots links.now delays.old }
+    ensures { OverValuesDelays links.now (values.old, values.new) (delays.old, delays.new) (λ c old new. Makes old new result (exec-Stopwatch c old.state g p)) }
 {
     stopwatch_press(links, delays, g, p);
     if p != 0 {
@@ -159,8 +161,8 @@ fn exec_stopwatch(links: &[usize], values: &mut [u8], delays: &mut [u8], g: usiz
 
 // 16, 17, a Queue: all nine inputs are read, also for a record that is dropped.
 fn exec_queue(links: &[usize], values: &mut [u8], delays: &mut [u8], g: usize) -> Step
-    requires { Linked links × Room values × Slots links delays × (is_queue (net links.now) g ≡ true) }
-    ensures { OverValuesDelays links values delays (λ c old new. Makes old new result (exec-Queue c old.state g (queue_countdown (eqb (kind_of_gate c g) 17)))) }
+    requires { Linked links.now × Room values.old × Slots links.now delays.old × (is_queue (net links.now) g ≡ true) }
+    ensures { OverValuesDelays links.now (values.old, values.new) (delays.old, delays.new) (λ c old new. Makes old new result (exec-Queue c old.state g (queue_countdown (eqb (kind_of_gate c g) 17)))) }
 {
     let i = input(links, g, 1);
     readied(links, values, i, 9);
@@ -176,8 +178,8 @@ fn exec_queue(links: &[usize], values: &mut [u8], delays: &mut [u8], g: usize) -
 
 // 24, 25, a sender of events: the eight values are read, also for a second event of the gate in this tick, which is ignored.
 fn exec_send(links: &[usize], values: &mut [u8], units: &mut [u8], g: usize) -> Step
-    requires { Linked links × Room values × Room units }
-    ensures { OverValuesUnits links values units (λ c old new. Makes old new result (exec-SendEvent c old.state g)) }
+    requires { Linked links.now × Room values.old × Room units.old }
+    ensures { OverValuesUnits links.now (values.old, values.new) (units.old, units.new) (λ c old new. Makes old new result (exec-SendEvent c old.state g)) }
 {
     let i = input(links, g, 2);
     readied(links, values, i, 8);
@@ -193,8 +195,8 @@ fn exec_send(links: &[usize], values: &mut [u8], units: &mut [u8], g: usize) -> 
 
 // 31 Break: the loop whose body is running ends after this run of it, which goes on.
 fn exec_break(links: &[usize], values: &mut [u8], g: usize) -> Step
-    requires { Linked links × Room values }
-    ensures { OverValues links values (λ c old new. Makes old new result (exec-Break c old.state g)) }
+    requires { Linked links.now × Room values.old }
+    ensures { OverValues links.now (values.old, values.new) (λ c old new. Makes old new result (exec-Break c old.state g)) }
 {
     set_breaking(links, values, true);
     Step::Fires(output(links, g, 0))
@@ -204,8 +206,8 @@ fn exec_break(links: &[usize], values: &mut [u8], g: usize) -> Step
 
 // The pin of gate g that input i is.
 fn pin(links: &[usize], g: usize, i: usize) -> usize
-    requires { Linked links }
-    ensures { result ≡ i - input (net_of links) g 0 }
+    requires { Linked links.now }
+    ensures { result ≡ i - input (net_of links.now) g 0 }
 {
     less(i, input(links, g, 0))
 }
@@ -221,10 +223,10 @@ pub fn exec(
     k: u64,
     inside: bool,
 ) -> Step
-    requires all_lent { AllLent links values units delays }
+    requires all_lent { AllLent links.now values.old units.old delays.old }
     requires entered { Entered (net links.now) i g k }
-    ensures over_all { OverAll links values units delays (λ c old new. Makes old new result (exec_gate c inside old.state i)) }
-    ensures slots_stay { SlotsStay links delays }
+    ensures over_all { OverAll links.now (values.old, values.new) (units.old, units.new) (delays.old, delays.new) (λ c old new. Makes old new result (exec_gate c inside old.state i)) }
+    ensures slots_stay { SlotsStay links.now delays.new }
 {
     match k {
         2 => Step::Fires(output(links, g, 0)),

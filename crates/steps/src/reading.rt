@@ -20,8 +20,8 @@ pub struct Row {
 
 // n inputs from i on are made ready to be read, in their order.
 pub fn readied(links: &[usize], values: &mut [u8], i: usize, n: usize)
-    requires { Linked links × Room values × (i + n < 2 ^ 64) }
-    ensures { Turns links values (λ c w. each (ready c) w (from i n)) }
+    requires { Linked links.now × Room values.old × (i + n < 2 ^ 64) }
+    ensures { Turns links.now (values.old, values.new) (λ c w. each (ready c) w (from i n)) }
 {
     let mut k = 0;
     while k < n {
@@ -82,8 +82,8 @@ fn contents_of(
 
 // What the eight inputs from i on read.
 pub fn look_row(links: &[usize], values: &[u8], i: usize) -> Row
-    requires { Linked links × Room values × (i + 8 < 2 ^ 64) }
-    ensures { both value_of result.kinds result.contents ≡ map (look (net_of links) (wires_in links values)) (from i 8) }
+    requires { Linked links.now × Room values.now × (i + 8 < 2 ^ 64) }
+    ensures { both value_of result.kinds result.contents ≡ map (look (net_of links.now) (wires_in links.now values.now)) (from i 8) }
 {
     let a = look(links, values, i);
     let b = look(links, values, i + 1);

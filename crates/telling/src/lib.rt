@@ -1,6 +1,7 @@
 // What a host is told of an answer, in words that it lends.
+#![tactic(auto)]
+
 ghost use Rattle.std.specs.Prelude.{◌≡◌, [], ◌∷◌, ◌≤◌};
-ghost use Rattle.words.specs.Slices.{before, after};
 ghost use Rattle.telling.specs.Numbers.{number_of, ticks_of, bytes_of, put_from, end_of, all_of};
 
 use run::Answer;
@@ -39,7 +40,7 @@ fn bytes_of(a: Answer) -> u64
 // Two words from word `at` on, as far as there is room: the ticks done and the bytes of the log that hold records.
 pub fn tell_end(told: &mut [u64], at: usize, a: Answer)
     requires { at ≤ 48 }
-    ensures { after told ≡ put_from at (end_of a) (before told) }
+    ensures { told.new ≡ put_from at (end_of a) told.old }
 {
     put_at(told, at, ticks_of(a));
     put_at(told, at + 1, bytes_of(a));
@@ -48,7 +49,7 @@ pub fn tell_end(told: &mut [u64], at: usize, a: Answer)
 // Three words: the number, and these two.
 pub fn tell(told: &mut [u64], at: usize, a: Answer)
     requires { at ≤ 45 }
-    ensures { after told ≡ put_from at (all_of a) (before told) }
+    ensures { told.new ≡ put_from at (all_of a) told.old }
 {
     put_at(told, at, number_of(a));
     tell_end(told, at + 1, a);

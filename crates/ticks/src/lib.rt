@@ -1,6 +1,9 @@
 // A tick: its opening, its passes, its record.
+#![tactic(auto)]
+
+ghost use Rattle.words.specs.Words.{words};
 ghost use Rattle.std.specs.Prelude.{◌≡◌, ◌*◌, ◌^◌, ◌<◌, ◌≤◌, length};
-ghost use Rattle.words.specs.Slices.{before, after, was, HasWords};
+ghost use Rattle.words.specs.Slices.{HasWords};
 ghost use Rattle.model.specs.Run.{allow};
 // The definitions `values` and `units` are named for what they hold, beside the slices of their names.
 ghost use Rattle.links.specs.Links.{net};
@@ -42,9 +45,9 @@ fn run_late(
     opened: Filed,
     limit: u64,
 ) -> Ran
-    requires { Linked links × Room values × Room units × Slots links delays × FewCalls (net links.now) }
-    ensures over_all { OverAll links values units delays (λ c old new. RanLate c old new limit (stop_of opened) result) }
-    ensures slots_stay { SlotsStay links delays }
+    requires { Linked links.now × Room values.old × Room units.old × Slots links.now delays.old × FewCalls (net links.now) }
+    ensures over_all { OverAll links.now (values.old, values.new) (units.old, units.new) (delays.old, delays.new) (λ c old new. RanLate c old new limit (stop_of opened) result) }
+    ensures slots_stay { SlotsStay links.now delays.new }
 {
     match opened {
         Filed::Full => Ran {
@@ -63,9 +66,9 @@ fn run_main(
     delays: &mut [u8],
     late: Ran,
 ) -> Ran
-    requires { Linked links × Room values × Room units × Slots links delays × FewCalls (net links.now) }
-    ensures over_all { OverAll links values units delays (λ c old new. RanMain c old new late.left late.stop result) }
-    ensures slots_stay { SlotsStay links delays }
+    requires { Linked links.now × Room values.old × Room units.old × Slots links.now delays.old × FewCalls (net links.now) }
+    ensures over_all { OverAll links.now (values.old, values.new) (units.old, units.new) (delays.old, delays.new) (λ c old new. RanMain c old new late.left late.stop result) }
+    ensures slots_stay { SlotsStay links.now delays.new }
 {
     if late.stop != 0 {
         return late;
@@ -84,8 +87,8 @@ fn steps(limit: u64, left: u64, stop: u64) -> u64
 
 // Where the tick has no stop its record shows the outputs, so what is stale is refreshed.
 fn read_outputs(links: &[usize], values: &mut [u8], stop: u64)
-    requires { Linked links × Room values }
-    ensures { Turns links values (λ c w. outputs_read c w stop) }
+    requires { Linked links.now × Room values.old }
+    ensures { Turns links.now (values.old, values.new) (λ c w. outputs_read c w stop) }
 {
     if stop != 0 {
         return;
@@ -103,8 +106,8 @@ fn head(
     left: u64,
     stop: u64,
 ) -> Head
-    requires { Linked links × Room values × (limit < 2 ^ 63) }
-    ensures { result ≡ head_of limit late changed left stop (values_in links values) }
+    requires { Linked links.now × Room values.now × (limit < 2 ^ 63) }
+    ensures { result ≡ head_of limit late changed left stop (values_in links.now values.now) }
 {
     Head {
         tick: wires::ticks::tick(links, values),
@@ -127,8 +130,8 @@ fn close(
     changed: u64,
     r: Ran,
 ) -> Ticked
-    requires { Linked links × Room values × Room units × (at * 8 ≤ length log.old) × (limit < 2 ^ 63) }
-    ensures { Closes (net_of links) limit late changed r (values_in links values) (values_out links values) (units_in links units) (before log) (after log) at result }
+    requires { Linked links.now × Room values.old × Room units.now × (at * 8 ≤ length log.old) × (limit < 2 ^ 63) }
+    ensures { Closes (net_of links.now) limit late changed r (values_in links.now values.old) (values_out links.now values.new) (units_in links.now units.now) log.old log.new at result }
 {
     let left = r.left;
     let stop = r.stop;
@@ -158,10 +161,10 @@ pub fn tick(
     at: usize,
     limit: u64,
 ) -> Ticked
-    requires linked { Linked links × Room values × Room units × Slots links delays × FewCalls (net links.now) }
-    requires has_words { HasWords script gates_at n × HasWords script constants_at n × TickFits links values × (at * 8 ≤ length log.old) × (limit < 2 ^ 63) }
-    ensures over_all { OverAll links values units delays (λ c old new. TicksAs c old new (before log) (after log) at result (allow limit (given_at c (was script) dt gates_at constants_at n))) }
-    ensures slots_stay { SlotsStay links delays }
+    requires linked { Linked links.now × Room values.old × Room units.old × Slots links.now delays.old × FewCalls (net links.now) }
+    requires has_words { HasWords script.now gates_at n × HasWords script.now constants_at n × TickFits links.now values.old × (at * 8 ≤ length log.old) × (limit < 2 ^ 63) }
+    ensures over_all { OverAll links.now (values.old, values.new) (units.old, units.new) (delays.old, delays.new) (λ c old new. TicksAs c old new log.old log.new at result (allow limit (given_at c (words script.now) dt gates_at constants_at n))) }
+    ensures slots_stay { SlotsStay links.now delays.new }
 {
     let opened = open(
         links,

@@ -1,4 +1,6 @@
 // A unit: what it brings, its chain and forks, and what follows them.
+#![tactic(auto)]
+
 ghost use Rattle.std.specs.Prelude.{◌≡◌, List, [], map, ◌&&◌, ◌<◌, leb, ltb, length, get_or};
 ghost use Rattle.model.specs.declared.Value.{Value as Values};
 ghost use Rattle.model.specs.Circuit.{output};
@@ -46,8 +48,8 @@ const ROW: usize = 8;
 
 // What entry x of those that wait brings is put on the outputs of its gate from 1 on.
 fn enter_waiting(links: &[usize], values: &mut [u8], x: u64)
-    requires { Linked links × Room values }
-    ensures { Turns links values (λ c w. set_outs c w (output c (gate_of x) 1) (row_of c (form_of x) (brings x))) }
+    requires { Linked links.now × Room values.old }
+    ensures { Turns links.now (values.old, values.new) (λ c w. set_outs c w (output c (gate_of x) 1) (row_of c (form_of x) (brings x))) }
 {
     if form_of(x) != STIMULUS {
         return;
@@ -62,8 +64,8 @@ fn enter_waiting(links: &[usize], values: &mut [u8], x: u64)
 
 // The values of event e are put on the outputs from o on.
 fn set_event(links: &[usize], values: &mut [u8], units: &[u8], o: usize, e: usize)
-    requires { Linked links × Room values × Room units × (o < 131072) × (e < length (units_view (net links.now) units.now).events) }
-    ensures { Turns links values (λ c w. set_outs c w o (get_or (map (λ m. m.row) (units_in links units).events) e [])) }
+    requires { Linked links.now × Room values.old × Room units.now × (o < 131072) × (e < length (units_view (net links.now) units.now).events) }
+    ensures { Turns links.now (values.old, values.new) (λ c w. set_outs c w o (get_or (map (λ m. m.row) (units_in links.now units.now).events) e [])) }
 {
     let mut j = 0;
     while j < ROW {
@@ -75,8 +77,8 @@ fn set_event(links: &[usize], values: &mut [u8], units: &[u8], o: usize, e: usiz
 
 // What delivered event x brings is put on the outputs of its gate from 1 on.
 fn enter_event(links: &[usize], values: &mut [u8], units: &[u8], x: u64)
-    requires { Linked links × Room values × Room units }
-    ensures { Turns links values (λ c w. set_outs c w (output c (gate_of x) 1) (get_or (map (λ m. m.row) (units_in links units).events) (brings x) [])) }
+    requires { Linked links.now × Room values.old × Room units.now }
+    ensures { Turns links.now (values.old, values.new) (λ c w. set_outs c w (output c (gate_of x) 1) (get_or (map (λ m. m.row) (units_in links.now units.now).events) (brings x) [])) }
 {
     let e = brings(x);
     if events(units) <= e {
@@ -87,8 +89,8 @@ fn enter_event(links: &[usize], values: &mut [u8], units: &[u8], x: u64)
 
 // What the unit brings is put on the outputs of its gate from 1 on.
 fn enter(links: &[usize], values: &mut [u8], units: &[u8], a: Act)
-    requires { Linked links × Room values × Room units }
-    ensures { Turns links values (λ c w. set_outs c w (output c (act_in c (units_in links units).events a).gate 1) (act_in c (units_in links units).events a).row) }
+    requires { Linked links.now × Room values.old × Room units.now }
+    ensures { Turns links.now (values.old, values.new) (λ c w. set_outs c w (output c (act_in c (units_in links.now units.now).events a).gate 1) (act_in c (units_in links.now units.now).events a).row) }
 {
     match a {
         Act::Waiting(x) => enter_waiting(links, values, x),
@@ -100,8 +102,8 @@ fn enter(links: &[usize], values: &mut [u8], units: &[u8], a: Act)
 
 // The output that gate g fires in this form.
 fn fired(links: &[usize], g: usize, form: usize) -> usize
-    requires { Linked links × Short form }
-    ensures { result ≡ fired (net_of links) g form }
+    requires { Linked links.now × Short form }
+    ensures { result ≡ fired (net_of links.now) g form }
 {
     if 32 <= form {
         return output(links, g, form - 32);
@@ -124,8 +126,8 @@ fn is_pin(form: usize) -> bool
 
 // The unit of gate g in this form begins: the calls that it makes first, and no others.
 fn begin(links: &[usize], units: &mut [u8], g: usize, form: usize)
-    requires { Linked links × Room units × Short form × FewCalls (net links.now) }
-    ensures { UnitsChange links units (λ c old new. ((row : List Values) → new ≡ with_calls old (begin c (record { gate = g; form = form; row = row })))) }
+    requires { Linked links.now × Room units.old × Short form × FewCalls (net links.now) }
+    ensures { UnitsChange links.now (units.old, units.new) (λ c old new. ((row : List Values) → new ≡ with_calls old (begin c (record { gate = g; form = form; row = row })))) }
 {
     clear_calls(units);
     if is_pin(form) {
@@ -137,8 +139,8 @@ fn begin(links: &[usize], units: &mut [u8], g: usize, form: usize)
 
 // The calls that a unit makes first.
 fn begin_act(links: &[usize], units: &mut [u8], a: Act)
-    requires { Linked links × Room units × FewCalls (net links.now) }
-    ensures { UnitsChange links units (λ c old new. new ≡ with_calls old (begin c (act_in c old.events a))) }
+    requires { Linked links.now × Room units.old × FewCalls (net links.now) }
+    ensures { UnitsChange links.now (units.old, units.new) (λ c old new. new ≡ with_calls old (begin c (act_in c old.events a))) }
 {
     match a {
         Act::Waiting(x) => begin(links, units, gate_of(x), form_of(x)),
@@ -168,9 +170,9 @@ fn finish(
     stop: u64,
     to: Place,
 ) -> u64
-    requires { AllLent links values units delays }
-    ensures over_all { OverAll links values units delays (λ c old new. Finishes old new result (finished c to old.state left stop old.lists)) }
-    ensures slots_stay { SlotsStay links delays }
+    requires { AllLent links.now values.old units.old delays.old }
+    ensures over_all { OverAll links.now (values.old, values.new) (units.old, units.new) (delays.old, delays.new) (λ c old new. Finishes old new result (finished c to old.state left stop old.lists)) }
+    ensures slots_stay { SlotsStay links.now delays.new }
 {
     if stop != 0 {
         return stop;
@@ -193,9 +195,9 @@ pub fn unit(
     left: u64,
     to: Place,
 ) -> Ran
-    requires { Linked links × Room values × Room units × Slots links delays × FewCalls (net links.now) }
-    ensures over_all { OverAll links values units delays (λ c old new. RanAs old new result (ran c to left (act_in c old.kept.events a) old.state old.lists)) }
-    ensures slots_stay { SlotsStay links delays }
+    requires { Linked links.now × Room values.old × Room units.old × Slots links.now delays.old × FewCalls (net links.now) }
+    ensures over_all { OverAll links.now (values.old, values.new) (units.old, units.new) (delays.old, delays.new) (λ c old new. RanAs old new result (ran c to left (act_in c old.kept.events a) old.state old.lists)) }
+    ensures slots_stay { SlotsStay links.now delays.new }
 {
     enter(links, values, units, a);
     begin_act(links, units, a);

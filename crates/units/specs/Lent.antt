@@ -17,20 +17,20 @@ use Rattle.units.specs.Raising.{with_lists, carried≔, by_rank, answer, lists_a
 use Rattle.units.specs.Calls.{with_calls, with_begun, popped, calls_left, first_of}
 
 -- of what it holds, whatever the circuit
-abbrev pub Reads : Slice → (Circuit → Units → Type 0) → Type 0
-Reads us P = (c : Circuit) → P c (units c (before us))
+abbrev pub Reads : List ℕ → (Circuit → Units → Type 0) → Type 0
+Reads us P = (c : Circuit) → P c (units c us)
 
 -- of what it held at the call and holds at the return, whatever the circuit
 abbrev pub Changes : Slice → (Circuit → Units → Units → Type 0) → Type 0
 Changes us P = (c : Circuit) → P c (units c (before us)) (units c (after us))
 
 -- the same for the circuit of the links
-abbrev pub UnitsChange : Slice → Slice → (Circuit → Units → Units → Type 0) → Type 0
+abbrev pub UnitsChange : List ℕ → Slice → (Circuit → Units → Units → Type 0) → Type 0
 UnitsChange links us P = P (net_of links) (units (net_of links) (before us)) (units (net_of links) (after us))
 
 -- what it holds at the call
-abbrev pub units_in : Slice → Slice → Units
-units_in links us = units (net_of links) (before us)
+abbrev pub units_in : List ℕ → List ℕ → Units
+units_in links us = units (net_of links) us
 
 -- ---- how u became v, with the answer r
 

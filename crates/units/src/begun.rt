@@ -10,16 +10,16 @@ use records::MOST_UNITS;
 
 // The unit of entry x begins, if one more may: it joins the units begun.
 pub fn begin_unit(units: &mut [u8], x: u64) -> Filed
-    requires { Room units }
-    ensures { Changes units (λ _ old new. ListsUnit old new result x) }
+    requires { Room units.old }
+    ensures { Changes (units.old, units.new) (λ _ old new. ListsUnit old new result x) }
 {
     stack_push(&mut units[BEGUN..BEGUN_END], MOST_UNITS, x)
 }
 
 // How many have begun.
 pub fn begun(units: &[u8]) -> usize
-    requires { Room units }
-    ensures reads { Reads units (λ _ u. result ≡ length u.begun) }
+    requires { Room units.now }
+    ensures reads { Reads units.now (λ _ u. result ≡ length u.begun) }
     ensures upper_bound { result ≤ most_units }
 {
     count(&units[BEGUN..BEGUN_END], MOST_UNITS)

@@ -9,24 +9,24 @@ use records::MOST_WAITING;
 
 // How many are pending.
 pub fn pending(units: &[u8]) -> usize
-    requires { Room units }
-    ensures { Reads units (λ _ u. result ≡ length u.lists.pending) }
+    requires { Room units.now }
+    ensures { Reads units.now (λ _ u. result ≡ length u.lists.pending) }
 {
     count(&units[PENDING..LATE], MOST_WAITING)
 }
 
 // How many are late.
 pub fn late(units: &[u8]) -> usize
-    requires { Room units }
-    ensures { Reads units (λ _ u. result ≡ length u.lists.late) }
+    requires { Room units.now }
+    ensures { Reads units.now (λ _ u. result ≡ length u.lists.late) }
 {
     count(&units[LATE..CARRIED], MOST_WAITING)
 }
 
 // How many events are delivered and wait.
 pub fn delivered(units: &[u8]) -> usize
-    requires { Room units }
-    ensures { Reads units (λ _ u. result ≡ length u.lists.delivered) }
+    requires { Room units.now }
+    ensures { Reads units.now (λ _ u. result ≡ length u.lists.delivered) }
 {
     count(&units[DELIVERED..BEGUN], MOST_DELIVERED)
 }

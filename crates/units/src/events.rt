@@ -1,6 +1,6 @@
 // Events: two halves of 64 places each. One is the outbox of this tick, the other holds what the tick before sent.
+ghost use Rattle.words.specs.Words.{words};
 ghost use Rattle.std.specs.Prelude.{◌≡◌, cond, [], map, ◌+◌, ◌<◌, ◌≤◌, min, length, get_or};
-ghost use Rattle.words.specs.Slices.{was};
 ghost use Rattle.model.specs.declared.Value.TheVariants.{Nothing};
 ghost use Rattle.model.specs.Base.{among, both, from};
 ghost use Rattle.model.specs.Value.{value_of};
@@ -18,16 +18,16 @@ use words::{get, put};
 
 // The half that is the outbox.
 fn outbox(units: &[u8]) -> usize
-    requires { Room units }
-    ensures { (result ≡ cond (second_half (cut (was units))) 1 0) × (result < 2) }
+    requires { Room units.now }
+    ensures { (result ≡ cond (second_half (cut (words units.now))) 1 0) × (result < 2) }
 {
     if get(units, HALF) == 0 { 0 } else { 1 }
 }
 
 // How many events half h holds.
 fn held(units: &[u8], h: usize) -> usize
-    requires { Room units × (h < 2) }
-    ensures { (result ≡ min (get_or (was units) (counts_at + h) 0) most_gates) × (result ≤ most_gates) }
+    requires { Room units.now × (h < 2) }
+    ensures { (result ≡ min (get_or (words units.now) (counts_at + h) 0) most_gates) × (result ≤ most_gates) }
 {
     let n = get(units, COUNTS + h) as usize;
     if n < MOST_EVENTS { n } else { MOST_EVENTS }
@@ -35,8 +35,8 @@ fn held(units: &[u8], h: usize) -> usize
 
 // Whether gate g sent one of the n events from place a on.
 fn sent_by(units: &[u8], a: usize, n: usize, g: usize) -> bool
-    requires { Room units × (a + n ≤ 128) }
-    ensures { result ≡ among g (map (λ k. get_or (was units) (senders_at + k) 0) (from a n)) }
+    requires { Room units.now × (a + n ≤ 128) }
+    ensures { result ≡ among g (map (λ k. get_or (words units.now) (senders_at + k) 0) (from a n)) }
 {
     let mut i = 0;
     while i < n {
@@ -70,8 +70,8 @@ pub fn send(units: &mut [u8], g: usize, kinds: [u64; 8], contents: [u64; 8])
 
 // Whether gate g has sent an event in this tick.
 pub fn has_sent(units: &[u8], g: usize) -> bool
-    requires { Room units }
-    ensures { Reads units (λ _ u. result ≡ among g (map (λ m. m.gate) u.outbox)) }
+    requires { Room units.now }
+    ensures { Reads units.now (λ _ u. result ≡ among g (map (λ m. m.gate) u.outbox)) }
 {
     let h = outbox(units);
     let n = held(units, h);
@@ -80,8 +80,8 @@ pub fn has_sent(units: &[u8], g: usize) -> bool
 
 // How many events the tick before sent.
 pub fn events(units: &[u8]) -> usize
-    requires { Room units }
-    ensures reads { Reads units (λ _ u. result ≡ length u.events) }
+    requires { Room units.now }
+    ensures reads { Reads units.now (λ _ u. result ≡ length u.events) }
     ensures upper_bound { result ≤ most_gates }
 {
     held(units, 1 - outbox(units))
@@ -89,8 +89,8 @@ pub fn events(units: &[u8]) -> usize
 
 // The gate that sent event e of these.
 pub fn sender(units: &[u8], e: usize) -> usize
-    requires { Room units }
-    ensures { Reads units (λ _ u. result ≡ get_or (map (λ m. m.gate) u.events) e 0) }
+    requires { Room units.now }
+    ensures { Reads units.now (λ _ u. result ≡ get_or (map (λ m. m.gate) u.events) e 0) }
 {
     let h = 1 - outbox(units);
     if held(units, h) <= e {
@@ -101,8 +101,8 @@ pub fn sender(units: &[u8], e: usize) -> usize
 
 // Value j of the row of event e.
 pub fn event_value(units: &[u8], e: usize, j: usize) -> Value
-    requires { Room units }
-    ensures { Reads units (λ _ u. result ≡ get_or (get_or (map (λ m. m.row) u.events) e []) j Nothing) }
+    requires { Room units.now }
+    ensures { Reads units.now (λ _ u. result ≡ get_or (get_or (map (λ m. m.row) u.events) e []) j Nothing) }
 {
     let h = 1 - outbox(units);
     if held(units, h) <= e {

@@ -1,4 +1,6 @@
 // The lists of a tick, in the lent area `units`: calls, what waits, the units begun, the events sent.
+#![tactic(auto)]
+
 pub mod begun;
 pub mod calls;
 pub mod counts;

@@ -1,6 +1,6 @@
 // What is raised, and what waits.
+ghost use Rattle.words.specs.Words.{words};
 ghost use Rattle.std.specs.Prelude.{◌≡◌, [], map, ◌+◌, ◌*◌, ◌<◌, ◌≤◌, length};
-ghost use Rattle.words.specs.Slices.{was, is};
 ghost use Rattle.schedule.specs.Schedule.{most_units, most_waiting};
 ghost use Rattle.model.specs.Circuit.{rank_of_gate};
 ghost use Rattle.model.specs.Chain.{no_calls};
@@ -28,8 +28,8 @@ use words::{get, put};
 
 // x, of that rank, goes below those of the n entries, from the last one down, whose rank is not above its own; these move up by one.
 fn place(links: &[usize], list: &mut [u8], n: usize, x: u64, rank: u64)
-    requires { Linked links × ((n + 2) * 8 ≤ length list.old) × (n < most_units) × (rank ≡ rank_of_gate (net links.now) (gate_of x)) }
-    ensures { map (act_of (net_of links)) (downward (n + 1) (is list)) ≡ by_rank (net_of links) (act_of (net_of links) x) (map (act_of (net_of links)) (downward n (was list))) }
+    requires { Linked links.now × ((n + 2) * 8 ≤ length list.old) × (n < most_units) × (rank ≡ rank_of_gate (net links.now) (gate_of x)) }
+    ensures { map (act_of (net_of links.now)) (downward (n + 1) (words list.new)) ≡ by_rank (net_of links.now) (act_of (net_of links.now) x) (map (act_of (net_of links.now)) (downward n (words list.old))) }
 {
     let mut i = n;
     while 0 < i {
@@ -46,8 +46,8 @@ fn place(links: &[usize], list: &mut [u8], n: usize, x: u64, rank: u64)
 
 // x, of that rank, joins a list by rank, behind all whose rank is not above its own, if there is room.
 fn file(links: &[usize], list: &mut [u8], x: u64, rank: u64) -> Filed
-    requires { Linked links × (length list.old ≡ (most_waiting + 1) * 8) × (rank ≡ rank_of_gate (net links.now) (gate_of x)) }
-    ensures { FilesByRank (net_of links) (was list) (is list) result x }
+    requires { Linked links.now × (length list.old ≡ (most_waiting + 1) * 8) × (rank ≡ rank_of_gate (net links.now) (gate_of x)) }
+    ensures { FilesByRank (net_of links.now) (words list.old) (words list.new) result x }
 {
     let n = lists::count(list, MOST_WAITING);
     if MOST_WAITING <= n {
@@ -60,32 +60,32 @@ fn file(links: &[usize], list: &mut [u8], x: u64, rank: u64) -> Filed
 
 // x, of that rank, joins the late list, if there is room.
 fn file_late(links: &[usize], units: &mut [u8], x: u64, rank: u64) -> Filed
-    requires { Linked links × Room units × (rank ≡ rank_of_gate (net links.now) (gate_of x)) }
-    ensures { UnitsChange links units (λ c old new. Files old new result (activate c Late (act_of c x) old.lists)) }
+    requires { Linked links.now × Room units.old × (rank ≡ rank_of_gate (net links.now) (gate_of x)) }
+    ensures { UnitsChange links.now (units.old, units.new) (λ c old new. Files old new result (activate c Late (act_of c x) old.lists)) }
 {
     file(links, &mut units[LATE..CARRIED], x, rank)
 }
 
 // x, of that rank, joins the pending list, if there is room.
 fn file_pending(links: &[usize], units: &mut [u8], x: u64, rank: u64) -> Filed
-    requires { Linked links × Room units × (rank ≡ rank_of_gate (net links.now) (gate_of x)) }
-    ensures { UnitsChange links units (λ c old new. Files old new result (activate c Pending (act_of c x) old.lists)) }
+    requires { Linked links.now × Room units.old × (rank ≡ rank_of_gate (net links.now) (gate_of x)) }
+    ensures { UnitsChange links.now (units.old, units.new) (λ c old new. Files old new result (activate c Pending (act_of c x) old.lists)) }
 {
     file(links, &mut units[PENDING..LATE], x, rank)
 }
 
 // x is carried, behind the others, if there is room.
 fn carry(units: &mut [u8], x: u64) -> Filed
-    requires { Room units }
-    ensures { Changes units (λ c old new. Files old new result (carry (act_of c x) old.lists)) }
+    requires { Room units.old }
+    ensures { Changes (units.old, units.new) (λ c old new. Files old new result (carry (act_of c x) old.lists)) }
 {
     stack_push(&mut units[CARRIED..DELIVERED], MOST_WAITING, x)
 }
 
 // x goes where it belongs, if there is room.
 pub fn activate(links: &[usize], units: &mut [u8], to: Place, x: u64) -> Filed
-    requires { Linked links × Room units }
-    ensures { UnitsChange links units (λ c old new. Files old new result (activate c to (act_of c x) old.lists)) }
+    requires { Linked links.now × Room units.old }
+    ensures { UnitsChange links.now (units.old, units.new) (λ c old new. Files old new result (activate c to (act_of c x) old.lists)) }
 {
     let rank = rank_of_gate(links, gate_of(x));
     match to {
@@ -103,8 +103,8 @@ pub fn activate(links: &[usize], units: &mut [u8], to: Place, x: u64) -> Filed
 
 // Event e is delivered to gate g, behind the others, if there is room.
 pub fn deliver(units: &mut [u8], g: usize, e: usize) -> Filed
-    requires { Room units }
-    ensures { Changes units (λ _ old new. Files old new result (deliver (event_of old.events (entry_of g 1 e)) old.lists)) }
+    requires { Room units.old }
+    ensures { Changes (units.old, units.new) (λ _ old new. Files old new result (deliver (event_of old.events (entry_of g 1 e)) old.lists)) }
 {
     let x = entry(g, 1, e);
     enqueue(&mut units[DELIVERED..BEGUN], MOST_DELIVERED, x)
@@ -112,32 +112,32 @@ pub fn deliver(units: &mut [u8], g: usize, e: usize) -> Filed
 
 // The next one of the late list is taken off.
 pub fn take_late(units: &mut [u8]) -> Taken
-    requires { Room units }
-    ensures { Changes units (λ c old new. TakesOff old new (act_taken (act_of c) result) old.lists.late (late≔ old.lists)) }
+    requires { Room units.old }
+    ensures { Changes (units.old, units.new) (λ c old new. TakesOff old new (act_taken (act_of c) result) old.lists.late (late≔ old.lists)) }
 {
     stack_pop(&mut units[LATE..CARRIED], MOST_WAITING)
 }
 
 // The oldest of the delivered events is taken off.
 pub fn take_delivered(units: &mut [u8]) -> Taken
-    requires { Room units }
-    ensures { Changes units (λ _ old new. TakesOff old new (act_taken (event_of old.events) result) old.lists.delivered (delivered≔ old.lists)) }
+    requires { Room units.old }
+    ensures { Changes (units.old, units.new) (λ _ old new. TakesOff old new (act_taken (event_of old.events) result) old.lists.delivered (delivered≔ old.lists)) }
 {
     dequeue(&mut units[DELIVERED..BEGUN], MOST_DELIVERED)
 }
 
 // The next one that is pending is taken off.
 pub fn take_pending(units: &mut [u8]) -> Taken
-    requires { Room units }
-    ensures { Changes units (λ c old new. TakesOff old new (act_taken (act_of c) result) old.lists.pending (pending≔ old.lists)) }
+    requires { Room units.old }
+    ensures { Changes (units.old, units.new) (λ c old new. TakesOff old new (act_taken (act_of c) result) old.lists.pending (pending≔ old.lists)) }
 {
     stack_pop(&mut units[PENDING..LATE], MOST_WAITING)
 }
 
 // How many are carried.
 pub fn carried(units: &[u8]) -> usize
-    requires { Room units }
-    ensures reads { Reads units (λ _ u. result ≡ length u.lists.carried) }
+    requires { Room units.now }
+    ensures reads { Reads units.now (λ _ u. result ≡ length u.lists.carried) }
     ensures upper_bound { result ≤ most_waiting }
 {
     lists::count(&units[CARRIED..DELIVERED], MOST_WAITING)
@@ -145,8 +145,8 @@ pub fn carried(units: &[u8]) -> usize
 
 // The late list is empty: the carried are filed there, in the order raised.
 fn file_carried(links: &[usize], units: &mut [u8])
-    requires { Linked links × Room units × ((view (net links.now) units.old).lists.late ≡ []) }
-    ensures { UnitsChange links units (λ c old new. new ≡ with_lists old (late≔ old.lists (all_by_rank c old.lists.carried []))) }
+    requires { Linked links.now × Room units.old × ((view (net links.now) units.old).lists.late ≡ []) }
+    ensures { UnitsChange links.now (units.old, units.new) (λ c old new. new ≡ with_lists old (late≔ old.lists (all_by_rank c old.lists.carried []))) }
 {
     let n = carried(units);
     let mut k: usize = 0;
@@ -159,8 +159,8 @@ fn file_carried(links: &[usize], units: &mut [u8])
 
 // No call waits, nothing is pending or carried, no unit has begun.
 fn clear_rest(units: &mut [u8])
-    requires { Room units }
-    ensures { Changes units (λ _ old new. new ≡ with_begun (with_calls (with_lists old (carried≔ (pending≔ old.lists []) [])) no_calls) []) }
+    requires { Room units.old }
+    ensures { Changes (units.old, units.new) (λ _ old new. new ≡ with_begun (with_calls (with_lists old (carried≔ (pending≔ old.lists []) [])) no_calls) []) }
 {
     put(units, STACK_COUNT, 0);
     put(units, FORKS_COUNT, 0);
@@ -171,8 +171,8 @@ fn clear_rest(units: &mut [u8])
 
 // What the outbox holds is what the tick before sent; the other half is the outbox, and is empty. Nothing is delivered.
 fn switch_half(units: &mut [u8])
-    requires { Room units }
-    ensures { Changes units (λ _ old new. new ≡ with_halves (with_lists old (delivered≔ old.lists [])) [] old.outbox) }
+    requires { Room units.old }
+    ensures { Changes (units.old, units.new) (λ _ old new. new ≡ with_halves (with_lists old (delivered≔ old.lists [])) [] old.outbox) }
 {
     put(units, DELIVERED_COUNT, 0);
     if get(units, HALF) == 0 {
@@ -186,8 +186,8 @@ fn switch_half(units: &mut [u8])
 
 // There is no event, and nothing is delivered.
 fn clear_events(units: &mut [u8])
-    requires { Room units }
-    ensures { Changes units (λ _ old new. new ≡ with_halves (with_lists old (delivered≔ old.lists [])) [] []) }
+    requires { Room units.old }
+    ensures { Changes (units.old, units.new) (λ _ old new. new ≡ with_halves (with_lists old (delivered≔ old.lists [])) [] []) }
 {
     put(units, FIRST_COUNT, 0);
     put(units, SECOND_COUNT, 0);
@@ -196,8 +196,8 @@ fn clear_events(units: &mut [u8])
 
 // The next tick begins: what was carried is late, nothing else waits, no call, no unit has begun, and the outbox is what the tick before sent.
 pub fn next_tick(links: &[usize], units: &mut [u8])
-    requires { Linked links × Room units }
-    ensures { UnitsChange links units (λ c old new. new ≡ reopened c old) }
+    requires { Linked links.now × Room units.old }
+    ensures { UnitsChange links.now (units.old, units.new) (λ c old new. new ≡ reopened c old) }
 {
     put(units, LATE_COUNT, 0);
     file_carried(links, units);
@@ -207,8 +207,8 @@ pub fn next_tick(links: &[usize], units: &mut [u8])
 
 // The lists at the start of a run, whatever the area held.
 pub fn start(links: &[usize], units: &mut [u8])
-    requires { Linked links × Room units }
-    ensures { UnitsChange links units (λ _ old new. new ≡ empty old.rest) }
+    requires { Linked links.now × Room units.old }
+    ensures { UnitsChange links.now (units.old, units.new) (λ _ old new. new ≡ empty old.rest) }
 {
     put(units, LATE_COUNT, 0);
     clear_rest(units);

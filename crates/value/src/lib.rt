@@ -1,4 +1,6 @@
 // The values on wires: how each is read as a truth, an Int or a Float, when two are equal, and each as two words.
+#![tactic(auto)]
+
 ghost use Rattle.std.specs.Prelude.{◌≡◌};
 ghost use Rattle.model.specs.Value.{truthy, as_int, as_float, same, bit, kind_of, content_of, value_of};
 ghost use Rattle.model.specs.Opening.{enabled};

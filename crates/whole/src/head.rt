@@ -19,16 +19,16 @@ use words::get;
 
 // Word i of the record at word `at`.
 fn word(log: &[u8], at: usize, i: usize) -> u64
-    requires { HasWords log at head_size × (i < head_size) }
-    ensures { result ≡ word_at (behind log at) i }
+    requires { HasWords log.now at head_size × (i < head_size) }
+    ensures { result ≡ word_at (behind log.now at) i }
 {
     get(log, at + i)
 }
 
 // Its stop.
 pub fn stop_in(log: &[u8], at: usize) -> u64
-    requires { HasWords log at head_size }
-    ensures { result ≡ stop_in (behind log at) }
+    requires { HasWords log.now at head_size }
+    ensures { result ≡ stop_in (behind log.now at) }
 {
     word(log, at, STOP)
 }
@@ -36,7 +36,7 @@ pub fn stop_in(log: &[u8], at: usize) -> u64
 // How many units it says have begun.
 pub fn begun_count(log: &[u8], at: usize) -> usize
     requires { Stands log.now at }
-    ensures { (result ≡ begun_count (behind log at)) × (result ≤ most_units) }
+    ensures { (result ≡ begun_count (behind log.now at)) × (result ≤ most_units) }
 {
     (word(log, at, LATE) + word(log, at, MAIN)) as usize
 }
@@ -44,15 +44,15 @@ pub fn begun_count(log: &[u8], at: usize) -> usize
 // How many are carried.
 pub fn carried_count(log: &[u8], at: usize) -> usize
     requires { Stands log.now at }
-    ensures { (result ≡ carried_count (behind log at)) × (result ≤ most_waiting) }
+    ensures { (result ≡ carried_count (behind log.now at)) × (result ≤ most_waiting) }
 {
     word(log, at, CARRIED) as usize
 }
 
 // How many outputs it shows: all, or none where there is a stop.
 pub fn shown_count(links: &[usize], log: &[u8], at: usize) -> usize
-    requires { Linked links × HasWords log at head_size }
-    ensures { (result ≡ shown_count (length (net_of links).outputs) (behind log at)) × (result ≤ length (net_of links).outputs) × (result ≤ most_outputs) }
+    requires { Linked links.now × HasWords log.now at head_size }
+    ensures { (result ≡ shown_count (length (net_of links.now).outputs) (behind log.now at)) × (result ≤ length (net_of links.now).outputs) × (result ≤ most_outputs) }
 {
     if stop_in(log, at) == 0 {
         links::outputs(links)
@@ -96,8 +96,8 @@ fn few_begun(late: u64, main: u64) -> bool
 
 // Whether the head at word `at` is one of this tick.
 pub fn good_head(log: &[u8], at: usize, tick: u64) -> bool
-    requires { HasWords log at head_size }
-    ensures { result ≡ good_head tick (behind log at) }
+    requires { HasWords log.now at head_size }
+    ensures { result ≡ good_head tick (behind log.now at) }
 {
     if word(log, at, 0) != tick {
         return false;

@@ -1,6 +1,7 @@
 // Whether the bytes of a log are whole records of a circuit: what every reader of a log asks first.
+#![tactic(auto)]
+
 ghost use Rattle.std.specs.Prelude.{◌≡◌, ◌+◌, ◌*◌, ◌/◌, ◌≤◌, length};
-ghost use Rattle.words.specs.Slices.{before, after};
 ghost use Rattle.links.specs.Lent.{Linked, net_of};
 ghost use Rattle.records.specs.Whole.{good_rows, whole};
 ghost use Rattle.whole.specs.Lent.{behind, Complete};
@@ -23,8 +24,8 @@ pub const NOT_WHOLE: u64 = 16;
 
 // Whether the units and the outputs of the record at word `at` are good.
 fn good_rows(links: &[usize], log: &[u8], at: usize) -> bool
-    requires { Linked links × Complete links log at }
-    ensures { result ≡ good_rows (net_of links) (behind log at) }
+    requires { Linked links.now × Complete links.now log.now at }
+    ensures { result ≡ good_rows (net_of links.now) (behind log.now at) }
 {
     let begun = begun_count(log, at);
     let carried = carried_count(log, at);
@@ -39,8 +40,8 @@ fn good_rows(links: &[usize], log: &[u8], at: usize) -> bool
 
 // How many words the good record of this tick has that begins at word `at`, and 0 where none does.
 fn good_record(links: &[usize], log: &[u8], at: usize, tick: u64) -> usize
-    requires { Linked links × (at * 8 ≤ length log.now) }
-    ensures { (result ≡ size_if_good (net_of links) tick (behind log at)) × (at + result ≤ length (before log) / 8) }
+    requires { Linked links.now × (at * 8 ≤ length log.now) }
+    ensures { (result ≡ size_if_good (net_of links.now) tick (behind log.now at)) × (at + result ≤ length log.now / 8) }
 {
     let room = log.len() / 8 - at;
     let size = record_size(log, at, room + 1, links::outputs(links));
@@ -61,8 +62,8 @@ fn good_record(links: &[usize], log: &[u8], at: usize, tick: u64) -> usize
 
 // Whether a log is whole records of the circuit of these links.
 pub fn whole(links: &[usize], log: &[u8]) -> bool
-    requires { Linked links }
-    ensures { result ≡ whole (net_of links) (before log) }
+    requires { Linked links.now }
+    ensures { result ≡ whole (net_of links.now) log.now }
 {
     if log.len() % 8 != 0 {
         return false;
@@ -87,8 +88,8 @@ pub fn whole(links: &[usize], log: &[u8]) -> bool
 // What a reader of a log is refused with before it asks anything of its own, or 0: the circuit's own refusals first, then 16. The links are made as the circuit's
 // questions make them.
 pub fn log_refusal(circuit: &[u8], log: &[u8], links: &mut [usize]) -> u64
-    requires { Linked links }
-    ensures { Asked (before circuit) (before log) (before links) (after links) result }
+    requires { Linked links.old }
+    ensures { Asked circuit.now log.now links.old links.new result }
 {
     let refused = circuit_refusal(circuit, links);
     if refused != 0 {

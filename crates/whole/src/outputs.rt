@@ -1,6 +1,7 @@
 // Whether a record shows of each output what that output can show.
+ghost use Rattle.words.specs.Words.{words};
 ghost use Rattle.std.specs.Prelude.{◌≡◌, ◌*◌, ◌≤◌, length, get_or};
-ghost use Rattle.words.specs.Slices.{was, HasWords};
+ghost use Rattle.words.specs.Slices.{HasWords};
 ghost use Rattle.model.specs.Kinds.{fires};
 ghost use Rattle.links.specs.Links.{net};
 ghost use Rattle.links.specs.Lent.{Linked, net_of};
@@ -15,8 +16,8 @@ const NOTHING: u64 = 0;
 
 // Whether output o can show this kind and content; one that is not there is an exec.
 fn good_output(links: &[usize], o: usize, kind: u64, content: u64) -> bool
-    requires { Linked links }
-    ensures { result ≡ good_output (get_or (net_of links).outputs o fires) kind content }
+    requires { Linked links.now }
+    ensures { result ≡ good_output (get_or (net_of links.now).outputs o fires) kind content }
 {
     if kind == NOTHING {
         return content == 0;
@@ -29,8 +30,8 @@ fn good_output(links: &[usize], o: usize, kind: u64, content: u64) -> bool
 
 // Whether the first n outputs are good: their kinds stand from word k on, and their contents behind these.
 pub fn good_outputs(links: &[usize], log: &[u8], k: usize, n: usize) -> bool
-    requires { Linked links × (n ≤ length (net links.now).outputs) × HasWords log k (2 * n) }
-    ensures { result ≡ good_outputs (net_of links) (was log) k n }
+    requires { Linked links.now × (n ≤ length (net links.now).outputs) × HasWords log.now k (2 * n) }
+    ensures { result ≡ good_outputs (net_of links.now) (words log.now) k n }
 {
     let mut i = 0;
     while i < n {

@@ -1,6 +1,7 @@
 // Whether the units of a record are gates of a circuit, in forms that they can have.
+ghost use Rattle.words.specs.Words.{words};
 ghost use Rattle.std.specs.Prelude.{◌≡◌, ◌*◌};
-ghost use Rattle.words.specs.Slices.{was, HasWords};
+ghost use Rattle.words.specs.Slices.{HasWords};
 ghost use Rattle.model.specs.Base.{all};
 ghost use Rattle.model.specs.Kinds.{receiving};
 ghost use Rattle.model.specs.Circuit.{has_source, source};
@@ -39,8 +40,8 @@ fn receiving(kind: u64) -> bool
 
 // Whether input i reads an output.
 fn has_source(links: &[usize], i: usize) -> bool
-    requires { Linked links }
-    ensures { result ≡ has_source (source (net_of links) i) }
+    requires { Linked links.now }
+    ensures { result ≡ has_source (source (net_of links.now) i) }
 {
     match links::source(links, i) {
         Read::Output(_) => true,
@@ -50,8 +51,8 @@ fn has_source(links: &[usize], i: usize) -> bool
 
 // Whether input p of gate g is an E that a value drives.
 fn driven(links: &[usize], g: usize, p: usize) -> bool
-    requires { Linked links × Short p }
-    ensures { result ≡ driven (net_of links) g p }
+    requires { Linked links.now × Short p }
+    ensures { result ≡ driven (net_of links.now) g p }
 {
     match kinds::pin_at(kind_of_gate(links, g), p) {
         Pin::Exec => has_source(links, links::input(links, g, p)),
@@ -61,8 +62,8 @@ fn driven(links: &[usize], g: usize, p: usize) -> bool
 
 // Whether gate g can have this form.
 fn can_have(links: &[usize], g: usize, form: usize) -> bool
-    requires { Linked links }
-    ensures { result ≡ can_have (net_of links) g form }
+    requires { Linked links.now }
+    ensures { result ≡ can_have (net_of links.now) g form }
 {
     let kind = kind_of_gate(links, g);
     if form == FIRE {
@@ -88,8 +89,8 @@ fn can_have(links: &[usize], g: usize, form: usize) -> bool
 
 // Whether there is such a gate, and it can have this form.
 fn good_unit(links: &[usize], gate: u64, form: u64) -> bool
-    requires { Linked links }
-    ensures { result ≡ good_unit (net_of links) (listed gate form) }
+    requires { Linked links.now }
+    ensures { result ≡ good_unit (net_of links.now) (listed gate form) }
 {
     let g = gate as usize;
     if links::gates(links) <= g {
@@ -100,8 +101,8 @@ fn good_unit(links: &[usize], gate: u64, form: u64) -> bool
 
 // Whether n units are good: their gates stand from word k on, and their forms behind these.
 pub fn good_units(links: &[usize], log: &[u8], k: usize, n: usize) -> bool
-    requires { Linked links × HasWords log k (2 * n) }
-    ensures { result ≡ all (good_unit (net_of links)) (units_at (was log) k n) }
+    requires { Linked links.now × HasWords log.now k (2 * n) }
+    ensures { result ≡ all (good_unit (net_of links.now)) (units_at (words log.now) k n) }
 {
     let mut i = 0;
     while i < n {

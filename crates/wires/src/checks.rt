@@ -18,8 +18,8 @@ use words::{get, put};
 
 // Watched input i waits to be checked; one that waits already keeps its place. The marking stack stays as it is.
 pub fn watch(links: &[usize], values: &mut [u8], i: usize)
-    requires { Linked links × Room values }
-    ensures { TurnsBesideStack links values (λ _ w. watch w i) }
+    requires { Linked links.now × Room values.old }
+    ensures { TurnsBesideStack links.now (values.old, values.new) (λ _ w. watch w i) }
 {
     if i < inputs(links) {
         if get(values, QUEUED + i) == 0 {
@@ -36,17 +36,17 @@ pub fn watch(links: &[usize], values: &mut [u8], i: usize)
 
 // How many inputs wait to be checked.
 pub fn checks_waiting(links: &[usize], values: &[u8]) -> u64
-    requires { Linked links × Room values }
-    ensures { result ≡ length (wires_in links values).to_check }
+    requires { Linked links.now × Room values.now }
+    ensures { result ≡ length (wires_in links.now values.now).to_check }
 {
     get(values, COUNT)
 }
 
 // Input i may be queued again, and its mark for a late check is gone: whether it had one.
 fn unqueue(links: &[usize], values: &mut [u8], i: usize) -> bool
-    requires { Linked links × Room values }
-    ensures value { result ≡ slice_index_or (wires_in links values).late_checks i false }
-    ensures turns { Turns links values (λ _ w. taken w i w.to_check) }
+    requires { Linked links.now × Room values.old }
+    ensures value { result ≡ slice_index_or (wires_in links.now values.old).late_checks i false }
+    ensures turns { Turns links.now (values.old, values.new) (λ _ w. taken w i w.to_check) }
 {
     if i < inputs(links) {
         let late = get(values, LATE_CHECKS + i) != 0;
@@ -59,9 +59,9 @@ fn unqueue(links: &[usize], values: &mut [u8], i: usize) -> bool
 
 // The input that waits longest is taken, and may be queued again.
 pub fn take_check(links: &[usize], values: &mut [u8]) -> Waiting
-    requires { Linked links × Room values }
-    ensures result_value { (waiting result ≡ oldest (wires_in links values)) × Turns links values (λ _ w. oldest_taken w) }
-    ensures result_value_2 { for_late result ≡ oldest_late (wires_in links values) }
+    requires { Linked links.now × Room values.old }
+    ensures result_value { (waiting result ≡ oldest (wires_in links.now values.old)) × Turns links.now (values.old, values.new) (λ _ w. oldest_taken w) }
+    ensures result_value_2 { for_late result ≡ oldest_late (wires_in links.now values.old) }
 {
     let n = get(values, COUNT);
     if n == 0 {
@@ -77,8 +77,8 @@ pub fn take_check(links: &[usize], values: &mut [u8]) -> Waiting
 
 // What the last check of input i read.
 pub fn last(links: &[usize], values: &[u8], i: usize) -> Remembered
-    requires { Linked links × Room values }
-    ensures { remembered result ≡ slice_index_or (wires_in links values).last i none }
+    requires { Linked links.now × Room values.now }
+    ensures { remembered result ≡ slice_index_or (wires_in links.now values.now).last i none }
 {
     if inputs(links) <= i {
         return Remembered::Nothing;
@@ -94,8 +94,8 @@ pub fn last(links: &[usize], values: &[u8], i: usize) -> Remembered
 
 // The last check of input i read v.
 pub fn set_last(links: &[usize], values: &mut [u8], i: usize, v: Value)
-    requires { Linked links × Room values }
-    ensures { Turns links values (λ _ w. last≔ w (slice_set w.last i (some v))) }
+    requires { Linked links.now × Room values.old }
+    ensures { Turns links.now (values.old, values.new) (λ _ w. last≔ w (slice_set w.last i (some v))) }
 {
     if i < inputs(links) {
         put(values, LAST_KINDS + i, kind_of(v) + 1);

@@ -1,4 +1,6 @@
 // The wires of the machine, in the lent area `values`: reading, refreshing pure gates, marking what a change reaches, and what is remembered of wires.
+#![tactic(auto)]
+
 use model::Value;
 
 pub mod bodies;

@@ -1,6 +1,5 @@
 // Marking: everything that reads an output is stale, through any depth of pure gates, and the watched inputs that this reaches wait to be checked.
 ghost use Rattle.std.specs.Prelude.{◌≡◌, true, slice_set};
-ghost use Rattle.words.specs.Slices.{before, after};
 ghost use Rattle.model.specs.Base.{if◌then◌else◌, each};
 ghost use Rattle.model.specs.Circuit.{readers_of};
 ghost use Rattle.model.specs.State.{late_checks≔};
@@ -25,8 +24,8 @@ use words::{get, put};
 
 // Input i is marked for a late check, if marking is for one.
 fn mark_late(links: &[usize], values: &mut [u8], i: usize)
-    requires { Linked links × Room values }
-    ensures { TurnsBesideStack links values (λ c w. if (area c (before values)).late then late_checks≔ w (slice_set w.late_checks i true) else w) }
+    requires { Linked links.now × Room values.old }
+    ensures { TurnsBesideStack links.now (values.old, values.new) (λ c w. if (area c values.old).late then late_checks≔ w (slice_set w.late_checks i true) else w) }
 {
     if get(values, MARKING_LATE) != 0 {
         if i < MOST_INPUTS {
@@ -37,8 +36,8 @@ fn mark_late(links: &[usize], values: &mut [u8], i: usize)
 
 // Watched input i waits to be checked, for a late check if marking is for one, also where it waits already.
 fn watch_for(links: &[usize], values: &mut [u8], i: usize)
-    requires { Linked links × Room values }
-    ensures { TurnsBesideStack links values (λ c w. watch_for (area c (before values)).late w i) }
+    requires { Linked links.now × Room values.old }
+    ensures { TurnsBesideStack links.now (values.old, values.new) (λ c w. watch_for (area c values.old).late w i) }
 {
     watch(links, values, i);
     mark_late(links, values, i);
@@ -46,9 +45,9 @@ fn watch_for(links: &[usize], values: &mut [u8], i: usize)
 
 // One reader, input i, where n outputs are on the stack: how many there are then. A pure gate that is stale already marks nothing further.
 fn mark_reader(links: &[usize], values: &mut [u8], n: usize, i: usize) -> usize
-    requires linked { Linked links × Room values }
-    requires few_to_do { FewToDo links values n }
-    ensures { Marks links values n result (λ c m. mark_reader c m i) }
+    requires linked { Linked links.now × Room values.old }
+    requires few_to_do { FewToDo links.now values.old n }
+    ensures { Marks links.now (values.old, values.new) n result (λ c m. mark_reader c m i) }
 {
     let g = gate_at_input(links, i);
     if kinds::is_pure(kind_of_gate(links, g)) {
@@ -69,9 +68,9 @@ fn mark_reader(links: &[usize], values: &mut [u8], n: usize, i: usize) -> usize
 
 // The readers of output o, in their order.
 fn mark_row(links: &[usize], values: &mut [u8], n: usize, o: usize) -> usize
-    requires linked { Linked links × Room values }
-    requires few_to_do { FewToDo links values n }
-    ensures { Marks links values n result (λ c m. each (mark_reader c) m (readers_of c o)) }
+    requires linked { Linked links.now × Room values.old }
+    requires few_to_do { FewToDo links.now values.old n }
+    ensures { Marks links.now (values.old, values.new) n result (λ c m. each (mark_reader c) m (readers_of c o)) }
 {
     let first = first_reader(links, o);
     let count = reader_count(links, o);
@@ -86,9 +85,9 @@ fn mark_row(links: &[usize], values: &mut [u8], n: usize, o: usize) -> usize
 
 // The readers of the n outputs on the stack and of all that this finds, the last one found first, in at most `rounds` rounds.
 fn mark_on(links: &[usize], values: &mut [u8], n: usize, rounds: usize)
-    requires linked { Linked links × Room values }
-    requires few_to_do { FewToDo links values n }
-    ensures { Turns links values (λ c _. mark_on c rounds (marking_in links values n)) }
+    requires linked { Linked links.now × Room values.old }
+    requires few_to_do { FewToDo links.now values.old n }
+    ensures { Turns links.now (values.old, values.new) (λ c _. mark_on c rounds (marking_in links.now values.old n)) }
 {
     let mut h = n;
     let mut m = rounds;
@@ -104,8 +103,8 @@ fn mark_on(links: &[usize], values: &mut [u8], n: usize, rounds: usize)
 
 // All that reads output o, for what marking is for.
 fn mark_from(links: &[usize], values: &mut [u8], o: usize)
-    requires { Linked links × Room values }
-    ensures { Turns links values (λ c w. mark_readers_for c (area c (before values)).late w o) }
+    requires { Linked links.now × Room values.old }
+    ensures { Turns links.now (values.old, values.new) (λ c w. mark_readers_for c (area c values.old).late w o) }
 {
     put(values, STACK, o as u64);
     mark_on(links, values, 1, gates(links) + 1);
@@ -113,8 +112,8 @@ fn mark_from(links: &[usize], values: &mut [u8], o: usize)
 
 // Marking is for a late check, or not.
 fn set_marking(links: &[usize], values: &mut [u8], late: bool)
-    requires { Linked links × Room values }
-    ensures { area (net_of links) (after values) ≡ area_for (area (net_of links) (before values)) late }
+    requires { Linked links.now × Room values.old }
+    ensures { area (net_of links.now) values.new ≡ area_for (area (net_of links.now) values.old) late }
 {
     if late {
         put(values, MARKING_LATE, 1);
@@ -125,8 +124,8 @@ fn set_marking(links: &[usize], values: &mut [u8], late: bool)
 
 // All that reads output o, for a late check if `late` says so: of a Var written only inside bodies.
 pub fn mark_readers_for(links: &[usize], values: &mut [u8], o: usize, late: bool)
-    requires { Linked links × Room values }
-    ensures { Turns links values (λ c w. mark_readers_for c late w o) }
+    requires { Linked links.now × Room values.old }
+    ensures { Turns links.now (values.old, values.new) (λ c w. mark_readers_for c late w o) }
 {
     set_marking(links, values, late);
     mark_from(links, values, o);
@@ -134,8 +133,8 @@ pub fn mark_readers_for(links: &[usize], values: &mut [u8], o: usize, late: bool
 
 // All that reads any other output o.
 pub fn mark_readers(links: &[usize], values: &mut [u8], o: usize)
-    requires { Linked links × Room values }
-    ensures { Turns links values (λ c w. mark_readers c w o) }
+    requires { Linked links.now × Room values.old }
+    ensures { Turns links.now (values.old, values.new) (λ c w. mark_readers c w o) }
 {
     set_marking(links, values, false);
     mark_from(links, values, o);
@@ -143,8 +142,8 @@ pub fn mark_readers(links: &[usize], values: &mut [u8], o: usize)
 
 // Time source g becomes stale itself, and all that reads it is marked.
 pub fn invalidate(links: &[usize], values: &mut [u8], g: usize)
-    requires { Linked links × Room values }
-    ensures { Turns links values (λ c w. invalidate c w g) }
+    requires { Linked links.now × Room values.old }
+    ensures { Turns links.now (values.old, values.new) (λ c w. invalidate c w g) }
 {
     soil(links, values, g);
     mark_readers(links, values, output(links, g, 0));
@@ -152,8 +151,8 @@ pub fn invalidate(links: &[usize], values: &mut [u8], g: usize)
 
 // All time sources, in their order.
 pub fn invalidate_all(links: &[usize], values: &mut [u8])
-    requires { Linked links × Room values }
-    ensures { Turns links values (λ c w. each (invalidate c) w c.time_sources) }
+    requires { Linked links.now × Room values.old }
+    ensures { Turns links.now (values.old, values.new) (λ c w. each (invalidate c) w c.time_sources) }
 {
     let mut d = time_sources(links) as u64;
     while d > 0 {
@@ -164,8 +163,8 @@ pub fn invalidate_all(links: &[usize], values: &mut [u8])
 
 // Output o gets value v, which reaches its readers at once if it is not equal to the old one.
 pub fn set_out(links: &[usize], values: &mut [u8], o: usize, v: Value)
-    requires { Linked links × Room values }
-    ensures { Turns links values (λ c w. set_out c w o v) }
+    requires { Linked links.now × Room values.old }
+    ensures { Turns links.now (values.old, values.new) (λ c w. set_out c w o v) }
 {
     let old = shown(links, values, o);
     if same(old, v) {

@@ -15,8 +15,8 @@ use words::{get, put};
 
 // The tick in which the pulse of output o was last raised, 0 for none.
 fn raised_at(links: &[usize], values: &[u8], o: usize) -> u64
-    requires { Linked links × Room values }
-    ensures { result ≡ slice_index (wires_in links values).pulses o }
+    requires { Linked links.now × Room values.now }
+    ensures { result ≡ slice_index (wires_in links.now values.now).pulses o }
 {
     if outputs(links) <= o {
         return 0;
@@ -30,8 +30,8 @@ fn raised_at(links: &[usize], values: &[u8], o: usize) -> u64
 
 // The pulse of output o is raised in this tick.
 fn set_pulse(links: &[usize], values: &mut [u8], o: usize)
-    requires { Linked links × Room values }
-    ensures { Turns links values (λ _ w. pulses≔ w (slice_set w.pulses o w.tick)) }
+    requires { Linked links.now × Room values.old }
+    ensures { Turns links.now (values.old, values.new) (λ _ w. pulses≔ w (slice_set w.pulses o w.tick)) }
 {
     if o < outputs(links) {
         let tick = get(values, TICK);
@@ -43,8 +43,8 @@ fn set_pulse(links: &[usize], values: &mut [u8], o: usize)
 
 // The pulse of output o has ended.
 fn end_pulse(links: &[usize], values: &mut [u8], o: usize)
-    requires { Linked links × Room values }
-    ensures { Turns links values (λ _ w. pulses≔ w (slice_set w.pulses o 0)) }
+    requires { Linked links.now × Room values.old }
+    ensures { Turns links.now (values.old, values.new) (λ _ w. pulses≔ w (slice_set w.pulses o 0)) }
 {
     if o < outputs(links) {
         let d = get(values, UP + o / 64);
@@ -56,8 +56,8 @@ fn end_pulse(links: &[usize], values: &mut [u8], o: usize)
 
 // A detector's output o goes up, or stays up, from this tick on.
 pub fn pulse(links: &[usize], values: &mut [u8], o: usize)
-    requires { Linked links × Room values }
-    ensures { Turns links values (λ c w. pulse c w o) }
+    requires { Linked links.now × Room values.old }
+    ensures { Turns links.now (values.old, values.new) (λ c w. pulse c w o) }
 {
     set_out(links, values, o, Value::Bool(true));
     set_pulse(links, values, o);
@@ -78,8 +78,8 @@ fn has_ended(at: u64, tick: u64) -> bool
 
 // The pulse of output o falls, if it has ended.
 pub fn lower(links: &[usize], values: &mut [u8], o: usize)
-    requires { Linked links × Room values }
-    ensures { Turns links values (λ c w. lower c w o) }
+    requires { Linked links.now × Room values.old }
+    ensures { Turns links.now (values.old, values.new) (λ c w. lower c w o) }
 {
     let at = raised_at(links, values, o);
     if has_ended(at, get(values, TICK)) {
@@ -90,8 +90,8 @@ pub fn lower(links: &[usize], values: &mut [u8], o: usize)
 
 // The pulses of the 64 outputs of word j that have ended fall, in their order.
 fn lower_word(links: &[usize], values: &mut [u8], j: usize)
-    requires { Linked links × Room values × (j < 9) }
-    ensures { Turns links values (λ c w. each (lower c) w (from (64 * j) 64)) }
+    requires { Linked links.now × Room values.old × (j < 9) }
+    ensures { Turns links.now (values.old, values.new) (λ c w. each (lower c) w (from (64 * j) 64)) }
 {
     let mut d = get(values, UP + j);
     while d > 0 {
@@ -102,8 +102,8 @@ fn lower_word(links: &[usize], values: &mut [u8], j: usize)
 
 // All pulses that have ended fall, in the order of their outputs.
 pub fn lower_all(links: &[usize], values: &mut [u8])
-    requires { Linked links × Room values }
-    ensures { Turns links values (λ c w. each (lower c) w (from 0 (length c.outputs))) }
+    requires { Linked links.now × Room values.old }
+    ensures { Turns links.now (values.old, values.new) (λ c w. each (lower c) w (from 0 (length c.outputs))) }
 {
     let n = (outputs(links) + 63) / 64;
     let mut j = 0;

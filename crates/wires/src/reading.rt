@@ -13,8 +13,8 @@ use words::{get, put};
 
 // What output o shows.
 pub fn shown(links: &[usize], values: &[u8], o: usize) -> Value
-    requires { Linked links × Room values }
-    ensures { result ≡ shown (wires_in links values) o }
+    requires { Linked links.now × Room values.now }
+    ensures { result ≡ shown (wires_in links.now values.now) o }
 {
     if o < outputs(links) {
         let tag = get(values, OUT_TAGS + o);
@@ -27,8 +27,8 @@ pub fn shown(links: &[usize], values: &[u8], o: usize) -> Value
 
 // Output o shows v, and its readers are not told.
 pub fn show(links: &[usize], values: &mut [u8], o: usize, v: Value)
-    requires { Linked links × Room values }
-    ensures { Turns links values (λ _ w. show w o v) }
+    requires { Linked links.now × Room values.old }
+    ensures { Turns links.now (values.old, values.new) (λ _ w. show w o v) }
 {
     if o < outputs(links) {
         put(values, OUT_TAGS + o, tag_of(v));
@@ -38,8 +38,8 @@ pub fn show(links: &[usize], values: &mut [u8], o: usize, v: Value)
 
 // What stands at input i: what its source shows, or else the value stored in it.
 pub fn look(links: &[usize], values: &[u8], i: usize) -> Value
-    requires { Linked links × Room values }
-    ensures { result ≡ look (net_of links) (wires_in links values) i }
+    requires { Linked links.now × Room values.now }
+    ensures { result ≡ look (net_of links.now) (wires_in links.now values.now) i }
 {
     let s = source(links, i);
     match s {

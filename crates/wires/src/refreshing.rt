@@ -18,8 +18,8 @@ use words::get;
 
 // What pure gate g gives.
 pub fn compute(links: &[usize], values: &[u8], g: usize) -> Value
-    requires { Linked links × Room values }
-    ensures { result ≡ compute (net_of links) (wires_in links values) g }
+    requires { Linked links.now × Room values.now }
+    ensures { result ≡ compute (net_of links.now) (wires_in links.now values.now) g }
 {
     match kind_of_gate(links, g) {
         // a Select
@@ -42,8 +42,8 @@ pub fn compute(links: &[usize], values: &[u8], g: usize) -> Value
 
 // Pure gate g shows what it gives, and is fresh.
 pub fn recompute(links: &[usize], values: &mut [u8], g: usize)
-    requires { Linked links × Room values }
-    ensures { Turns links values (λ c w. recompute c w g) }
+    requires { Linked links.now × Room values.old }
+    ensures { Turns links.now (values.old, values.new) (λ c w. recompute c w g) }
 {
     let v = compute(links, values, g);
     show(links, values, output(links, g, 0), v);
@@ -52,8 +52,8 @@ pub fn recompute(links: &[usize], values: &mut [u8], g: usize)
 
 // How many inputs gate g has.
 fn inputs_of(links: &[usize], g: usize) -> usize
-    requires { Linked links }
-    ensures { (result ≡ length (kind_at (kind_of_gate (net_of links) g)).ins) × (result ≤ 10) }
+    requires { Linked links.now }
+    ensures { (result ≡ length (kind_at (kind_of_gate (net_of links.now) g)).ins) × (result ≤ 10) }
 {
     kinds::inputs(kind_of_gate(links, g))
 }
@@ -61,8 +61,8 @@ fn inputs_of(links: &[usize], g: usize) -> usize
 // Gate g, if it is stale, is recomputed after all its stale sources, which go at most `deep` gates deep.
 #[cycle(refresh_behind_refresh_sources_refresh_to)]
 fn refresh_to(links: &[usize], values: &mut [u8], deep: usize, g: usize)
-    requires { Linked links × Room values }
-    ensures { Turns links values (λ c w. refresh_to c deep w g) }
+    requires { Linked links.now × Room values.old }
+    ensures { Turns links.now (values.old, values.new) (λ c w. refresh_to c deep w g) }
 {
     if deep > 0 {
         if is_dirty(links, values, g) {
@@ -77,8 +77,8 @@ fn refresh_to(links: &[usize], values: &mut [u8], deep: usize, g: usize)
 // What n inputs from a on read is refreshed, in their order.
 #[cycle(refresh_behind_refresh_sources_refresh_to)]
 fn refresh_sources(links: &[usize], values: &mut [u8], deep: usize, a: usize, n: usize)
-    requires { Linked links × Room values × (a + n < 262144) }
-    ensures { Turns links values (λ c w. each (behind c (refresh_to c deep)) w (from a n)) }
+    requires { Linked links.now × Room values.old × (a + n < 262144) }
+    ensures { Turns links.now (values.old, values.new) (λ c w. each (behind c (refresh_to c deep)) w (from a n)) }
 {
     let mut k = 0;
     while k < n {
@@ -90,8 +90,8 @@ fn refresh_sources(links: &[usize], values: &mut [u8], deep: usize, a: usize, n:
 // The gate that input i reads is refreshed, if it reads one.
 #[cycle(refresh_behind_refresh_sources_refresh_to)]
 fn refresh_behind(links: &[usize], values: &mut [u8], deep: usize, i: usize)
-    requires { Linked links × Room values }
-    ensures { Turns links values (λ c w. behind c (refresh_to c deep) w i) }
+    requires { Linked links.now × Room values.old }
+    ensures { Turns links.now (values.old, values.new) (λ c w. behind c (refresh_to c deep) w i) }
 {
     let s = source(links, i);
     match s {
@@ -108,24 +108,24 @@ fn refresh_behind(links: &[usize], values: &mut [u8], deep: usize, i: usize)
 
 // Gate g and all that it reads.
 pub fn refresh(links: &[usize], values: &mut [u8], g: usize)
-    requires { Linked links × Room values }
-    ensures { Turns links values (λ c w. refresh c w g) }
+    requires { Linked links.now × Room values.old }
+    ensures { Turns links.now (values.old, values.new) (λ c w. refresh c w g) }
 {
     refresh_to(links, values, gates(links), g);
 }
 
 // What input i reads is fresh.
 pub fn ready(links: &[usize], values: &mut [u8], i: usize)
-    requires { Linked links × Room values }
-    ensures { Turns links values (λ c w. ready c w i) }
+    requires { Linked links.now × Room values.old }
+    ensures { Turns links.now (values.old, values.new) (λ c w. ready c w i) }
 {
     refresh_behind(links, values, gates(links), i);
 }
 
 // Every stale gate is refreshed, the lowest first, until none remains.
 pub fn refresh_all(links: &[usize], values: &mut [u8])
-    requires { Linked links × Room values }
-    ensures { Turns links values (λ c w. refresh_all c w) }
+    requires { Linked links.now × Room values.old }
+    ensures { Turns links.now (values.old, values.new) (λ c w. refresh_all c w) }
 {
     let mut d = get(values, DIRTY);
     while u64::count_ones(d) > 0 {

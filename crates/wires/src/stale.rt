@@ -10,8 +10,8 @@ use words::{get, put};
 
 // Whether gate g is stale.
 pub fn is_dirty(links: &[usize], values: &[u8], g: usize) -> bool
-    requires { Linked links × Room values }
-    ensures { result ≡ is_dirty (wires_in links values) g }
+    requires { Linked links.now × Room values.now }
+    ensures { result ≡ is_dirty (wires_in links.now values.now) g }
 {
     if g < gates(links) {
         (get(values, DIRTY) >> g) % 2 != 0
@@ -22,8 +22,8 @@ pub fn is_dirty(links: &[usize], values: &[u8], g: usize) -> bool
 
 // Whether gate g is in the circuit and not stale.
 pub fn is_clean(links: &[usize], values: &[u8], g: usize) -> bool
-    requires { Linked links × Room values }
-    ensures { result ≡ is_clean (wires_in links values) g }
+    requires { Linked links.now × Room values.now }
+    ensures { result ≡ is_clean (wires_in links.now values.now) g }
 {
     if g < gates(links) {
         (get(values, DIRTY) >> g) % 2 == 0
@@ -34,8 +34,8 @@ pub fn is_clean(links: &[usize], values: &[u8], g: usize) -> bool
 
 // Gate g becomes stale. The marking stack stays as it is.
 pub fn soil(links: &[usize], values: &mut [u8], g: usize)
-    requires { Linked links × Room values }
-    ensures { TurnsBesideStack links values (λ _ w. soil w g) }
+    requires { Linked links.now × Room values.old }
+    ensures { TurnsBesideStack links.now (values.old, values.new) (λ _ w. soil w g) }
 {
     if g < gates(links) {
         let d = get(values, DIRTY);
@@ -45,8 +45,8 @@ pub fn soil(links: &[usize], values: &mut [u8], g: usize)
 
 // Gate g is fresh.
 pub fn clean(links: &[usize], values: &mut [u8], g: usize)
-    requires { Linked links × Room values }
-    ensures { Turns links values (λ _ w. clean w g) }
+    requires { Linked links.now × Room values.old }
+    ensures { Turns links.now (values.old, values.new) (λ _ w. clean w g) }
 {
     if g < gates(links) {
         let d = get(values, DIRTY);

@@ -18,8 +18,8 @@ use words::put;
 
 // All tables are cleared.
 fn clear(links: &[usize], values: &mut [u8])
-    requires { Linked links × Room values }
-    ensures { Turns links values (λ c _. blank c) }
+    requires { Linked links.now × Room values.old }
+    ensures { Turns links.now (values.old, values.new) (λ c _. blank c) }
 {
     let mut k = 0;
     while k < TABLES {
@@ -30,8 +30,8 @@ fn clear(links: &[usize], values: &mut [u8])
 
 // Gate g, if it is pure, is stale; a Var shows its initial.
 fn prepare(links: &[usize], values: &mut [u8], g: usize)
-    requires { Linked links × Room values }
-    ensures { Turns links values (λ c w. prepared c w g) }
+    requires { Linked links.now × Room values.old }
+    ensures { Turns links.now (values.old, values.new) (λ c w. prepared c w g) }
 {
     let kind = kind_of_gate(links, g);
     if kinds::is_pure(kind) {
@@ -45,8 +45,8 @@ fn prepare(links: &[usize], values: &mut [u8], g: usize)
 
 // Every gate is prepared.
 fn prepare_all(links: &[usize], values: &mut [u8])
-    requires { Linked links × Room values }
-    ensures { Turns links values (λ c w. each (prepared c) w (from 0 (length c.kinds))) }
+    requires { Linked links.now × Room values.old }
+    ensures { Turns links.now (values.old, values.new) (λ c w. each (prepared c) w (from 0 (length c.kinds))) }
 {
     let n = gates(links);
     let mut g = 0;
@@ -58,8 +58,8 @@ fn prepare_all(links: &[usize], values: &mut [u8])
 
 // Input i, if it is watched, waits for its first check.
 fn await_check(links: &[usize], values: &mut [u8], i: usize)
-    requires { Linked links × Room values }
-    ensures { Turns links values (λ c w. awaited c w i) }
+    requires { Linked links.now × Room values.old }
+    ensures { Turns links.now (values.old, values.new) (λ c w. awaited c w i) }
 {
     if watching(links, i) {
         watch(links, values, i);
@@ -68,8 +68,8 @@ fn await_check(links: &[usize], values: &mut [u8], i: usize)
 
 // Every watched input waits for its first check, in ascending gate and input.
 fn await_checks(links: &[usize], values: &mut [u8])
-    requires { Linked links × Room values }
-    ensures { Turns links values (λ c w. each (awaited c) w (from 0 (length c.pins))) }
+    requires { Linked links.now × Room values.old }
+    ensures { Turns links.now (values.old, values.new) (λ c w. each (awaited c) w (from 0 (length c.pins))) }
 {
     let n = inputs(links);
     let mut i = 0;
@@ -81,8 +81,8 @@ fn await_checks(links: &[usize], values: &mut [u8])
 
 // The wires at the start of a run, whatever the area held.
 pub fn start(links: &[usize], values: &mut [u8])
-    requires { Linked links × Room values }
-    ensures { Turns links values (λ c _. wires_at_start c) }
+    requires { Linked links.now × Room values.old }
+    ensures { Turns links.now (values.old, values.new) (λ c _. wires_at_start c) }
 {
     clear(links, values);
     prepare_all(links, values);

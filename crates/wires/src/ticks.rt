@@ -12,8 +12,8 @@ use words::{get, put};
 
 // Whether Union g has passed in this tick.
 pub fn passed(links: &[usize], values: &[u8], g: usize) -> bool
-    requires { Linked links × Room values }
-    ensures { result ≡ slice_index_or (wires_in links values).unions_passed g false }
+    requires { Linked links.now × Room values.now }
+    ensures { result ≡ slice_index_or (wires_in links.now values.now).unions_passed g false }
 {
     if g < gates(links) {
         (get(values, UNIONS_PASSED) >> g) % 2 != 0
@@ -24,8 +24,8 @@ pub fn passed(links: &[usize], values: &[u8], g: usize) -> bool
 
 // Union g passes.
 pub fn pass(links: &[usize], values: &mut [u8], g: usize)
-    requires { Linked links × Room values }
-    ensures { Turns links values (λ _ w. unions_passed≔ w (slice_set w.unions_passed g true)) }
+    requires { Linked links.now × Room values.old }
+    ensures { Turns links.now (values.old, values.new) (λ _ w. unions_passed≔ w (slice_set w.unions_passed g true)) }
 {
     if g < gates(links) {
         let d = get(values, UNIONS_PASSED);
@@ -35,16 +35,16 @@ pub fn pass(links: &[usize], values: &mut [u8], g: usize)
 
 // The number of this tick.
 pub fn tick(links: &[usize], values: &[u8]) -> u64
-    requires { Linked links × Room values }
-    ensures { result ≡ (wires_in links values).tick }
+    requires { Linked links.now × Room values.now }
+    ensures { result ≡ (wires_in links.now values.now).tick }
 {
     get(values, TICK)
 }
 
 // The length of this tick, as f64 bits.
 pub fn dt(links: &[usize], values: &[u8]) -> u64
-    requires { Linked links × Room values }
-    ensures { result ≡ (wires_in links values).dt }
+    requires { Linked links.now × Room values.now }
+    ensures { result ≡ (wires_in links.now values.now).dt }
 {
     get(values, DT)
 }
@@ -54,8 +54,8 @@ pub const MOST_RUNS: u64 = 100000;
 
 // The next tick begins, of this length: no Union has passed, and no body was run.
 pub fn next_tick(links: &[usize], values: &mut [u8], dt: u64)
-    requires { Linked links × Room values × TickFits links values }
-    ensures { Turns links values (λ _ w. next_tick w dt) }
+    requires { Linked links.now × Room values.old × TickFits links.now values.old }
+    ensures { Turns links.now (values.old, values.new) (λ _ w. next_tick w dt) }
 {
     let tick = get(values, TICK);
     let uptime = get(values, UPTIME);

@@ -1,6 +1,6 @@
 // The Vars written, and how they reach what reads them.
+ghost use Rattle.words.specs.Words.{words};
 ghost use Rattle.std.specs.Prelude.{◌≡◌, ◌≤◌, true, false, not, length, take, slice_index_or, slice_set};
-ghost use Rattle.words.specs.Slices.{was};
 ghost use Rattle.model.specs.Base.{if◌then◌else◌, among, each};
 ghost use Rattle.model.specs.State.{written_outside≔};
 ghost use Rattle.model.specs.Exec.{write_once, record_write};
@@ -18,8 +18,8 @@ use words::{get, put};
 
 // Whether o is one of the first n Vars written.
 fn is_written(values: &[u8], n: usize, o: usize) -> bool
-    requires { Room values × (n ≤ 64) }
-    ensures { result ≡ among o (take n (cut (was values)).written) }
+    requires { Room values.now × (n ≤ 64) }
+    ensures { result ≡ among o (take n (cut (words values.now)).written) }
 {
     let mut k = 0;
     while k < n {
@@ -33,8 +33,8 @@ fn is_written(values: &[u8], n: usize, o: usize) -> bool
 
 // A Var written, once; o is its output.
 fn write_once(links: &[usize], values: &mut [u8], o: usize)
-    requires { Linked links × Room values }
-    ensures { Turns links values (λ c w. write_once c w o) }
+    requires { Linked links.now × Room values.old }
+    ensures { Turns links.now (values.old, values.new) (λ c w. write_once c w o) }
 {
     let n = get(values, WRITTEN_COUNT) as usize;
     if MOST_WRITTEN <= n {
@@ -49,8 +49,8 @@ fn write_once(links: &[usize], values: &mut [u8], o: usize)
 
 // The Var of output o is marked as written outside bodies, unless `inside` says that one is running.
 fn mark_outside(links: &[usize], values: &mut [u8], o: usize, inside: bool)
-    requires { Linked links × Room values }
-    ensures { Turns links values (λ c w. if inside then w else written_outside≔ w (slice_set w.written_outside (gate_at_output c o) true)) }
+    requires { Linked links.now × Room values.old }
+    ensures { Turns links.now (values.old, values.new) (λ c w. if inside then w else written_outside≔ w (slice_set w.written_outside (gate_at_output c o) true)) }
 {
     if inside {
         return;
@@ -64,8 +64,8 @@ fn mark_outside(links: &[usize], values: &mut [u8], o: usize, inside: bool)
 
 // A Var written, once, while a body is running (`inside`) or outside; o is its output.
 pub fn record_write(links: &[usize], values: &mut [u8], o: usize, inside: bool)
-    requires { Linked links × Room values }
-    ensures { Turns links values (λ c w. record_write c inside w o) }
+    requires { Linked links.now × Room values.old }
+    ensures { Turns links.now (values.old, values.new) (λ c w. record_write c inside w o) }
 {
     mark_outside(links, values, o, inside);
     write_once(links, values, o);
@@ -73,8 +73,8 @@ pub fn record_write(links: &[usize], values: &mut [u8], o: usize, inside: bool)
 
 // Whether the Var of output o was not written outside bodies.
 fn only_inside(links: &[usize], values: &[u8], o: usize) -> bool
-    requires { Linked links × Room values }
-    ensures { result ≡ not (slice_index_or (wires_in links values).written_outside (gate_at_output (net_of links) o) false) }
+    requires { Linked links.now × Room values.now }
+    ensures { result ≡ not (slice_index_or (wires_in links.now values.now).written_outside (gate_at_output (net_of links.now) o) false) }
 {
     let g = gate_at_output(links, o);
     if g < gates(links) {
@@ -86,8 +86,8 @@ fn only_inside(links: &[usize], values: &[u8], o: usize) -> bool
 
 // The Var of output o, which was written, reaches what reads it, for a late check if it was written only inside bodies.
 fn publish_write(links: &[usize], values: &mut [u8], o: usize)
-    requires { Linked links × Room values }
-    ensures { Turns links values (λ c w. publish_write c w o) }
+    requires { Linked links.now × Room values.old }
+    ensures { Turns links.now (values.old, values.new) (λ c w. publish_write c w o) }
 {
     let late = only_inside(links, values, o);
     mark_readers_for(links, values, o, late);
@@ -95,8 +95,8 @@ fn publish_write(links: &[usize], values: &mut [u8], o: usize)
 
 // How many Vars are written.
 fn written(links: &[usize], values: &[u8]) -> usize
-    requires { Linked links × Room values }
-    ensures { (result ≡ length (wires_in links values).written) × (result ≤ most_gates) }
+    requires { Linked links.now × Room values.now }
+    ensures { (result ≡ length (wires_in links.now values.now).written) × (result ≤ most_gates) }
 {
     let n = get(values, WRITTEN_COUNT) as usize;
     if n < MOST_WRITTEN {
@@ -107,8 +107,8 @@ fn written(links: &[usize], values: &[u8]) -> usize
 
 // All that reads the Vars written is marked, in the order of their first write.
 fn mark_written(links: &[usize], values: &mut [u8])
-    requires { Linked links × Room values }
-    ensures { Turns links values (λ c w. each (publish_write c) w w.written) }
+    requires { Linked links.now × Room values.old }
+    ensures { Turns links.now (values.old, values.new) (λ c w. each (publish_write c) w w.written) }
 {
     let n = written(links, values);
     let mut k = 0;
@@ -120,8 +120,8 @@ fn mark_written(links: &[usize], values: &mut [u8])
 
 // The Vars written reach what reads them, also where the value did not change; then none is written.
 pub fn publish_writes(links: &[usize], values: &mut [u8])
-    requires { Linked links × Room values }
-    ensures { Turns links values (λ c w. publish_writes c w) }
+    requires { Linked links.now × Room values.old }
+    ensures { Turns links.now (values.old, values.new) (λ c w. publish_writes c w) }
 {
     mark_written(links, values);
     put(values, WRITTEN_COUNT, 0);

@@ -1,7 +1,8 @@
 // Words of eight bytes, least first, in byte slices.
+#![tactic(auto)]
+
 ghost use Rattle.std.specs.Prelude.{◌≡◌, ◌+◌, ◌*◌, ◌<◌, ◌≤◌, length, get_or};
-ghost use Rattle.words.specs.Words.{Stored, signed, unsigned};
-ghost use Rattle.words.specs.Slices.{before, after, was};
+ghost use Rattle.words.specs.Words.{words, Stored, signed, unsigned};
 
 pub mod counting;
 pub mod rows;
@@ -17,7 +18,7 @@ fn wide(x: u8) -> u64
 // Word i of the area.
 pub fn get(area: &[u8], i: usize) -> u64
     requires { i * 8 + 8 ≤ length area.now }
-    ensures { result ≡ get_or (was area) i 0 }
+    ensures { result ≡ get_or (words area.now) i 0 }
 {
     let o = i * 8;
     wide(area[o])
@@ -33,7 +34,7 @@ pub fn get(area: &[u8], i: usize) -> u64
 // Word i of the area becomes v.
 pub fn put(area: &mut [u8], i: usize, v: u64)
     requires { i * 8 + 8 ≤ length area.old }
-    ensures { Stored (before area) (after area) i v }
+    ensures { Stored area.old area.new i v }
 {
     let o = i * 8;
     let v1 = v / 256;
@@ -55,7 +56,7 @@ pub fn put(area: &mut [u8], i: usize, v: u64)
 
 // Word i, or 0 where the area has no word i.
 pub fn read(area: &[u8], i: usize) -> u64
-    ensures { result ≡ get_or (was area) i 0 }
+    ensures { result ≡ get_or (words area.now) i 0 }
 {
     if area.len() / 8 <= i {
         return 0;
@@ -65,7 +66,7 @@ pub fn read(area: &[u8], i: usize) -> u64
 
 // Word i becomes v. Where the area has no word i, nothing changes.
 pub fn write(area: &mut [u8], i: usize, v: u64)
-    ensures { Stored (before area) (after area) i v }
+    ensures { Stored area.old area.new i v }
 {
     if i < area.len() / 8 {
         put(area, i, v);
@@ -92,14 +93,14 @@ pub fn unsigned(z: i64) -> u64
 
 // What word i stands for, or 0 where the area has no word i.
 pub fn read_signed(area: &[u8], i: usize) -> i64
-    ensures { result ≡ signed (get_or (was area) i 0) }
+    ensures { result ≡ signed (get_or (words area.now) i 0) }
 {
     signed(read(area, i))
 }
 
 // Word i becomes the one that stands for z. Where the area has no word i, nothing changes.
 pub fn write_signed(area: &mut [u8], i: usize, z: i64)
-    ensures { Stored (before area) (after area) i (unsigned z) }
+    ensures { Stored area.old area.new i (unsigned z) }
 {
     write(area, i, unsigned(z));
 }

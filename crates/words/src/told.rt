@@ -1,10 +1,9 @@
 // Words that a caller lends to be told of what was done.
 ghost use Rattle.std.specs.Prelude.{◌≡◌, set};
-ghost use Rattle.words.specs.Slices.{before, after};
 
 // Word i becomes v, if there is such a word.
 pub fn put_at(told: &mut [u64], i: usize, v: u64)
-    ensures { after told ≡ set (before told) i v }
+    ensures { told.new ≡ set told.old i v }
 {
     if i < told.len() {
         told[i] = v;

@@ -1,4 +1,6 @@
 // Sums and products that wrap at 64 bits, and the index of a loop.
+#![tactic(auto)]
+
 ghost use Rattle.std.specs.Prelude.{◌≡◌, ◌*◌, ◌%◌, ◌^◌};
 ghost use Rattle.words.specs.Words.{signed};
 ghost use Rattle.model.specs.Loops.{index};
