@@ -257,7 +257,8 @@ among_from a zero p l = absurd (omega arith)
 among_from a (suc n) zero l = rw (eq-eqb (a + 0) a (add-zero a))
 among_from a (suc n) (suc p) l =
     let e : a + suc p ≡ suc a + p = omega arith in
-    rw (e, among_from (suc a) n p (omega arith), or-true)
+    let h : among (a + suc p) (from (suc a) n) ≡ true = rw e (among_from (suc a) n p (omega arith)) in
+    rw (h, or-true)
 
 pub from_length : (n k : ℕ) → length (from n k) ≡ k
 unfolding from

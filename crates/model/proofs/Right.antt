@@ -303,7 +303,7 @@ module _ (c : Circuit) where
 
     -- a gate that reads is no time source
     readers_fed : (o : ℕ) → all (λ i. not (time_source (kind_of_gate c (gate_at_input c i)))) (readers_of c o) ≡ true
-    readers_fed o = among_all _ (readers_of c o) λ i m. rw (W.fed i (W.source_at i o (W.read_by_lem i o m))) refl
+    readers_fed o = among_all _ (readers_of c o) λ i m. rw (W.fed i (W.source_at i o (W.read_by i o m))) refl
 
     -- what is so of a reader that was marked
     record Marked (i : ℕ) (m : Marking) : Type 0 where

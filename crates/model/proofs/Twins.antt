@@ -118,7 +118,7 @@ module _ (c : Circuit) (W : Wired c) where
           go : (b : Bool) → is_dirty w (gate_at_input c i) ≡ b → is_dirty w (gate_at_input c i) ≡ true
           go true e = e
           go false e =
-              let s = W.read_by_lem i (output c g 0) m in
+              let s = W.read_by i (output c g 0) m in
               let l = W.source_at i (output c g 0) s in
               let n = not_so _ λ u. clash (timed_source (gate_at_input c i) u) (W.fed i l) in
               clash ((f.right.gates (gate_at_input c i) p e n).sources i (output c g 0) (W.own_input i l) s (reads_stale g d)) (among_none (output c g 0))
@@ -126,7 +126,7 @@ module _ (c : Circuit) (W : Wired c) where
       inputs :
           (g i : ℕ) → is_dirty w g ≡ true → among i (readers_of c (output c g 0)) ≡ true → pure (kind_of_gate c (gate_at_input c i)) ≡ false →
           watching c i ≡ true → get_or v.queued i true ≡ true
-      inputs g i d m p a = rw q (go (f.right.inputs i (among_none i) a p (output c g 0) (W.read_by_lem i (output c g 0) m) (reads_stale g d)))
+      inputs g i d m p a = rw q (go (f.right.inputs i (among_none i) a p (output c g 0) (W.read_by i (output c g 0) m) (reads_stale g d)))
         where
           go : (get_or w.queued i true ≡ true) ⊎ (among (output c g 0) [] ≡ true) → get_or w.queued i true ≡ true
           go (inl e) = e
