@@ -1,7 +1,6 @@
 // The numbers that a run stops with: document 01's stops.
 #![tactic(auto)]
 
-
 // A tick would make one step more than it may.
 pub const RUNAWAY: u64 = 11;
 

@@ -1,0 +1,39 @@
+use Prim.Native.Nat.{ℕ, zero-le}
+use mathlib.Core.Path.{refl}
+use mathlib.Core.List.{List, []}
+use lib.ListN.{get_or}
+use Rattle.model.specs.Base.{base_opened}
+use Rattle.model.specs.Kinds.{Kind, Out, fires, kinds_opened}
+use Rattle.kinds.specs.Pins.{out_of}
+use Rattle.kinds.proofs.Laws.{ranged, last, beside}
+use Rattle.kinds.proofs.later_output.Goals as goal
+
+-- `kinds::later_output` meets its contract: each arm gives what the table has there. Assumes nothing.
+
+-- the table's entry
+abbrev entry : Kind → Out
+entry = λ k. get_or k.outs 4 fires
+
+-- the keys of the arms, the last arm's first
+abbrev others : List (List ℕ)
+others = []
+
+pub returns-in-16-to-17 : goal.returns-in-16-to-17
+unfolding kinds_opened base_opened out_of beside
+returns-in-16-to-17 c = ranged entry _ others _ _ _ tt c.in-16-to-17.if-kind-lt16-own.false c.in-16-to-17.if-kind-lt18-own.true refl
+
+pub returns-in-16-to-17-2 : goal.returns-in-16-to-17-2
+unfolding kinds_opened base_opened out_of beside
+returns-in-16-to-17-2 c = ranged entry _ others _ _ _ tt c.in-16-to-17.if-kind-lt26-own.false c.in-16-to-17.if-kind-lt28-own.true refl
+
+pub returns-in_default : goal.returns-in_default
+unfolding kinds_opened base_opened out_of beside
+returns-in_default c = ranged entry _ others _ _ _ tt zero-le c.in_default.if-kind-lt16-own.true refl
+
+pub returns-in_default-2 : goal.returns-in_default-2
+unfolding kinds_opened base_opened out_of beside
+returns-in_default-2 c = ranged entry _ others _ _ _ tt c.in_default.if-kind-lt18-own.false c.in_default.if-kind-lt26-own.true refl
+
+pub returns-in_default-3 : goal.returns-in_default-3
+unfolding kinds_opened base_opened out_of beside
+returns-in_default-3 c = last entry _ others _ _ tt c.in_default.if-kind-lt28-own.false refl refl
