@@ -16,4 +16,4 @@ overflow_mul-a-2 c = omega (arith, halves_fit (c.args.a % 4294967296) (c.args.b 
 
 -- src/lib.rt:10:1
 pub returns : goal.returns
-returns c = lower_product _ _ _ _ c.wrapping_add_u64-middle.ensures c.wrapping_add_u64.ensures
+returns c = lower_product _ _ _ _ c.wrapping_add_u64-middle.ensures.value c.wrapping_add_u64.ensures.value
