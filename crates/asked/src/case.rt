@@ -7,7 +7,7 @@ use circuit::{check, refusal};
 use words::read;
 
 // The numbers before a case's circuit: what `check` and `refusal` have to answer, the bytes lent, and the circuit's length.
-#[derive(Drop)]
+#[derive(Clone, Copy)]
 pub struct Case {
     pub check: u64,
     pub refusal: u64,
@@ -18,7 +18,7 @@ pub struct Case {
 }
 
 // What the two functions answered.
-#[derive(Drop)]
+#[derive(Clone, Copy)]
 pub struct Answers {
     pub check: u64,
     pub refusal: u64,

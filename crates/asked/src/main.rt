@@ -181,7 +181,7 @@ fn ask_next_size(fd: i32, tally: Tally) -> Tally {
 // ---- a file
 
 // What it has.
-#[derive(Drop)]
+#[derive(Clone, Copy)]
 pub enum Sort {
     Case,
     Size,

@@ -7,7 +7,7 @@ use packed::same::is_same_words;
 use words::read;
 
 // The numbers before a size's circuit: the ticks; the words lent for what is told; the number that is due, and both figures; the circuit's length.
-#[derive(Drop)]
+#[derive(Clone, Copy)]
 pub struct SizeDue {
     pub ticks: u64,
     pub told: usize,

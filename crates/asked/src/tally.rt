@@ -5,7 +5,7 @@ ghost use Rattle.asked.specs.Tally.{none_asked, counted, with_right, with_wrong,
 use std::num::wrapping_add_u64;
 
 // The cases that were right by their number (0, 1 to 10, and 19), how many were asked, how many were wrong, and whether one could not be read whole.
-#[derive(Drop)]
+#[derive(Clone, Copy)]
 pub struct Tally {
     pub right: [u64; 20],
     pub asked: u64,

@@ -8,7 +8,7 @@ ghost use Rattle.books.specs.Lent.{Spans, Few};
 use words::read;
 
 // Where a string lies in its book.
-#[derive(Drop)]
+#[derive(Clone, Copy)]
 pub struct Span {
     pub start: usize,
     pub end: usize,

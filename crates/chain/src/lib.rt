@@ -17,7 +17,7 @@ use stops::LIST_FULL;
 pub mod pushing;
 
 // What running calls comes to: the steps that the tick may still make, and the stop, or 0.
-#[derive(Drop)]
+#[derive(Clone, Copy)]
 pub struct Ran {
     pub left: u64,
     pub stop: u64,

@@ -8,21 +8,21 @@ use model::Value;
 use value::truthy;
 
 // A value in flight with its countdown, or none.
-#[derive(Drop)]
+#[derive(Clone, Copy)]
 pub enum Flight {
     Empty,
     Of(Value, Countdown),
 }
 
 // A value, which may itself be nothing, or none.
-#[derive(Drop)]
+#[derive(Clone, Copy)]
 pub enum Optional {
     None,
     Some(Value),
 }
 
 // The value in flight, the last later input, and, as the buffer last moved on, what landed and whether narrowing changed the wait of the input that started then.
-#[derive(Drop)]
+#[derive(Clone, Copy)]
 pub struct Buffer {
     pub flight: Flight,
     pub later: Optional,

@@ -6,7 +6,7 @@ ghost use Rattle.delays.specs.States.{clock, clock_moved};
 use floats::{le64, plus64};
 
 // `elapsed` is f64 bits; `fired` says whether it fired as it last moved on.
-#[derive(Drop)]
+#[derive(Clone, Copy)]
 pub struct Clock {
     pub elapsed: u64,
     pub fired: bool,

@@ -12,14 +12,14 @@ use value::{as_float, as_int};
 const MINUS_ONE: u64 = 0xbff0_0000_0000_0000;
 
 // Ticks left, 0 when it is due; or seconds to wait and seconds so far, as f32 bits.
-#[derive(Drop)]
+#[derive(Clone, Copy)]
 pub enum Countdown {
     Ticks(u64),
     Seconds(u32, u32),
 }
 
 // A countdown that starts, and whether narrowing changed its wait.
-#[derive(Drop)]
+#[derive(Clone, Copy)]
 pub struct Started {
     pub left: Countdown,
     pub changed: bool,

@@ -6,7 +6,7 @@ ghost use Rattle.delays.specs.States.{stopwatch, stopwatch_moved};
 use floats::{le64, lt64, plus64};
 
 // `time` is f64 bits. `shows` says whether it shows its time anew as it last moved on, and `expired` whether it came to its limit.
-#[derive(Drop)]
+#[derive(Clone, Copy)]
 pub struct Stopwatch {
     pub time: u64,
     pub running: bool,

@@ -32,7 +32,7 @@ const FEWER: u64 = 29;
 const BELOW: u64 = OF_LEAST_NORMAL + FEWER;
 
 // What narrowing comes to: the f32's bits, and whether it is another number than the f64. 0.0 and -0.0 are one number.
-#[derive(Drop)]
+#[derive(Clone, Copy)]
 pub struct Narrowed {
     pub bits: u32,
     pub changed: bool,

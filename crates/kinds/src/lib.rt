@@ -11,7 +11,7 @@ use crate::numbers::*;
 pub mod numbers;
 
 // What an input is. The last six are settings, named for what their constants have to be.
-#[derive(Drop)]
+#[derive(Clone, Copy)]
 pub enum Pin {
     Exec,
     ExecOnly,
@@ -27,7 +27,7 @@ pub enum Pin {
 }
 
 // What an output is.
-#[derive(Drop)]
+#[derive(Clone, Copy)]
 pub enum Out {
     Fires,
     Shows,

@@ -17,7 +17,7 @@ use words::counting::less;
 pub mod layout;
 
 // What an input reads.
-#[derive(Drop)]
+#[derive(Clone, Copy)]
 pub enum Read {
     Output(usize),
     Nothing,

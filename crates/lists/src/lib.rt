@@ -8,14 +8,14 @@ ghost use Rattle.lists.specs.Lists.{stacked, wrapped, first_slot, queued, filed,
 use words::{get, put};
 
 // Whether an entry was added to a list. If the list is full, nothing changes.
-#[derive(Drop)]
+#[derive(Clone, Copy)]
 pub enum Filed {
     Full,
     Done,
 }
 
 // What was taken off a list.
-#[derive(Drop)]
+#[derive(Clone, Copy)]
 pub enum Taken {
     Empty,
     Entry(u64),

@@ -29,7 +29,7 @@ use words::{get, put};
 
 // What a record says of its tick beside its units and outputs: its number, its steps, how many of its units began in the late pass, its stop, or 0, and how many of
 // its narrowings changed their number.
-#[derive(Drop)]
+#[derive(Clone, Copy)]
 pub struct Head {
     pub tick: u64,
     pub steps: u64,
@@ -39,7 +39,7 @@ pub struct Head {
 }
 
 // How many words a record has that was written, or that it does not fit: then no part of it is written.
-#[derive(Drop)]
+#[derive(Clone, Copy)]
 pub enum Written {
     Fits(usize),
     Full,

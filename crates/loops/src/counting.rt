@@ -20,7 +20,7 @@ use wires::reading::look;
 use words::unsigned;
 
 // What a Loop counts, as read before its first run: how many runs, and the words of its first index and its step; and whether a Break was asked for before it.
-#[derive(Drop)]
+#[derive(Clone, Copy)]
 pub struct Counts {
     pub count: u64,
     pub first: u64,
@@ -30,7 +30,7 @@ pub struct Counts {
 
 // What a Loop's runs of its body come to: the steps that the tick may still make, the stop, or 0, how many runs were begun, and whether the tick's limit of runs
 // ended them.
-#[derive(Drop)]
+#[derive(Clone, Copy)]
 pub struct Looped {
     pub left: u64,
     pub stop: u64,

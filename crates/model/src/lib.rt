@@ -1,7 +1,7 @@
 // A value on a wire. An Int and a Float are their 64 bits.
 #![tactic(auto)]
 
-#[derive(Drop)]
+#[derive(Clone, Copy)]
 pub enum Value {
     Nothing,
     Int(u64),

@@ -9,7 +9,7 @@ pub mod same;
 use words::{read, write};
 
 // A word, and whether it was there whole; one that was not is 0.
-#[derive(Drop)]
+#[derive(Clone, Copy)]
 pub struct Word {
     pub whole: bool,
     pub value: u64,

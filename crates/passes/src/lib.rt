@@ -31,7 +31,7 @@ use units::entries::{entry, gate_of};
 use units::raising::{take_delivered, take_late, take_pending};
 
 // What the late pass takes off next.
-#[derive(Drop)]
+#[derive(Clone, Copy)]
 pub enum Next {
     Nothing,
     Begins(Act),

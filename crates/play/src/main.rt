@@ -70,7 +70,7 @@ fn print_refused(number: u64) {
 // ---- playing
 
 // A file that was read: whether all of it fitted the buffer, and how many bytes came.
-#[derive(Drop)]
+#[derive(Clone, Copy)]
 struct Contents {
     whole: bool,
     bytes: usize,

@@ -65,7 +65,7 @@ unfolding units
 units_positive f q k = go (ltb (q * 2 ^ k) (2 ^ (low f + suc (emax f))))
   where
     go : (b : Bool) → Positive (cond b (odd (suc (prec f)) false q k (low f)) (inf false))
-    go true = odd_positive _ q k _
+    go true = odd_positive (suc (prec f)) q k (low f)
     go false = infinite
 
 round_positive : (f : Format) (a b : ℕ) → Positive (round f false a b)
@@ -86,6 +86,9 @@ either_le a b c h = go (ltb a b) (eqb a b) refl refl h
 
 below_top : (x : Number) → Positive x → T (le x top) → TimeNumber x
 unfolding le lt eq
+below_top nan x3 h = elim x3 [ ]
+below_top (inf true) x7 h = elim x7 [ ]
+below_top (fin true m e) x8 h = elim x8 [ ]
 below_top (inf false) infinite h = h
 below_top (fin false m e) of_digits h =
     let a = either_le (m * up e * 1) (1 * 2 ^ exponent * down e) _ h in
@@ -132,6 +135,11 @@ zero_times n u d e = rw e (ap (λ (z : ℕ). z * d) (zero-mul u) ∙ zero-mul d)
 
 sum_time : (x y : Number) → TimeNumber x → LengthNumber y → TimeNumber (add binary64 x y)
 unfolding add sum
+sum_time nan y h g = elim h [ ]
+sum_time (inf _) y h g = elim h [ ]
+sum_time (fin false m e) nan h g = elim g [ ]
+sum_time (fin false m e) (inf _) h g = elim g [ ]
+sum_time (fin true m e) y h g = elim h [ ]
 sum_time (fin false m e) (fin false n d) h g =
     round_time (m * up e * down d + n * up d * down e) (down e * down d) (mul-pos (down_pos e) (down_pos d)) (sum_most big most_length (m * up e) (n * up d) (down e) (down d) h g)
 sum_time (fin false m e) (fin true n d) h g =
@@ -155,6 +163,12 @@ zero_is = refl
 
 limit_time : (x t : Number) → lt (fin false 0 (pos 0)) x ≡ true → le x t ≡ true → TimeNumber t → TimeNumber x
 unfolding le lt eq
+limit_time (inf false) nan p q h = elim h [ ]
+limit_time (inf false) (inf _) p q h = elim h [ ]
+limit_time (inf false) (fin true m e) p q h = elim h [ ]
+limit_time (fin false n d) nan p q h = elim h [ ]
+limit_time (fin false n d) (inf _) p q h = elim h [ ]
+limit_time (fin false n d) (fin true m e) p q h = elim h [ ]
 limit_time nan t p q h = absurd (true≢false (sym p))
 limit_time (inf true) t p q h = absurd (true≢false (sym p))
 limit_time (inf false) (fin false m e) p q h = absurd (true≢false (sym q))
@@ -175,9 +189,14 @@ pub record Length (b : ℕ) : Type 0 where
   pub word : b < 2 ^ 64
 
 time_number_finite : (x : Number) → TimeNumber x → finite_number x ≡ true
+time_number_finite nan h = elim h [ ]
+time_number_finite (inf _) h = elim h [ ]
+time_number_finite (fin true m e) h = elim h [ ]
 time_number_finite (fin false m e) h = refl
 
 length_number_finite : (x : Number) → LengthNumber x → finite_number x ≡ true
+length_number_finite nan h = elim h [ ]
+length_number_finite (inf _) h = elim h [ ]
 length_number_finite (fin false m e) h = refl
 length_number_finite (fin true m e) h = refl
 

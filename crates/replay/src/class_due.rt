@@ -9,7 +9,7 @@ use words::read;
 
 // The numbers before a class's circuit: the bytes lent, and the words for what is told; the call's number that is due, and whether the areas are zero afterwards (1) or
 // as they were (0); the lengths of circuit and book; the words told; the bytes of a part of the log, and how many parts there are.
-#[derive(Drop)]
+#[derive(Clone, Copy)]
 pub struct ClassDue {
     pub log: usize,
     pub values: usize,

@@ -8,7 +8,7 @@ use run::Answer;
 use words::read;
 
 // The numbers before a run's circuit: the bytes lent, the stop and the ticks due, and the lengths of circuit, script and records.
-#[derive(Drop)]
+#[derive(Clone, Copy)]
 pub struct Due {
     pub log: usize,
     pub values: usize,

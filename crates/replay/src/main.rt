@@ -374,7 +374,7 @@ fn play_next_report(fd: i32, tally: Tally) -> Tally {
 // ---- a file
 
 // What it has.
-#[derive(Drop)]
+#[derive(Clone, Copy)]
 pub enum Sort {
     Run,
     Class,

@@ -7,7 +7,7 @@ use words::read;
 
 // The numbers before a report's circuit: what is named; the bytes lent for the report, and the words for what is told; the call's number that is due; the lengths of
 // circuit and log, and the bytes of the lines.
-#[derive(Drop)]
+#[derive(Clone, Copy)]
 pub struct ReportDue {
     pub driver: u64,
     pub activity: u64,

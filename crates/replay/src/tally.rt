@@ -5,7 +5,7 @@ ghost use Rattle.replay.specs.Tally.{none_played, with_same, with_other, with_cu
 use std::num::wrapping_add_u64;
 
 // The runs played, how many of them differ, and whether one could not be read whole.
-#[derive(Drop)]
+#[derive(Clone, Copy)]
 pub struct Tally {
     pub played: u64,
     pub differ: u64,

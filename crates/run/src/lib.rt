@@ -24,14 +24,14 @@ use words::get;
 pub mod clearing;
 
 // The answer to a call: refused with the number of a question; or played, with the stop, or 0, the ticks done, and how many bytes of the log hold records.
-#[derive(Drop)]
+#[derive(Clone, Copy)]
 pub enum Answer {
     Refused(u64),
     Played { stop: u64, ticks: u64, bytes: u64 },
 }
 
 // What playing came to: the stop, or 0, the ticks done, and how many words of the log hold records.
-#[derive(Drop)]
+#[derive(Clone, Copy)]
 pub struct Outcome {
     pub stop: u64,
     pub ticks: u64,

@@ -39,7 +39,7 @@ use words::counting::less;
 const MOST_RANK: u64 = 65535;
 
 // What a check raises: nothing, the activation of an entry, or one that a late check puts off.
-#[derive(Drop)]
+#[derive(Clone, Copy)]
 pub enum Raised {
     Nothing,
     Entry(u64),
@@ -47,7 +47,7 @@ pub enum Raised {
 }
 
 // How a value moved.
-#[derive(Drop)]
+#[derive(Clone, Copy)]
 enum Edge {
     Rising,
     Falling,
@@ -55,7 +55,7 @@ enum Edge {
 }
 
 // What a round came to: nothing waits, a check was made, or what it raised found its list full.
-#[derive(Drop)]
+#[derive(Clone, Copy)]
 enum Round {
     Idle,
     Done,

@@ -75,7 +75,7 @@ pub const PARTS: usize = CHANGED + 1;
 const SECONDS: u64 = BUFFER_SECONDS;
 
 // What landed as a value buffer moved on, if anything did, and whether narrowing changed the wait of the input that started then.
-#[derive(Drop)]
+#[derive(Clone, Copy)]
 pub struct Landed {
     pub what: Optional,
     pub changed: bool,

@@ -31,7 +31,7 @@ use words::counting::less;
 pub mod reading;
 
 // What a step comes to: the output to fire next; the chain ends there; or a list was full.
-#[derive(Drop)]
+#[derive(Clone, Copy)]
 pub enum Step {
     Fires(usize),
     Ends,

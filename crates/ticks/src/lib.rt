@@ -30,7 +30,7 @@ use wires::refreshing::refresh_all;
 use words::counting::less;
 
 // What a tick comes to: how many words its record has, 0 where it does not fit, and its stop, or 0.
-#[derive(Drop)]
+#[derive(Clone, Copy)]
 pub struct Ticked {
     pub size: usize,
     pub stop: u64,

@@ -35,7 +35,7 @@ use wires::refreshing::refresh_all;
 use wires::written::publish_writes;
 
 // The entry that a unit begins with: one that waited, or a delivered event.
-#[derive(Drop)]
+#[derive(Clone, Copy)]
 pub enum Act {
     Waiting(u64),
     Event(u64),

@@ -10,7 +10,7 @@ pub mod layout;
 pub mod raising;
 
 // Where what is raised goes: to late, to pending, or, in the main pass, to carried or pending by the rank of the unit begun last.
-#[derive(Drop)]
+#[derive(Clone, Copy)]
 pub enum Place {
     Late,
     Pending,

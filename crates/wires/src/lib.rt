@@ -17,14 +17,14 @@ pub mod ticks;
 pub mod written;
 
 // The input that waits longest to be checked, and whether it is marked for a late check.
-#[derive(Drop)]
+#[derive(Clone, Copy)]
 pub enum Waiting {
     Input(usize, bool),
     Nothing,
 }
 
 // What the last check of an input read.
-#[derive(Drop)]
+#[derive(Clone, Copy)]
 pub enum Remembered {
     Read(Value),
     Nothing,
