@@ -15,7 +15,7 @@ returns-in-Nothing c = search rules
 
 pub returns-in-Int : goal.returns-in-Int
 unfolding as_float
-returns-in-Int c = rw c.in-Int.b.1 (c.float_of_int.ensures ∙ ap float_of_int (to_z-of_z {w = w64} (sfits_of c.signed.type_inv) ∙ c.signed.ensures))
+returns-in-Int c = rw c.in-Int.is (c.of_int.ensures ∙ ap float_of_int (to_z-of_z {w = w64} (sfits_of c.signed.type_inv) ∙ c.signed.ensures))
 
 pub returns-in-Float : goal.returns-in-Float
 unfolding as_float
@@ -23,8 +23,8 @@ returns-in-Float c = search rules
 
 pub returns-then-t : goal.returns-then-t
 unfolding as_float if◌then◌else◌
-returns-then-t c = rw c.in-Bool.t.1 (bit_float _ true c.if-t.true)
+returns-then-t c = rw c.in-Bool.is (bit_float _ true c.if-t.true)
 
 pub returns-else-t : goal.returns-else-t
 unfolding as_float if◌then◌else◌
-returns-else-t c = rw c.in-Bool.t.1 (bit_float _ false c.if-t.false)
+returns-else-t c = rw c.in-Bool.is (bit_float _ false c.if-t.false)

@@ -16,4 +16,4 @@ returns-in-Float c = search rules
 
 pub returns-in-Bool : goal.returns-in-Bool
 unfolding content_of
-returns-in-Bool c = rw c.in-Bool.t.1 c.bit.ensures
+returns-in-Bool c = rw c.in-Bool.is c.bit.ensures
