@@ -1,0 +1,51 @@
+use Prim.Native.Nat.{◌-◌}
+use mathlib.Core.Path.{refl}
+use native.Mathlib.Omega.{arith}
+use borrow.Author.Rules.{rules}
+use Rattle.linking.proofs.Chaining.{size_small, start_small, row_is}
+use Rattle.linking.proofs.Loops.{cells_first, cells_next, cells_last, below_first, below_next}
+use Rattle.linking.proofs.lists.write_rows.Goals as goal
+
+-- `write_rows` meets its contract. The loop: the members of the chains below o, and what is left to write.
+
+pub loop-o-init : goal.loop-o-init
+loop-o-init c = (search rules, search rules, below_first _ 0 refl, below_first _ 0 refl, cells_first _ _ _ _)
+
+pub pack-row-requires : goal.pack-row-requires
+pack-row-requires c =
+    let h = (
+      start_small _ _ _ _ c.loop-o.invariant.1 c.requires.short c.loop-o.invariant.2,
+      (
+        size_small _ _ _ c.chain_size-more_readers.ensures,
+        (
+          start_small _ _ _ _ c.loop-o.invariant.1 c.requires.short_2 c.loop-o.invariant.3,
+          size_small _ _ _ c.chain_size-more_calls.ensures,
+        ),
+      ),
+    ) in
+    record { short = h.0; short_2 = h.1.0; short_3 = h.1.1.0; short_4 = h.1.1.1 }
+
+pub overflow_add-readers : goal.overflow_add-readers
+overflow_add-readers c =
+    let a = start_small _ _ _ _ c.loop-o.invariant.1 c.requires.short c.loop-o.invariant.2 in
+    let b = size_small _ _ _ c.chain_size-more_readers.ensures in
+    omega arith
+
+pub overflow_add-calls : goal.overflow_add-calls
+overflow_add-calls c =
+    let a = start_small _ _ _ _ c.loop-o.invariant.1 c.requires.short_2 c.loop-o.invariant.3 in
+    let b = size_small _ _ _ c.chain_size-more_calls.ensures in
+    omega arith
+
+pub loop-o-preserved : goal.loop-o-preserved
+loop-o-preserved c = (
+  search rules,
+  search rules,
+  below_next _ _ _ _ c.loop-o.invariant.2 c.chain_size-more_readers.ensures,
+  below_next _ _ _ _ c.loop-o.invariant.3 c.chain_size-more_calls.ensures,
+  cells_next _ _ _ _ _ _ _ _ c.loop-o-test.true
+      (row_is _ _ _ _ _ _ _ _ c.loop-o.invariant.2 c.chain_size-more_readers.ensures c.loop-o.invariant.3 c.chain_size-more_calls.ensures c.pack-row.ensures) c.put.ensures c.loop-o.invariant.4,
+)
+
+pub returns : goal.returns
+returns c = cells_last _ _ _ _ _ _ c.loop-o-test.false c.loop-o.invariant.4

@@ -1,0 +1,8 @@
+use Rattle.wires.proofs.Leaves.{clean_in, clean_out}
+use Rattle.wires.proofs.stale.is_clean.Goals as goal
+
+pub returns-then-g-gates : goal.returns-then-g-gates
+returns-then-g-gates c = clean_in _ _ _ _ c.gates.ensures _ c.if-g-gates.true c.get.ensures
+
+pub returns-else-g-gates : goal.returns-else-g-gates
+returns-else-g-gates c = clean_out _ _ _ _ c.gates.ensures c.if-g-gates.false
