@@ -62,6 +62,8 @@ put_table :
     (ns : List ℕ) (ts : List (List ℕ)) (t : ℕ) (xs : List ℕ) → Room ns ts → t < length ts → get_or ts t [] ≡ [] → length xs ≤ get_or ns t 0 →
     (sets (tables ns ts) (base ns t) xs ≡ tables ns (set ts t xs)) × Room ns (set ts t xs)
 unfolding tables joined both
+put_table [] (s ∷ ts) t xs x8 h e l = elim x8 [ ]
+put_table (n ∷ ns) [] t xs x6 h e l = elim x6 [ ]
 put_table [] [] t xs [·] h e l = absurd (omega arith)
 put_table (n ∷ ns) (s ∷ ts) zero xs (◌∷·◌ f fs) h e l =
     let z : table_of n [] ≡ replicate n 0 = open_table n in (

@@ -37,8 +37,8 @@ use wires::refreshing::ready;
 
 // Eight values, to the outputs from o on.
 fn set_row(links: &[usize], values: &mut [u8], o: usize, kinds: [u64; 8], contents: [u64; 8])
-    requires { Linked links × Room values × (o + 8 < 2 ^ 64) }
-    ensures { Turns links values (λ c w. set_outs c w o (both value_of kinds contents)) }
+    requires { Linked links.now × Room values.old × (o + 8 < 2 ^ 64) }
+    ensures { Turns links.now (values.old, values.new) (λ c w. set_outs c w o (both value_of kinds contents)) }
 {
     let mut k = 0;
     while k < 8 {

@@ -1,7 +1,6 @@
 // Text in a buffer, whose first bytes hold what was added so far.
 ghost use Rattle.std.specs.Prelude.{◌≡◌, [], ◌∷◌, ◌++◌, ◌+◌, ◌≤◌, ◌<◌, length, take};
 ghost use Rattle.std.proofs.Math.Seq.{paste};
-ghost use Rattle.words.specs.Slices.{before, after};
 ghost use Rattle.io.specs.Counts.{IsPrefixLen};
 ghost use Rattle.play.specs.Text.{decimal, spelled};
 
@@ -18,7 +17,7 @@ fn add_byte(text: &mut [u8], at: usize, byte: u8) -> usize
 // Puts the first n of some digits behind the first `at` bytes.
 fn put_digits(text: &mut [u8], at: usize, digits: &[u8; 20], n: usize)
     requires { (at + n ≤ length text.old) × (n ≤ 20) × (n ≤ length digits.now) }
-    ensures { after text ≡ paste (before text) at (before digits) n }
+    ensures { text.new ≡ paste text.old at digits.now n }
 {
     let mut i = 0;
     while i < n {

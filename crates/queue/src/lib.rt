@@ -73,8 +73,8 @@ fn count_of(queue: &[u8]) -> usize
 
 // Eight words from word p on.
 fn get_eight(queue: &[u8], p: usize) -> [u64; 8]
-    requires { HasWords queue p 8 }
-    ensures { result ≡ take 8 (drop p (was queue)) }
+    requires { HasWords queue.now p 8 }
+    ensures { result ≡ take 8 (drop p (words queue.now)) }
 {
     [
         get(queue, p),

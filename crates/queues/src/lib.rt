@@ -47,8 +47,8 @@ pub fn queue_record(
     contents: [u64; 8],
     wait: Value,
 )
-    requires { Linked links × Slots links delays × (is_queue (net links.now) g ≡ true) }
-    ensures { DelaysChange links delays (λ c old new. new ≡ starting old g (λ d left. queue_record d (both value_of kinds contents) left) (queue_countdown (eqb (kind_of_gate c g) 17) wait)) }
+    requires { Linked links.now × Slots links.now delays.old × (is_queue (net links.now) g ≡ true) }
+    ensures { DelaysChange links.now (delays.old, delays.new) (λ c old new. new ≡ starting old g (λ d left. queue_record d (both value_of kinds contents) left) (queue_countdown (eqb (kind_of_gate c g) 17) wait)) }
 {
     let k = countdown(kind_of_gate(links, g) == QUEUE_IN_SECONDS, wait);
     let left = k.left;

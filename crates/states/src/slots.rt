@@ -206,8 +206,8 @@ fn fly(links: &[usize], slot: &mut [u8], g: usize, seconds: bool, dt: u32) -> La
 
 // The places of the fires in the slot.
 fn load_places(slot: &[u8]) -> [u64; MOST_FIRES]
-    requires { Slot slot }
-    ensures { result ≡ part (was slot) 11 32 }
+    requires { Slot slot.now }
+    ensures { result ≡ part (words slot.now) 11 32 }
 {
     let mut places = [0; MOST_FIRES];
     let mut i: usize = 0;

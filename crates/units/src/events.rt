@@ -50,8 +50,8 @@ fn sent_by(units: &[u8], a: usize, n: usize, g: usize) -> bool
 
 // Gate g sends an event with eight values. A second one in a tick is ignored.
 pub fn send(units: &mut [u8], g: usize, kinds: [u64; 8], contents: [u64; 8])
-    requires { Room units }
-    ensures { Changes units (λ _ old new. new ≡ with_outbox old (sent (record { gate = g; row = both value_of kinds contents }) old.outbox)) }
+    requires { Room units.old }
+    ensures { Changes (units.old, units.new) (λ _ old new. new ≡ with_outbox old (sent (record { gate = g; row = both value_of kinds contents }) old.outbox)) }
 {
     let h = outbox(units);
     let n = held(units, h);
