@@ -8,26 +8,14 @@ use Rattle.linking.proofs.link.Goals as goal
 
 pub link_all-requires : goal.link_all-requires
 link_all-requires c =
-    let h = let bs = c.args.circuit.now in
+    let bs = c.args.circuit.now in
     let q₁ = c.requires.circuit_value in
     let q₃ = c.requires.circuit_value_3 in
     let z = sizes bs (words bs) q₁ in
     let g = c.word-gates.ensures in
     let k = c.word-constants.ensures in
-    let i = c.word-inputs.ensures in (
-      omega (arith, z.gates, g),
-      (
-        omega (arith, z.constants, k),
-        (
-          omega (arith, z.inputs, i),
-          (
-            omega (arith, z.calls, c.word-calls.ensures),
-            (inputs_all bs (words bs) q₁ q₃ _ _ _ g k i, (small_kinds bs (words bs) q₁ q₃ _ _ g k, small_places bs (words bs) q₁ q₃ _ _ g k)),
-          ),
-        ),
-      ),
-    ) in
-    record { gates_le_most_gates = h.0; constants_le_most_constants = h.1.0; inputs_le_most_inputs = h.1.1.0; calls_le_most_calls = h.1.1.1.0; inputs_value = h.1.1.1.1.0; small = h.1.1.1.1.1.0; small_2 = h.1.1.1.1.1.1 }
+    let i = c.word-inputs.ensures in
+    record { gates_le_most_gates = omega (arith, z.gates, g); constants_le_most_constants = omega (arith, z.constants, k); inputs_le_most_inputs = omega (arith, z.inputs, i); calls_le_most_calls = omega (arith, z.calls, c.word-calls.ensures); inputs_value = inputs_all bs (words bs) q₁ q₃ _ _ _ g k i; small = small_kinds bs (words bs) q₁ q₃ _ _ g k; small_2 = small_places bs (words bs) q₁ q₃ _ _ g k }
 
 pub returns : goal.returns
 returns c =

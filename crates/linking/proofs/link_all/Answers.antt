@@ -6,18 +6,25 @@ use Rattle.linking.proofs.link_all.Goals as goal
 
 -- `link_all` meets its contract. The groups of tables in a row; 64 gates have at most 576 outputs.
 
-pub link_gates-requires : goal.link_gates-requires
-link_gates-requires c =
-    let h = let p = (c.requires.gates_le_most_gates, (c.requires.constants_le_most_constants, (c.requires.inputs_le_most_inputs, (c.requires.calls_le_most_calls, (c.requires.inputs_value, (c.requires.small, c.requires.small_2)))))) in
-    (omega arith, (p.0, (omega arith, (p.1.0, (p.1.1.1.1.0, (p.1.1.1.1.1.0, p.1.1.1.1.1.1)))))) in
-    record { kinds_bound = h.0; gates_le_most_gates = h.1.0; stored_bound = h.1.1.0; constants_le_most_constants = h.1.1.1.0; inputs_value = h.1.1.1.1.0; small = h.1.1.1.1.1.0; small_2 = h.1.1.1.1.1.1 }
+pub link_gates-requires-clause-gates_le_most_gates : goal.link_gates-requires-clause-gates_le_most_gates
+link_gates-requires-clause-gates_le_most_gates c = c.requires.gates_le_most_gates
+
+pub link_gates-requires-clause-constants_le_most_constants : goal.link_gates-requires-clause-constants_le_most_constants
+link_gates-requires-clause-constants_le_most_constants c = c.requires.constants_le_most_constants
+
+pub link_gates-requires-clause-inputs_value : goal.link_gates-requires-clause-inputs_value
+link_gates-requires-clause-inputs_value c = c.requires.inputs_value
+
+pub link_gates-requires-clause-small : goal.link_gates-requires-clause-small
+link_gates-requires-clause-small c = c.requires.small
+
+pub link_gates-requires-clause-small_2 : goal.link_gates-requires-clause-small_2
+link_gates-requires-clause-small_2 c = c.requires.small_2
 
 pub link_lists-requires : goal.link_lists-requires
 link_lists-requires c =
-    let h = let a = outs_below _ _ _ _ c.count_outputs-outputs.ensures in
-    let p = (c.requires.gates_le_most_gates, (c.requires.constants_le_most_constants, (c.requires.inputs_le_most_inputs, (c.requires.calls_le_most_calls, (c.requires.inputs_value, (c.requires.small, c.requires.small_2)))))) in
-    (omega arith, (omega arith, (omega arith, (omega arith, (omega arith, omega arith))))) in
-    record { sources_bound = h.0; inputs_le_most_inputs = h.1.0; calls_nonzero = h.1.1.0; calls_bound = h.1.1.1.0; count_le_most_inputs = h.1.1.1.1.0; outputs_le_most_outputs = h.1.1.1.1.1 }
+    let a = outs_below _ _ _ _ c.count_outputs-outputs.ensures in
+    record { sources_bound = omega arith; inputs_le_most_inputs = omega arith; calls_nonzero = omega arith; calls_bound = omega arith; count_le_most_inputs = omega arith; outputs_le_most_outputs = omega arith }
 
 pub returns : goal.returns
 returns c =

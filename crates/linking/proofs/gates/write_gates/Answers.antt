@@ -26,13 +26,12 @@ overflow_add-input_and_entry c = let e = entry_small c.args.entries.now _ _ _ c.
 
 pub pack-gate-requires : goal.pack-gate-requires
 pack-gate-requires c =
-    let h = let p = word_small (words c.args.circuit.now) (c.args.kinds + c.args.n) _ _ _ _ c.requires.small_2 c.loop-g-test.true c.word-place.ensures in
+    let p = word_small (words c.args.circuit.now) (c.args.kinds + c.args.n) _ _ _ _ c.requires.small_2 c.loop-g-test.true c.word-place.ensures in
     let k = word_small (words c.args.circuit.now) c.args.kinds _ _ _ _ c.requires.small c.loop-g-test.true c.word-kind.ensures in
     let e = entry_small c.args.entries.now _ _ _ c.requires.gates c.loop-g-test.true c.at-entry.ensures in
     let a = ins_below _ _ _ _ c.loop-g.invariant.2 in
     let b = outs_below _ _ _ _ c.loop-g.invariant.3 in
-    (omega arith, (omega arith, (omega arith, omega arith))) in
-    record { short = h.0; short_2 = h.1.0; short_3 = h.1.1.0; short_4 = h.1.1.1 }
+    record { short = omega arith; short_2 = omega arith; short_3 = omega arith; short_4 = omega arith }
 
 pub overflow_add-inputs : goal.overflow_add-inputs
 overflow_add-inputs c =

@@ -16,10 +16,9 @@ overflow_add-base c = let a = outs_below _ _ _ _ c.loop-g.invariant.2 in omega a
 
 pub fill-requires : goal.fill-requires
 fill-requires c =
-    let h = let a = outs_below _ _ _ _ c.loop-g.invariant.2 in
+    let a = outs_below _ _ _ _ c.loop-g.invariant.2 in
     let b = outs_small _ _ _ _ c.outputs_of-outputs.ensures in
-    (omega arith, omega arith) in
-    record { near = h.0; near_2 = h.1 }
+    record { near = omega arith; near_2 = omega arith }
 
 pub overflow_add-done : goal.overflow_add-done
 overflow_add-done c =

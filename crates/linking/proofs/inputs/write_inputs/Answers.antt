@@ -19,9 +19,8 @@ overflow_add-base c = let a = ins_below _ _ _ _ c.loop-g.invariant.2 in omega ar
 
 pub write_inputs_of-requires : goal.write_inputs_of-requires
 write_inputs_of-requires c =
-    let h = let a = ins_below _ _ _ _ c.loop-g.invariant.2 in
-    (omega arith, (omega arith, omega arith)) in
-    record { near = h.0; short = h.1.0; near_2 = h.1.1 }
+    let a = ins_below _ _ _ _ c.loop-g.invariant.2 in
+    record { near = omega arith; short = omega arith; near_2 = omega arith }
 
 pub overflow_add-done : goal.overflow_add-done
 overflow_add-done c =

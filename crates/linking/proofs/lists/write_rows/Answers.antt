@@ -11,19 +11,17 @@ use Rattle.linking.proofs.lists.write_rows.Goals as goal
 pub loop-o-init : goal.loop-o-init
 loop-o-init c = (search rules, search rules, below_first _ 0 refl, below_first _ 0 refl, cells_first _ _ _ _)
 
-pub pack-row-requires : goal.pack-row-requires
-pack-row-requires c =
-    let h = (
-      start_small _ _ _ _ c.loop-o.invariant.1 c.requires.short c.loop-o.invariant.2,
-      (
-        size_small _ _ _ c.chain_size-more_readers.ensures,
-        (
-          start_small _ _ _ _ c.loop-o.invariant.1 c.requires.short_2 c.loop-o.invariant.3,
-          size_small _ _ _ c.chain_size-more_calls.ensures,
-        ),
-      ),
-    ) in
-    record { short = h.0; short_2 = h.1.0; short_3 = h.1.1.0; short_4 = h.1.1.1 }
+pub pack-row-requires-clause-short : goal.pack-row-requires-clause-short
+pack-row-requires-clause-short c = start_small _ _ _ _ c.loop-o.invariant.1 c.requires.short c.loop-o.invariant.2
+
+pub pack-row-requires-clause-short_2 : goal.pack-row-requires-clause-short_2
+pack-row-requires-clause-short_2 c = size_small _ _ _ c.chain_size-more_readers.ensures
+
+pub pack-row-requires-clause-short_3 : goal.pack-row-requires-clause-short_3
+pack-row-requires-clause-short_3 c = start_small _ _ _ _ c.loop-o.invariant.1 c.requires.short_2 c.loop-o.invariant.3
+
+pub pack-row-requires-clause-short_4 : goal.pack-row-requires-clause-short_4
+pack-row-requires-clause-short_4 c = size_small _ _ _ c.chain_size-more_calls.ensures
 
 pub overflow_add-readers : goal.overflow_add-readers
 overflow_add-readers c =
