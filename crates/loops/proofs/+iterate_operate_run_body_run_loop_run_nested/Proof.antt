@@ -15,19 +15,19 @@ use borrow.Fn.Kinds.{In}
 use borrow.Fn.PlainCycle.{Measures, is, falls, and}
 use Rattle.loops.proofs.iterate.Reads as iterate
 use Rattle.loops.proofs.iterate.Kinds as iterate_kinds
-use Rattle.loops.proofs.+iterate_operate_run_body_run_loop_run_nested.LtsIterate as iterate_lts
+use Rattle.loops.proofs.+iterate_operate_run_body_run_loop_run_nested.Lts-iterate as iterate_lts
 use Rattle.loops.proofs.operate.Reads as operate
 use Rattle.loops.proofs.operate.Kinds as operate_kinds
-use Rattle.loops.proofs.+iterate_operate_run_body_run_loop_run_nested.LtsOperate as operate_lts
+use Rattle.loops.proofs.+iterate_operate_run_body_run_loop_run_nested.Lts-operate as operate_lts
 use Rattle.loops.proofs.run_body.Reads as run_body
 use Rattle.loops.proofs.run_body.Kinds as run_body_kinds
-use Rattle.loops.proofs.+iterate_operate_run_body_run_loop_run_nested.LtsRun_body as run_body_lts
+use Rattle.loops.proofs.+iterate_operate_run_body_run_loop_run_nested.Lts-run_body as run_body_lts
 use Rattle.loops.proofs.run_loop.Reads as run_loop
 use Rattle.loops.proofs.run_loop.Kinds as run_loop_kinds
-use Rattle.loops.proofs.+iterate_operate_run_body_run_loop_run_nested.LtsRun_loop as run_loop_lts
+use Rattle.loops.proofs.+iterate_operate_run_body_run_loop_run_nested.Lts-run_loop as run_loop_lts
 use Rattle.loops.proofs.run_nested.Reads as run_nested
 use Rattle.loops.proofs.run_nested.Kinds as run_nested_kinds
-use Rattle.loops.proofs.+iterate_operate_run_body_run_loop_run_nested.LtsRun_nested as run_nested_lts
+use Rattle.loops.proofs.+iterate_operate_run_body_run_loop_run_nested.Lts-run_nested as run_nested_lts
 use Rattle.chain.proofs.fire_output.Reads as fire_output_reads
 use Rattle.chain.proofs.make_call.Reads as make_call_reads
 use Rattle.links.proofs.gate_at_input.Reads as gate_at_input_reads

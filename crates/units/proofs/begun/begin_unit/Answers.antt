@@ -4,4 +4,4 @@ use borrow.Author.Rules.{rules}
 use Rattle.units.proofs.begun.begin_unit.Goals as goal
 
 pub returns : goal.returns
-returns c = let u = c.args.units.now in let p = c.stack_push.new.list in begun_pushed u p _ _ c.requires (kept_length 10816 8200 u p c.stack_push.auto.0 (search rules)) (c.stack_push.ensures.value, c.stack_push.ensures.list_value)
+returns c = let u = c.args.units.now in let p = c.stack_push.new.list in begun_pushed u p _ _ c.requires (kept_length 10816 8200 u p c.stack_push.auto.list (search rules)) (c.stack_push.ensures.value, c.stack_push.ensures.list_value)
