@@ -1,56 +1,35 @@
-use Rattle.std.proofs.Common.{rules, ◌≡◌, ◌+◌, ◌<◌, ◌≤◌, length, ℕ, ◌-◌, ◌*◌, ◌/◌, ◌%◌, Bool, true, false, nat_eq, nat_lt, List, [], ◌∷◌, ◌++◌, slice_index_or, slice_set, bit_and, bit_or, Fits, w8, w32, w64, Bor, MutBor}
-use Rattle.model.specs.Base.{each, from}
-use Rattle.model.specs.Kinds.{kind_at}
-use Rattle.model.specs.Circuit.{kind_of_gate}
-use Rattle.model.specs.Wires.{compute, recompute, behind, refresh_to, refresh, refresh_all, ready}
-use Rattle.links.specs.Lent.{Linked, net_of, Room}
-use Rattle.wires.specs.Lent.{wires_in, Turns}
+use Rattle.std.proofs.Common.{◌-◌, rules}
+use Rattle.model.specs.Wires.{refresh_to}
+use Rattle.links.specs.Links.{net}
+use Rattle.wires.specs.View.{values as view}
+use Rattle.wires.proofs.Lists.{turn_next, turn_last}
+use Rattle.wires.proofs.Steps.{steps_first}
+use Rattle.wires.proofs.Recomputing.{behind_none, behind_output, behind_fresh, refresh_none, refresh_clean, refresh_stale}
 use Rattle.wires.proofs.refreshing.+refresh_behind_refresh_sources_refresh_to.Goals as goal
 
--- src/refreshing.rt:102:17
-pub refresh_behind-refresh_to-requires : goal.refresh_behind-refresh_to-requires
-refresh_behind-refresh_to-requires t c = ?
-
--- src/refreshing.rt:91:1
 pub refresh_behind-returns-then-is_dirty : goal.refresh_behind-returns-then-is_dirty
-refresh_behind-returns-then-is_dirty t c = ?
+refresh_behind-returns-then-is_dirty t c = behind_output _ _ _ _ _ c.source-s.ensures _ _ _ c.in-Output.is c.gate_at_output-g.ensures c.refresh_to.ensures
 
--- src/refreshing.rt:91:1
 pub refresh_behind-returns-else-is_dirty : goal.refresh_behind-returns-else-is_dirty
-refresh_behind-returns-else-is_dirty t c = ?
+refresh_behind-returns-else-is_dirty t c = behind_fresh _ _ _ _ _ _ _ _ c.source-s.ensures c.in-Output.is c.gate_at_output-g.ensures c.is_dirty.ensures c.if-is_dirty.false
 
--- src/refreshing.rt:91:1
 pub refresh_behind-returns-in-Nothing : goal.refresh_behind-returns-in-Nothing
-refresh_behind-returns-in-Nothing t c = ?
+refresh_behind-returns-in-Nothing t c = behind_none _ _ _ _ _ c.source-s.ensures c.in-Nothing.is
 
--- src/refreshing.rt:84:5
 pub refresh_sources-loop-k-init : goal.refresh_sources-loop-k-init
-refresh_sources-loop-k-init t c = ?
+refresh_sources-loop-k-init t c = (search rules, search rules, steps_first _ _ _ _)
 
--- src/refreshing.rt:85:9
-pub refresh_sources-refresh_behind-requires : goal.refresh_sources-refresh_behind-requires
-refresh_sources-refresh_behind-requires t c = ?
-
--- src/refreshing.rt:84:5
 pub refresh_sources-loop-k-preserved : goal.refresh_sources-loop-k-preserved
-refresh_sources-loop-k-preserved t c = ?
+refresh_sources-loop-k-preserved t c = (search rules, search rules, turn_next _ _ _ _ _ _ _ c.loop-k-test.true c.refresh_behind.ensures c.loop-k.invariant.2)
 
--- src/refreshing.rt:78:1
 pub refresh_sources-returns : goal.refresh_sources-returns
-refresh_sources-returns t c = ?
+refresh_sources-returns t c = turn_last _ _ _ _ _ _ c.loop-k-test.false c.loop-k.invariant.2
 
--- src/refreshing.rt:71:13
-pub refresh_to-refresh_sources-requires : goal.refresh_to-refresh_sources-requires
-refresh_to-refresh_sources-requires t c = ?
-
--- src/refreshing.rt:62:1
 pub refresh_to-returns-then-is_dirty : goal.refresh_to-returns-then-is_dirty
-refresh_to-returns-then-is_dirty t c = ?
+refresh_to-returns-then-is_dirty t c = let a = c.args in refresh_stale (net a.links.now) (view (net a.links.now) a.values.now) a.g a.deep _ _ _ _ _ c.if-deep-gt0.true c.is_dirty.ensures c.if-is_dirty.true c.input-a.ensures c.inputs_of-n.ensures c.refresh_sources.ensures c.recompute.ensures
 
--- src/refreshing.rt:62:1
 pub refresh_to-returns-else-is_dirty : goal.refresh_to-returns-else-is_dirty
-refresh_to-returns-else-is_dirty t c = ?
+refresh_to-returns-else-is_dirty t c = refresh_clean _ _ _ _ _ c.if-deep-gt0.true c.is_dirty.ensures c.if-is_dirty.false
 
--- src/refreshing.rt:62:1
 pub refresh_to-returns-else-deep-gt0 : goal.refresh_to-returns-else-deep-gt0
-refresh_to-returns-else-deep-gt0 t c = ?
+refresh_to-returns-else-deep-gt0 t c = refresh_none _ _ _ _ c.if-deep-gt0.false

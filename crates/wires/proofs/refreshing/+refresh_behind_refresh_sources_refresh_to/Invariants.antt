@@ -1,24 +1,23 @@
-use Rattle.std.proofs.Common.{◌-◌, ◌≡◌, ◌+◌, ◌<◌, ◌≤◌, length, ℕ, ◌*◌}
+use Rattle.std.proofs.Common.{◌≡◌, ◌+◌, ◌-◌, ◌*◌, ◌≤◌, length}
 use Rattle.model.specs.Base.{each, from}
-use Rattle.model.specs.Kinds.{kind_at}
-use Rattle.model.specs.Circuit.{kind_of_gate}
-use Rattle.model.specs.Wires.{compute, recompute, behind, refresh_to, refresh, refresh_all, ready}
-use Rattle.links.specs.Lent.{Linked, net_of, Room}
-use Rattle.wires.specs.Lent.{wires_in, Turns}
+use Rattle.model.specs.Wires.{behind, refresh_to}
+use Rattle.links.specs.Links.{net}
+use Rattle.wires.specs.View.{with_wires, values as view}
+use Rattle.wires.proofs.Lists.{left_of}
+use Rattle.wires.proofs.Steps.{step}
 use Rattle.wires.proofs.refreshing.+refresh_behind_refresh_sources_refresh_to.Given as goal
 
 abbrev pub decreases-refresh_behind : goal.decreases-refresh_behind
-decreases-refresh_behind l = ?
+decreases-refresh_behind l = 3 * l.deep + 1
 
 abbrev pub decreases-refresh_sources : goal.decreases-refresh_sources
-decreases-refresh_sources l = ?
+decreases-refresh_sources l = 3 * l.deep + 2
 
 abbrev pub decreases-refresh_to : goal.decreases-refresh_to
-decreases-refresh_to l = ?
+decreases-refresh_to l = 3 * l.deep
 
 abbrev pub invariant-refresh_sources-loop-k : goal.invariant-refresh_sources-loop-k
-invariant-refresh_sources-loop-k l = ?
+invariant-refresh_sources-loop-k l = (length l.values ≡ length l.initial.values) × (l.k ≤ l.n) × (left_of (step (behind (net l.links) (refresh_to (net l.links) l.deep))) (view (net l.links) l.values) l.a l.n l.k ≡ with_wires (view (net l.links) l.initial.values) (each (behind (net l.links) (refresh_to (net l.links) l.deep)) (view (net l.links) l.initial.values).wires (from l.a l.n)))
 
--- proposed from the loop's first test
 abbrev pub decreases-refresh_sources-loop-k : goal.decreases-refresh_sources-loop-k
 decreases-refresh_sources-loop-k l = l.n - l.k
