@@ -1,0 +1,13 @@
+use Prim.Native.Nat.{◌-◌, ◌≤◌}
+use mathlib.Core.Path.{◌≡◌}
+use lib.ListN.{length}
+use Rattle.model.specs.Value.{content_of}
+use Rattle.logging.specs.Rows.{outs_in}
+use Rattle.words.proofs.Filling.{Filling}
+use Rattle.logging.proofs.write_contents.Given as goal
+
+abbrev pub invariant-loop-i : goal.invariant-loop-i
+invariant-loop-i l = (length l.log ≡ length l.initial.log) × (l.i ≤ l.n) × Filling content_of (outs_in l.n l.values) l.initial.log l.log l.p l.i
+
+abbrev pub decreases-loop-i : goal.decreases-loop-i
+decreases-loop-i l = l.n - l.i
