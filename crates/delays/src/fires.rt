@@ -12,7 +12,7 @@ pub const MOST_FIRES: usize = 32;
 
 // The fires stand as words in a ring, `count` of them from slot `first` on, the oldest first. `seconds` says whether their countdowns count seconds, and `fired`
 // how many fired as the buffer last moved on.
-#[derive(Drop)]
+#[derive(Clone, Copy)]
 pub struct Fires {
     pub seconds: bool,
     pub first: usize,

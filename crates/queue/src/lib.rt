@@ -14,7 +14,7 @@ use words::rows::put_row;
 use words::{get, put};
 
 // A record: eight values, by their kinds and contents, travel together with their countdown.
-#[derive(Drop)]
+#[derive(Clone, Copy)]
 pub struct Record {
     pub kinds: [u64; 8],
     pub contents: [u64; 8],
@@ -22,7 +22,7 @@ pub struct Record {
 }
 
 // What a tick hands out: the front record, if it is due. If not, `front` is blank.
-#[derive(Drop)]
+#[derive(Clone, Copy)]
 pub struct Released {
     pub due: bool,
     pub front: Record,

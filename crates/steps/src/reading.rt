@@ -12,7 +12,7 @@ use wires::reading::look;
 use wires::refreshing::ready;
 
 // Eight values, by their kinds and contents.
-#[derive(Drop)]
+#[derive(Clone, Copy)]
 pub struct Row {
     pub kinds: [u64; 8],
     pub contents: [u64; 8],

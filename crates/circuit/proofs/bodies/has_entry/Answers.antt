@@ -1,10 +1,10 @@
 use Prim.Native.Nat.{◌-◌}
-use mathlib.Core.Logic.{⊎_elim}
 use native.Mathlib.Omega.{arith}
 use borrow.Author.Rules.{rules}
 use Rattle.model.specs.Circuit.{names, body_of_gate}
 use Rattle.circuit.proofs.Nested.{no_loop, one_none, one_more, one_stop, one_last, entries_tested, in_own_body, in_another}
 use Rattle.circuit.proofs.bodies.has_entry.Goals as goal
+use Rattle.circuit.proofs.bodies.has_entry.Goals.{then-names+else-body_of_gate-g, else-names}
 
 -- `circuit::bodies::has_entry` meets its contract: with the entries counted so far, the gates left come to the same.
 
@@ -19,14 +19,18 @@ returns-then-body_of_gate-g c = one_stop _ _ _ _ _ _ _ c.loop-e-test.true c.name
 
 pub loop-e-preserved : goal.loop-e-preserved
 loop-e-preserved c =
-    ⊎_elim
-    (λ a. (
-      search rules,
-      omega (arith, a.3),
-      one_more _ _ _ _ _ _ _ _ c.loop-e-test.true c.names.ensures a.0.taken (in_own_body _ _ _ _ a.1.ensures a.2.left) a.3 c.loop-e.invariant.2,
-    ))
-    (λ a. (search rules, omega (arith, a.1), one_none _ _ _ _ _ _ _ _ c.loop-e-test.true c.names.ensures a.0.left a.1 c.loop-e.invariant.2))
-    c.if-names.branch
+    elim c.if-names.branch [
+      | then-names w ↦ (
+        search rules,
+        omega (arith, w.entries-is),
+        one_more _ _ _ _ _ _ _ _ c.loop-e-test.true c.names.ensures w.if-names.true (in_own_body _ _ _ _ w.body_of_gate.ensures w.if-body_of_gate-g.false) w.entries-is c.loop-e.invariant.2,
+      )
+      | else-names w ↦ (
+        search rules,
+        omega (arith, w.entries-is),
+        one_none _ _ _ _ _ _ _ _ c.loop-e-test.true c.names.ensures w.if-names.false w.entries-is c.loop-e.invariant.2,
+      )
+    ]
 
 pub returns : goal.returns
 returns c = one_last _ _ _ _ _ _ c.loop-e-test.false c.loop-e.invariant.2

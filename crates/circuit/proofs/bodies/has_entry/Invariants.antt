@@ -9,7 +9,7 @@ use Rattle.circuit.proofs.bodies.has_entry.Given as goal
 
 abbrev pub invariant-loop-e : goal.invariant-loop-e
 invariant-loop-e l = (l.e ≤ l.n) × (l.entries ≤ l.e)
-    × (one_from (names (net l.links).kinds (net l.links).stored (net l.links).first_input l.g) (λ l.e. eqb (body_of_gate (net l.links) l.e) (suc l.g)) l.n l.entries l.e ≡ has_entry (net l.links) l.g)
+    × (one_from (names (net l.links).kinds (net l.links).stored (net l.links).first_input l.g) (λ e. eqb (body_of_gate (net l.links) e) (suc l.g)) l.n l.entries l.e ≡ has_entry (net l.links) l.g)
 
 abbrev pub decreases-loop-e : goal.decreases-loop-e
 decreases-loop-e l = l.n - l.e

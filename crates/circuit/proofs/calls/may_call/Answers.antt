@@ -5,6 +5,7 @@ use Rattle.model.specs.Base.{all}
 use Rattle.kinds.specs.Pins.{out_of}
 use Rattle.circuit.proofs.Asking.{no_output_calls, output_calls, makes_calls}
 use Rattle.circuit.proofs.Cases.{out_arm, agrees}
+use borrow.Enum.Refused.{opened}
 use Rattle.circuit.proofs.calls.may_call.Goals as goal
 
 pub returns-then-outputs-o : goal.returns-then-outputs-o
@@ -16,4 +17,4 @@ returns-in-Shows c = output_calls _ _ _ c.outputs.ensures.0 _ _ c.if-outputs-o.f
 
 pub returns-in_default : goal.returns-in_default
 unfolding makes_calls out_of all agrees
-returns-in_default c = output_calls _ _ _ c.outputs.ensures.0 _ _ c.if-outputs-o.false c.out_at.ensures (out_arm (λ o. makes_calls (out_of o)) true (0 ∷ 2 ∷ []) refl c.out_at.result c.in_default.in_default-own.keys2)
+returns-in_default c = output_calls _ _ _ c.outputs.ensures.0 _ _ c.if-outputs-o.false c.out_at.ensures (out_arm (λ o. makes_calls (out_of o)) true (0 ∷ 2 ∷ []) refl c.out_at.result (opened c.in_default.in_default-own.keys2))

@@ -7,6 +7,7 @@ use Rattle.model.specs.Questions.{good_setting}
 use Rattle.kinds.specs.Pins.{in_of}
 use Rattle.links.specs.Links.{net}
 use Rattle.circuit.proofs.Cases.{pin_is, pin_arm, agrees}
+use borrow.Enum.Refused.{opened}
 use Rattle.circuit.proofs.inputs.good_setting.Goals as goal
 
 pub returns-in-Ticks : goal.returns-in-Ticks
@@ -31,4 +32,4 @@ returns-in-Loop c = rw (pin_is 10 c.args.pin c.in-Loop.in-Loop-own.keys5) c.name
 
 pub returns-in_default : goal.returns-in_default
 unfolding in_of exec exec_only value watched route set_to good_setting all agrees
-returns-in_default c = pin_arm (λ p. good_setting (net c.args.links.now) (in_of p).setting c.args.v) true (0 ∷ 1 ∷ 2 ∷ 3 ∷ 4 ∷ 5 ∷ []) refl c.args.pin c.in_default.in_default-own.keys6
+returns-in_default c = pin_arm (λ p. good_setting (net c.args.links.now) (in_of p).setting c.args.v) true (0 ∷ 1 ∷ 2 ∷ 3 ∷ 4 ∷ 5 ∷ []) refl c.args.pin (opened c.in_default.in_default-own.keys6)

@@ -6,6 +6,8 @@ use borrow.Author.Tests.{not-true, not-false}
 use Rattle.circuit.proofs.Rows.{input_tested, inputs_all}
 use Rattle.circuit.proofs.Sized.{sized}
 use Rattle.circuit.proofs.Turns.{all_first, all_next, all_stop, all_last}
+use mathlib.Core.Path.{ap}
+use mathlib.Core.Bool.{not}
 use Rattle.circuit.proofs.inputs.inputs_good.Goals as goal
 
 pub get-n-requires : goal.get-n-requires
@@ -45,10 +47,10 @@ pub get-stored-requires : goal.get-stored-requires
 get-stored-requires c = let s = sized c.args.circuit.now c.requires.0 in omega arith
 
 pub returns-then-not-good_input : goal.returns-then-not-good_input
-returns-then-not-good_input c = all_stop _ _ _ _ _ c.loop-i-test.true (input_tested _ _ _ _ _ _ _ _ _ _ c.get-source.ensures c.get-stored.ensures c.pin_at.ensures c.stored_in.ensures c.good_input.ensures) (not-true _ c.if-not-good_input.true) c.loop-i.invariant.1
+returns-then-not-good_input c = all_stop _ _ _ _ _ c.loop-i-test.true (input_tested _ _ _ _ _ _ _ _ _ _ c.get-source.ensures c.get-stored.ensures c.pin_at.ensures c.stored_in.ensures c.good_input.ensures) (not-true _ (ap not c.if-not-good_input.true)) c.loop-i.invariant.1
 
 pub loop-i-preserved : goal.loop-i-preserved
-loop-i-preserved c = (search rules, all_next _ _ _ _ _ c.loop-i-test.true (input_tested _ _ _ _ _ _ _ _ _ _ c.get-source.ensures c.get-stored.ensures c.pin_at.ensures c.stored_in.ensures c.good_input.ensures) (not-false _ c.if-not-good_input.false) c.loop-i.invariant.1)
+loop-i-preserved c = (search rules, all_next _ _ _ _ _ c.loop-i-test.true (input_tested _ _ _ _ _ _ _ _ _ _ c.get-source.ensures c.get-stored.ensures c.pin_at.ensures c.stored_in.ensures c.good_input.ensures) (not-false _ (ap not c.if-not-good_input.false)) c.loop-i.invariant.1)
 
 pub returns : goal.returns
 returns c = all_last _ _ _ _ c.loop-i-test.false c.loop-i.invariant.1

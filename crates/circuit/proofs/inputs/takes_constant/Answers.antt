@@ -5,6 +5,7 @@ use Rattle.model.specs.Base.{all}
 use Rattle.model.specs.Kinds.{exec, exec_only, value, watched, route, set_to}
 use Rattle.kinds.specs.Pins.{in_of}
 use Rattle.circuit.proofs.Cases.{pin_arm, agrees}
+use borrow.Enum.Refused.{opened}
 use Rattle.circuit.proofs.inputs.takes_constant.Goals as goal
 
 pub returns-in-Exec : goal.returns-in-Exec
@@ -13,4 +14,4 @@ returns-in-Exec c = pin_arm (λ p. (in_of p).constant) false (0 ∷ 1 ∷ []) re
 
 pub returns-in_default : goal.returns-in_default
 unfolding in_of exec exec_only value watched route set_to all agrees
-returns-in_default c = pin_arm (λ p. (in_of p).constant) true (2 ∷ 3 ∷ 4 ∷ 5 ∷ 6 ∷ 7 ∷ 8 ∷ 9 ∷ 10 ∷ []) refl c.args.pin c.in_default.in_default-own.keys2
+returns-in_default c = pin_arm (λ p. (in_of p).constant) true (2 ∷ 3 ∷ 4 ∷ 5 ∷ 6 ∷ 7 ∷ 8 ∷ 9 ∷ 10 ∷ []) refl c.args.pin (opened c.in_default.in_default-own.keys2)

@@ -7,7 +7,7 @@ use Rattle.circuit.proofs.Descent.{gates_from}
 use Rattle.circuit.proofs.rings.pure_gates.Given as goal
 
 abbrev pub invariant-loop-g : goal.invariant-loop-g
-invariant-loop-g l = (l.g ≤ l.n) × (l.word ≡ gates_from (λ l.g. pure (kind_of_gate (net l.links) l.g)) l.n l.g)
+invariant-loop-g l = (l.g ≤ l.n) × (l.word ≡ gates_from (λ g. pure (kind_of_gate (net l.links) g)) l.n l.g)
 
 abbrev pub decreases-loop-g : goal.decreases-loop-g
 decreases-loop-g l = l.g
