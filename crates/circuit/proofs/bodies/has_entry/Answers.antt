@@ -20,7 +20,7 @@ returns-then-body_of_gate-g c = one_stop _ _ _ _ _ _ _ c.loop-e-test.true c.name
 pub loop-e-preserved : goal.loop-e-preserved
 loop-e-preserved c =
     elim c.if-names.branch [
-      | then-names w ↦ (
+      | then-names+else-body_of_gate-g w ↦ (
         search rules,
         omega (arith, w.entries-is),
         one_more _ _ _ _ _ _ _ _ c.loop-e-test.true c.names.ensures w.if-names.true (in_own_body _ _ _ _ w.body_of_gate.ensures w.if-body_of_gate-g.false) w.entries-is c.loop-e.invariant.2,

@@ -1,0 +1,9 @@
+use Rattle.states.proofs.Stores.{press_restart, press_other, slot_long}
+use borrow.Author.Rules.{rules}
+use Rattle.states.proofs.slots.press.Goals as goal
+
+pub returns-then-p-eq0 : goal.returns-then-p-eq0
+returns-then-p-eq0 c = press_restart _ _ _ _ (slot_long _ (search rules)) c.if-p-eq0.true c.put.ensures.words c.put-then-p-eq0.ensures.words
+
+pub returns : goal.returns
+returns c = press_other _ _ _ _ (slot_long _ (search rules)) c.if-p-eq0.false c.bit_of.ensures c.put-2.ensures.words

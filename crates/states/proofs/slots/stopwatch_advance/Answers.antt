@@ -1,0 +1,11 @@
+use mathlib.Core.Path.{refl}
+use Rattle.model.specs.Delays.{advance_time}
+use Rattle.states.proofs.Lending.{stopwatch_past, turns_any}
+use borrow.Author.Rules.{rules}
+use Rattle.states.proofs.slots.stopwatch_advance.Goals as goal
+
+pub returns-then-gates-g : goal.returns-then-gates-g
+returns-then-gates-g c = stopwatch_past _ _ _ _ c.gates.ensures c.if-gates-g.true _ _
+
+pub returns : goal.returns
+returns c = let a = c.args in turns_any _ _ _ _ _ _ _ (search rules) c.gates.ensures c.if-gates-g.false refl refl (search rules) (advance_time a.dt a.limit) _ _ c.run_stopwatch.ensures

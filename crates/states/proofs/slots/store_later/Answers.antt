@@ -1,0 +1,9 @@
+use Rattle.states.proofs.Stores.{slot_long, stored_none, stored_later}
+use borrow.Author.Rules.{rules}
+use Rattle.states.proofs.slots.store_later.Goals as goal
+
+pub returns-in-None : goal.returns-in-None
+returns-in-None c = stored_none _ _ _ (slot_long _ (search rules)) c.in-None.is c.put.ensures.words
+
+pub returns-in-Some : goal.returns-in-Some
+returns-in-Some c = stored_later _ _ _ _ c.in-Some.is c.remember.ensures
