@@ -1,3 +1,2 @@
 // What the three lent areas hold together: specs/Areas.antt.
 #![tactic(auto)]
-
