@@ -7,14 +7,14 @@ const LIBRARIES: [&str; 2] = ["leaves", "player"];
 
 fn main() {
     let host = env::var("CARGO_MANIFEST_DIR").unwrap();
-    let folder = Path::new(&host).join("../target/staticlib");
-    println!("cargo::rustc-link-search=native={}", folder.display());
     for name in LIBRARIES {
+        let folder = Path::new(&host).join("../crates").join(name).join("out");
+        println!("cargo::rustc-link-search=native={}", folder.display());
         let library = folder.join(format!("lib{name}.a"));
         println!("cargo::rerun-if-changed={}", library.display());
         if !library.exists() {
             panic!(
-                "{} is not there: run `rt staticlib {name}` in the project's root",
+                "{} is not there: run `rt lib` in crates/{name}",
                 library.display()
             );
         }

@@ -2,8 +2,8 @@
 //! [`class`] a book of up to 16 scripts, [`check`] only asks whether a script
 //! could be played, [`size`] how large a run can get, and [`hours`] reports on a
 //! finished log. They are the proved functions of the Rattle crate `player`;
-//! beside them are those of `leaves`. To build: `rt staticlib player` and
-//! `rt staticlib leaves` in the project's root. `cargo test --offline --release`
+//! beside them are those of `leaves`. To build: `rt lib` in
+//! crates/player and in crates/leaves of the project's root. `cargo test --offline --release`
 //! compares them with the oracle and the hardware.
 
 mod class;
