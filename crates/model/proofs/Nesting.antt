@@ -1,6 +1,6 @@
 -- Where question 19 was answered yes: a Loop has its entry (`loop_entered`), calls stay in their body (`calls_stay`), and Loops nest no deeper than there are
 -- gates (`loops_shallow`).
-use mathlib.Core.Path.{◌≡◌, refl, sym, ap, ◌∙◌}
+use mathlib.Core.Path.{◌≡◌, sym, ap, ◌∙◌}
 use mathlib.Core.Bool.{Bool, true, false, ◌&&◌, true≢false}
 use mathlib.Core.List.{List, [], ◌∷◌}
 use mathlib.Core.Logic.{◌⊎◌, inl, inr}

@@ -1,7 +1,7 @@
 -- Only the Fire of a ChangeDetector and a pin are ever put off.
 use mathlib.Core.Path.{◌≡◌, refl}
 use mathlib.Core.Logic.{inl, inr}
-use Prim.Native.Nat.{ℕ, zero, suc}
+use Prim.Native.Nat.{ℕ}
 use native.Mathlib.Omega.{arith}
 use lib.Dec.{eqb}
 use borrow.Author.Tests.{eqb-true}
@@ -12,7 +12,7 @@ use Rattle.model.specs.declared.Value.{Value}
 use Rattle.model.specs.Circuit.{Circuit, kind_of_gate, gate_at_input}
 use Rattle.model.specs.State.{Act, State}
 use Rattle.model.specs.Chain.{Chained}
-use Rattle.model.specs.Settle.{Settled, calm, raise, edge, detect, compared, check, check_on, settle}
+use Rattle.model.specs.Settle.{Settled, calm, raise, edge, detect, compared, check, settle}
 use Rattle.model.specs.Unit.{World, raises_in, finish_chain, run_unit}
 use Rattle.model.specs.Run.{body}
 use Rattle.model.specs.PutOff.{Rightly, PutsOffRightly}

@@ -16,7 +16,7 @@ use Rattle.model.specs.Circuit.{Circuit, kind_of_gate, output, gate_at_input, ga
 use Rattle.model.specs.State.{Wires, State, outs≔, dirty≔, to_check≔, late_checks≔, last≔, pulses≔, wires≔, delays≔, changed≔}
 use Rattle.model.specs.Wires.{shown, show, soil, clean, watch, compute, recompute, ready, refresh_all, mark_readers, set_out}
 use Rattle.model.specs.Exec.{count_changed, delay≔}
-use Rattle.model.specs.Settle.{Settled, calm, raise, taken, pulse, detect, compared, when_checked, check, check_on, most_checks, settle}
+use Rattle.model.specs.Settle.{Settled, calm, raise, taken, pulse, detect, compared, check, check_on, most_checks, settle}
 use Rattle.model.proofs.Lists.{if_both, if_by, count, count_most, count_set, steady}
 use Rattle.model.proofs.Laid.{Laid}
 use Rattle.model.proofs.Walks.{checked}

@@ -1,12 +1,11 @@
 -- What each check keeps, settling keeps; what each change of the wires and the small states keeps, the opening of a tick keeps.
 -- Each is first a law of facts that go by a number, of which each check and each gate that moves on uses up one (`spends`).
 use mathlib.Core.Path.{◌≡◌, refl}
-use mathlib.Core.Bool.{Bool, true, false, not, ◌&&◌}
+use mathlib.Core.Bool.{Bool, true}
 use mathlib.Core.List.{List, [], ◌∷◌, ◌++◌}
-use mathlib.Core.Option.{Option, none, some}
 use Prim.Native.Nat.{ℕ, zero, suc, ◌+◌}
 use lib.ListN.{length}
-use Rattle.schedule.specs.Schedule.{list_full, Raise, Place, When, to_late, to_delivered}
+use Rattle.schedule.specs.Schedule.{Raise, Place, When, to_late, to_delivered}
 use Rattle.schedule.specs.Promise.{All}
 use Rattle.schedule.proofs.Members.{all_map, all_append}
 use Rattle.model.specs.declared.Value.{Value}
@@ -16,7 +15,7 @@ use Rattle.model.specs.Script.{Given}
 use Rattle.model.specs.State.{Wires, Delay, Act, State, wires≔}
 use Rattle.model.specs.Wires.{ready, set_outs, invalidate}
 use Rattle.model.specs.Delays.{Moved}
-use Rattle.model.specs.Exec.{Stepped, count_changed, delay≔, readied, exec_gate}
+use Rattle.model.specs.Exec.{count_changed, delay≔, readied}
 use Rattle.model.specs.Settle.{Settled, taken, when_checked, check, check_on, settle}
 use Rattle.model.specs.Opening.{Opened, raised_to, fire, begin_tick, lower, advanced, advance_buffer, advance_clock, advance_timer, before_settling, open_tick}
 use Rattle.model.proofs.Lists.{if_both, each_keeps, each_spends, each_keeps_all, map_all, all_of}

@@ -26,7 +26,7 @@ use Rattle.model.specs.Script.{stimulus}
 use Rattle.model.specs.Run.{allowed, ticks_get}
 use Rattle.model.specs.Delays.{nat}
 use Rattle.model.specs.Exec.{var}
-use Rattle.model.specs.Questions.{Areas, within, finite, yes_all, question_1, question_3, good_constant, question_2, value_output, int_such_that, good_setting, good_input, names_constant, question_4, question_19, good_length}
+use Rattle.model.specs.Questions.{Areas, finite, yes_all, question_1, question_3, good_constant, question_2, value_output, int_such_that, good_setting, good_input, names_constant, question_4, question_19, good_length}
 use Rattle.model.proofs.Lists.{both_true, all_keep, all_among, among_from, map_from, from_length, not_so, clash, among_either, among_none, among_keep, map_all}
 use Rattle.model.proofs.Sizes.{sizes}
 use Rattle.model.proofs.Laid.{offset, starts_at, no_kind, Laid, laid, joined_length, kind_in, part_most, part_is, inputs_found}

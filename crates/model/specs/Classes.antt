@@ -1,5 +1,5 @@
 -- Small classes, played: a row for each sentence of document 02's K1.
-use Rattle.std.specs.Prelude.{ℕ, ◌+◌, ◌*◌, ◌^◌, ◌-◌, ◌≡◌, refl, List, [], ◌∷◌, ◌++◌, map, take, drop, replicate}
+use Rattle.std.specs.Prelude.{ℕ, ◌^◌, ◌-◌, ◌≡◌, refl, List, [], ◌∷◌, ◌++◌, map, take, drop, replicate}
 use Rattle.words.specs.Words.{bytes}
 use Rattle.model.specs.Questions.{Areas}
 use Rattle.model.specs.Answer.{Answer, refused, played, model_opened}

@@ -1,6 +1,6 @@
 -- Counted loops, and the chains that run them (document 02, K5). A Loop in a chain runs its body as often as it counts; a run of the body is a chain again, in
 -- which the calls that waited when it began go on waiting.
-use Rattle.std.specs.Prelude.{ℕ, zero, suc, ◌-◌, ◌%◌, ◌^◌, Bool, true, false, not, ◌&&◌, List, map, eqb, ℤ, pos, negsuc, ◌+ℤ◌, ◌*ℤ◌, length}
+use Rattle.std.specs.Prelude.{ℕ, zero, suc, ◌-◌, ◌%◌, ◌^◌, Bool, true, false, not, ◌&&◌, map, eqb, ℤ, pos, negsuc, ◌+ℤ◌, ◌*ℤ◌, length}
 use Rattle.schedule.specs.Schedule.{list_full}
 use Rattle.model.specs.declared.Value.TheVariants.{Int, Bool as Truth}
 use Rattle.model.specs.Base.{if◌then◌else◌}

@@ -8,7 +8,7 @@ use lib.Dec.{leb, eqb}
 use borrow.Author.Tests.{leb-true, leb-false, eqb-true, eqb-false, le-leb, lt-leb}
 use Rattle.schedule.specs.Schedule.{numbered, Machine, Raise, When, Took, Filed, activate_late, activate_main, activate_open, next_late, next_main, Turn}
 use Rattle.schedule.specs.Promise.{Raised, Played, Numbered, times, raised_by, raised}
-use Rattle.schedule.proofs.Steps.{Raises, none, one, Passes, broke, done, turn}
+use Rattle.schedule.proofs.Steps.{Raises, Passes, broke, done, turn}
 use Rattle.schedule.proofs.Ticks.{Ticked}
 
 -- 1 where x has yet to be given, from t on

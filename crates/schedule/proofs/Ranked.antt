@@ -9,7 +9,7 @@ use lib.ListN.{length}
 use lib.Dec.{leb}
 use borrow.Author.Tests.{leb-true, leb-false}
 use Rattle.schedule.specs.Schedule.{numbered, Machine, Raise, Took, Filed, most_waiting, MainQ, OpenQ, Place, When, push, activate_late, activate_main, activate_open, next_late, next_main, Turn}
-use Rattle.schedule.specs.Promise.{All, [·], ◌∷·◌, Raised, Played, Before, Sorted, units}
+use Rattle.schedule.specs.Promise.{All, Raised, Played, Before, Sorted, units}
 use Rattle.schedule.proofs.Members.{all_map}
 use Rattle.schedule.proofs.Steps.{next_main_is, ToMain, at_carried, at_pending, above, activate_main_is, activate_open_is, Raises, none, one, Passes, broke, done, turn}
 use Rattle.schedule.proofs.Ticks.{Ticked}

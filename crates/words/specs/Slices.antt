@@ -1,7 +1,7 @@
 -- How contracts speak of a slice that a function is lent. `x.now` of a `&`, and `x.old` and `x.new` of a `&mut`, are what it holds: a list. Where a word takes what
 -- it holds at both moments, at the call and at the return, that is a pair of lists: `(x.old, x.new)`.
 use Rattle.std.specs.Prelude.{ℕ, ◌+◌, ◌*◌, ◌≤◌, ◌≡◌, List, length}
-use Rattle.words.specs.Words.{words, tail}
+use Rattle.words.specs.Words.{tail}
 
 -- what a slice of numbers holds when the function is called, and when it returns
 abbrev pub Slice : Type 0

@@ -1,5 +1,4 @@
 use Rattle.words.proofs.Putting.{put_first, put_next, put_last}
-use Prim.Native.Nat.{◌-◌}
 use borrow.Author.Rules.{rules}
 use Rattle.words.proofs.rows.put_row.Goals as goal
 
@@ -12,4 +11,4 @@ loop-i-preserved c = (search rules, search rules, put_next _ _ _ _ _ _ c.require
 pub returns : goal.returns
 returns c =
     let h = put_last _ _ _ _ _ c.loop-i-test.false c.loop-i.invariant.1 c.loop-i.invariant.2 in
-    record { area_value = h.0; area_value_2 = h.1; }
+    record { area_value = h.0; area_value_2 = h.1 }

@@ -1,0 +1,37 @@
+use mathlib.Core.Path.{refl}
+use Rattle.links.specs.Links.{net}
+use Rattle.links.proofs.Reading.{rank_small}
+use Rattle.wires.specs.View.{values as values_view}
+use Rattle.states.specs.View.{delays as delays_view}
+use Rattle.units.specs.View.{units as units_view}
+use Rattle.passes.proofs.Mainly.{main_first, main_room, main_none, main_on, main_stop, main_end}
+use borrow.Author.Rules.{rules}
+use Rattle.passes.proofs.main_pass.Goals as goal
+
+pub loop-n-init : goal.loop-n-init
+loop-n-init c = (search rules, search rules, search rules, c.requires.3, main_first _ _ _ _ (c.units_left-n.ensures (net c.args.links.now)))
+
+pub returns-in-Empty : goal.returns-in-Empty
+returns-in-Empty c =
+    let k = net c.args.links.now in
+    record { over_all = main_none k (values_view k c.loop-n.values) (units_view k c.loop-n.units) _ (delays_view k c.loop-n.delays) _ _ _ _ _ (c.take_pending.ensures k) c.loop-n-test.true c.loop-n.invariant.4 (record { left = c.loop-n.rest; stop = 0 }) c.in-Empty.is refl refl; slots_stay = c.loop-n.invariant.3 }
+
+pub begin-r-requires : goal.begin-r-requires
+begin-r-requires c =
+    let k = net c.args.links.now in
+    (search rules, search rules, search rules, c.loop-n.invariant.3, c.requires.4, main_room k (values_view k c.loop-n.values) (units_view k c.loop-n.units) _ (delays_view k c.loop-n.delays) _ _ _ _ _ (c.take_pending.ensures k) c.loop-n-test.true c.loop-n.invariant.4)
+
+pub returns-then-r-ne0 : goal.returns-then-r-ne0
+returns-then-r-ne0 c =
+    let k = net c.args.links.now in
+    record { over_all = main_stop k (values_view k c.loop-n.values) (units_view k c.loop-n.units) _ (delays_view k c.loop-n.delays) _ _ _ _ _ (c.take_pending.ensures k) c.loop-n-test.true c.loop-n.invariant.4 (rank_small c.args.links.now) _ _ _ _ _ c.in-Entry.is c.gate_of.ensures c.rank_of_gate-reached.ensures c.begin-r.ensures.over_all c.if-r-ne0.true; slots_stay = c.begin-r.ensures.slots_stay }
+
+pub loop-n-preserved : goal.loop-n-preserved
+loop-n-preserved c =
+    let k = net c.args.links.now in
+    (search rules, search rules, search rules, c.begin-r.ensures.slots_stay, main_on k (values_view k c.loop-n.values) (units_view k c.loop-n.units) _ (delays_view k c.loop-n.delays) _ _ _ _ _ (c.take_pending.ensures k) c.loop-n-test.true c.loop-n.invariant.4 (rank_small c.args.links.now) _ _ _ _ _ c.in-Entry.is c.gate_of.ensures c.rank_of_gate-reached.ensures c.begin-r.ensures.over_all c.if-r-ne0.false)
+
+pub returns : goal.returns
+returns c =
+    let k = net c.args.links.now in
+    record { over_all = main_end k _ _ _ _ _ _ c.loop-n-test.false (c.main_over.ensures k) c.loop-n.invariant.4; slots_stay = c.loop-n.invariant.3 }
