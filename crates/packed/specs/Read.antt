@@ -1,6 +1,10 @@
--- What is known of words that were read.
-use Rattle.std.specs.Prelude.{ℕ, ◌≤◌, ◌≡◌, Bool, true, false, List, length}
+-- What is known of bytes and of words that were read.
+use Rattle.std.specs.Prelude.{ℕ, ◌≤◌, ◌≡◌, Bool, true, false, List, length, take}
 use Rattle.packed.specs.declared.Word.{Word}
+
+-- `&xs[..n]` is in bounds and has n bytes
+abbrev pub IsPrefixLen : ℕ → List ℕ → Type 0
+IsPrefixLen n xs = (n ≤ length xs) × (n ≡ length (take n xs))
 
 -- one that was not there whole is 0
 abbrev pub MissingIs0 : Word → Type 0

@@ -1,12 +1,28 @@
 // What the programs that play the oracle's packed files share: packed words read from a file, the words lent for what is told, and what a call leaves compared.
 #![tactic(auto)]
 
-ghost use Rattle.packed.specs.Read.{MissingIs0, HasRoom};
+ghost use Rattle.packed.specs.Read.{IsPrefixLen, MissingIs0, HasRoom};
 
 pub mod filled;
 pub mod same;
 
+use std::io::Read;
 use words::{read, write};
+
+// Reads until the buffer is full, the file ends or a read fails, and answers how many bytes came to its front.
+pub fn read_full(file: &mut impl Read, buffer: &mut [u8]) -> usize
+    ensures { IsPrefixLen result buffer.new }
+{
+    let mut done = 0;
+    while done < buffer.len() {
+        let n = file.read(&mut buffer[done..]).unwrap_or(0);
+        if n == 0 {
+            break;
+        }
+        done += n;
+    }
+    done
+}
 
 // A word, and whether it was there whole; one that was not is 0.
 #[derive(Clone, Copy)]
@@ -16,11 +32,11 @@ pub struct Word {
 }
 
 // Reads a packed word: how many bytes it has, and these; the others are 0.
-pub fn next_word(fd: i32) -> Word
+pub fn next_word(file: &mut impl Read) -> Word
     ensures { MissingIs0 result }
 {
     let mut count = [0u8; 8];
-    if io::read_full(fd, &mut count[..1]) != 1 {
+    if read_full(file, &mut count[..1]) != 1 {
         return Word {
             whole: false,
             value: 0,
@@ -28,7 +44,7 @@ pub fn next_word(fd: i32) -> Word
     }
     let n = read(&count, 0) as usize;
     let mut bytes = [0u8; 8];
-    if 8 < n || io::read_full(fd, &mut bytes[..n]) != n {
+    if 8 < n || read_full(file, &mut bytes[..n]) != n {
         return Word {
             whole: false,
             value: 0,
@@ -41,7 +57,7 @@ pub fn next_word(fd: i32) -> Word
 }
 
 // Reads as many packed words as hold so many bytes to the front of a buffer of whole words: whether they were there whole, and have room.
-pub fn next_bytes(fd: i32, buffer: &mut [u8], bytes: usize) -> bool
+pub fn next_bytes(file: &mut impl Read, buffer: &mut [u8], bytes: usize) -> bool
     ensures { HasRoom result bytes buffer.old }
 {
     if buffer.len() < bytes {
@@ -50,7 +66,7 @@ pub fn next_bytes(fd: i32, buffer: &mut [u8], bytes: usize) -> bool
     let n = bytes / 8 + (bytes % 8 + 7) / 8;
     let mut k = 0;
     while k < n {
-        let word = next_word(fd);
+        let word = next_word(file);
         if !word.whole {
             return false;
         }
@@ -61,7 +77,7 @@ pub fn next_bytes(fd: i32, buffer: &mut [u8], bytes: usize) -> bool
 }
 
 // Reads n packed words to the front of these: whether they were there whole, and have room.
-pub fn next_words(fd: i32, told: &mut [u64], n: usize) -> bool
+pub fn next_words(file: &mut impl Read, told: &mut [u64], n: usize) -> bool
     ensures { HasRoom result n told.old }
 {
     if told.len() < n {
@@ -69,7 +85,7 @@ pub fn next_words(fd: i32, told: &mut [u64], n: usize) -> bool
     }
     let mut k = 0;
     while k < n {
-        let word = next_word(fd);
+        let word = next_word(file);
         if !word.whole {
             return false;
         }
