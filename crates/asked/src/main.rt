@@ -3,7 +3,7 @@
 #![tactic(auto)]
 
 ghost use Rattle.std.specs.Prelude.{◌≡◌};
-ghost use Rattle.io.specs.Counts.{IsPrefixLen};
+ghost use Rattle.packed.specs.Read.{IsPrefixLen};
 ghost use Rattle.asked.specs.SizeMet.{size_met};
 
 mod case;
@@ -11,12 +11,20 @@ mod size_due;
 mod tally;
 
 use case::{Answers, Case, ask, is_right, numbers};
-use libc::STDOUT_FILENO;
+use packed::failing::fail;
 use packed::filled::{TOLD, filled_words};
+use packed::read_full;
 use size_due::{SizeDue, is_size_as_due};
+use std::fs::File;
+use std::io;
+use std::io::Read;
+use std::rt::Files;
 use tally::Tally;
 use words::read;
 use words::told::put_at;
+
+// The room for a circuit or a script.
+const ROOM: usize = 65_536;
 
 // The bytes of the numbers before a case's circuit.
 const HEAD: usize = 48;
@@ -27,96 +35,99 @@ const SIZE_HEAD: usize = 48;
 // ---- what is printed
 
 // Prints a text and a number.
-fn print(text: &[u8], number: u64) {
-    io::write_all(STDOUT_FILENO, text);
-    io::print_decimal(STDOUT_FILENO, number);
+fn print(rt: &impl Print, text: &str, number: u64) -> io::Result<()> {
+    print!(rt; "{text}{number}")
 }
 
 // Prints how many cases with a number were right.
-fn print_right(number: u64, right: u64) {
-    io::print_decimal(STDOUT_FILENO, number);
-    print(b": ", right);
-    io::write_all(STDOUT_FILENO, b" right\n");
+fn print_right(rt: &impl Print, number: u64, right: u64) -> io::Result<()> {
+    println!(rt; "{number}: {right} right")
 }
 
 // Prints how many were asked and were wrong, and which could not be read whole; `name` is one of them, and `asked` stands behind how many there are.
-fn print_all(name: &[u8], tally: Tally, asked: &[u8]) {
+fn print_all(rt: &impl Print, name: &str, tally: Tally, asked: &str) -> io::Result<()> {
     if tally.cut {
-        io::write_all(STDOUT_FILENO, b"not whole: ");
-        print(name, tally.asked);
-        io::write_all(STDOUT_FILENO, b"\n");
+        print!(rt; "not whole: ")?;
+        print(rt, name, tally.asked)?;
+        println!(rt)?;
     }
-    io::print_decimal(STDOUT_FILENO, tally.asked);
-    print(asked, tally.wrong);
-    io::write_all(STDOUT_FILENO, b" wrong\n");
+    print(rt, "", tally.asked)?;
+    print(rt, asked, tally.wrong)?;
+    println!(rt; " wrong")
 }
 
 // Prints a line for each number.
-fn print_numbers(tally: Tally) {
+fn print_numbers(rt: &impl Print, tally: Tally) -> io::Result<()> {
     for i in 0..11 {
-        print_right(i as u64, tally.right[i]);
+        print_right(rt, i as u64, tally.right[i])?;
     }
-    print_right(19, tally.right[19]);
+    print_right(rt, 19, tally.right[19])
 }
 
 // ---- cases
 
 // Reads a number of the file; 0 where it has ended.
-fn next_number(fd: i32) -> u64 {
+fn next_number(file: &mut impl Read) -> u64 {
     let mut word = [0u8; 8];
-    io::read_full(fd, &mut word);
+    read_full(file, &mut word);
     read(&word, 0)
 }
 
 // Reads n bytes to the front of a buffer, none where it has no room for them, and answers how many came.
-fn next_bytes(fd: i32, buffer: &mut [u8], n: usize) -> usize
+fn next_bytes(file: &mut impl Read, buffer: &mut [u8], n: usize) -> usize
     ensures { IsPrefixLen result buffer.new }
 {
     if buffer.len() < n {
         return 0;
     }
-    io::read_full(fd, &mut buffer[..n])
+    read_full(file, &mut buffer[..n])
 }
 
 // Prints what was answered to a case, by its number from 0, and what was due.
-fn print_wrong_case(number: u64, case: Case, answers: Answers) {
-    print(b"case ", number);
-    print(b": check answers ", answers.check);
-    print(b", due ", case.check);
-    print(b"; refusal answers ", answers.refusal);
-    print(b", due ", case.refusal);
-    io::write_all(STDOUT_FILENO, b"\n");
+fn print_wrong_case(rt: &impl Print, number: u64, case: Case, answers: Answers) -> io::Result<()> {
+    print(rt, "case ", number)?;
+    print(rt, ": check answers ", answers.check)?;
+    print(rt, ", due ", case.check)?;
+    print(rt, "; refusal answers ", answers.refusal)?;
+    print(rt, ", due ", case.refusal)?;
+    println!(rt)
 }
 
 // Asks about a case with these bytes.
-fn ask_case(tally: Tally, case: Case, circuit: &[u8], script: &[u8]) -> Tally {
+fn ask_case(
+    rt: &impl Print,
+    tally: Tally,
+    case: Case,
+    circuit: &[u8],
+    script: &[u8],
+) -> io::Result<Tally> {
     let answers = ask(case, circuit, script);
     if is_right(case, answers) {
-        return tally.with_right(case.refusal);
+        return Ok(tally.with_right(case.refusal));
     }
-    print_wrong_case(tally.asked, case, answers);
-    tally.with_wrong()
+    print_wrong_case(rt, tally.asked, case, answers)?;
+    Ok(tally.with_wrong())
 }
 
 // Reads the next case and asks about it.
-fn ask_next_case(fd: i32, tally: Tally) -> Tally {
+fn ask_next_case(rt: &impl Print, file: &mut impl Read, tally: Tally) -> io::Result<Tally> {
     let mut head = [0u8; HEAD];
-    let mut circuit = io::large_buffer();
-    let mut script = io::large_buffer();
-    if io::read_full(fd, &mut head) != HEAD {
-        return tally.with_cut();
+    let mut circuit = [0u8; ROOM];
+    let mut script = [0u8; ROOM];
+    if read_full(file, &mut head) != HEAD {
+        return Ok(tally.with_cut());
     }
     let case = numbers(&head);
-    let n = next_bytes(fd, &mut circuit, case.circuit);
+    let n = next_bytes(file, &mut circuit, case.circuit);
     if n != case.circuit {
-        return tally.with_cut();
+        return Ok(tally.with_cut());
     }
-    let length = next_number(fd) as usize;
-    let m = next_bytes(fd, &mut script, length);
+    let length = next_number(file) as usize;
+    let m = next_bytes(file, &mut script, length);
     if m != length {
-        return tally.with_cut();
+        return Ok(tally.with_cut());
     }
-    ask_case(tally, case, &circuit[..n], &script[..m])
+    ask_case(rt, tally, case, &circuit[..n], &script[..m])
 }
 
 // ---- sizes
@@ -155,27 +166,27 @@ fn is_size_right(due: SizeDue, circuit: &[u8]) -> bool {
 }
 
 // Asks about a size with these bytes, and counts it.
-fn ask_size(tally: Tally, due: SizeDue, circuit: &[u8]) -> Tally {
+fn ask_size(rt: &impl Print, tally: Tally, due: SizeDue, circuit: &[u8]) -> io::Result<Tally> {
     if is_size_right(due, circuit) {
-        return tally.with_right(due.number);
+        return Ok(tally.with_right(due.number));
     }
-    print(b"wrong: size ", tally.asked);
-    io::write_all(STDOUT_FILENO, b"\n");
-    tally.with_wrong()
+    print(rt, "wrong: size ", tally.asked)?;
+    println!(rt)?;
+    Ok(tally.with_wrong())
 }
 
 // Reads the next size, if there is a buffer for it, and asks about it.
-fn ask_next_size(fd: i32, tally: Tally) -> Tally {
+fn ask_next_size(rt: &impl Print, file: &mut impl Read, tally: Tally) -> io::Result<Tally> {
     let mut head = [0u8; SIZE_HEAD];
-    if !packed::next_bytes(fd, &mut head, SIZE_HEAD) {
-        return tally.with_cut();
+    if !packed::next_bytes(file, &mut head, SIZE_HEAD) {
+        return Ok(tally.with_cut());
     }
     let due = SizeDue::of(&head);
-    let mut circuit = io::large_buffer();
-    if !packed::next_bytes(fd, &mut circuit, due.circuit) {
-        return tally.with_cut();
+    let mut circuit = [0u8; ROOM];
+    if !packed::next_bytes(file, &mut circuit, due.circuit) {
+        return Ok(tally.with_cut());
     }
-    ask_size(tally, due, &circuit[..due.circuit])
+    ask_size(rt, tally, due, &circuit[..due.circuit])
 }
 
 // ---- a file
@@ -188,56 +199,59 @@ pub enum Sort {
 }
 
 // Reads how many there are.
-fn next_count(fd: i32, sort: Sort) -> u64 {
+fn next_count(file: &mut impl Read, sort: Sort) -> u64 {
     match sort {
-        Sort::Case => next_number(fd),
-        Sort::Size => packed::next_word(fd).value,
+        Sort::Case => next_number(file),
+        Sort::Size => packed::next_word(file).value,
     }
 }
 
 // Asks about the next of these.
-fn ask_next(fd: i32, sort: Sort, tally: Tally) -> Tally {
+fn ask_next(rt: &impl Print, file: &mut impl Read, sort: Sort, tally: Tally) -> io::Result<Tally> {
     match sort {
-        Sort::Case => ask_next_case(fd, tally),
-        Sort::Size => ask_next_size(fd, tally),
+        Sort::Case => ask_next_case(rt, file, tally),
+        Sort::Size => ask_next_size(rt, file, tally),
     }
 }
 
 // Asks about so many, or up to the first that cannot be read whole.
-fn ask_all(fd: i32, sort: Sort, count: u64) -> Tally {
+fn ask_all(rt: &impl Print, file: &mut impl Read, sort: Sort, count: u64) -> io::Result<Tally> {
     let mut tally = Tally::new();
     let mut left = count;
     while 0 < left && !tally.cut {
-        tally = ask_next(fd, sort, tally);
+        tally = ask_next(rt, file, sort, tally)?;
         left -= 1;
     }
-    tally
+    Ok(tally)
 }
 
 // Prints what came of them.
-fn print_tally(sort: Sort, tally: Tally) {
+fn print_tally(rt: &impl Print, sort: Sort, tally: Tally) -> io::Result<()> {
     match sort {
         Sort::Case => {
-            print_numbers(tally);
-            print_all(b"case ", tally, b" asked, ");
+            print_numbers(rt, tally)?;
+            print_all(rt, "case ", tally, " asked, ")
         }
-        Sort::Size => print_all(b"size ", tally, b" sizes, "),
+        Sort::Size => print_all(rt, "size ", tally, " sizes, "),
     }
 }
 
 // Asks about all of a file, which lies in the folder that the program runs in.
-fn ask_file(file: &[u8], sort: Sort) {
-    let fd = os::open_read(file);
-    if fd < 0 {
-        os::fail(file);
-        return;
+fn ask_file(
+    rt: &(impl Files + Print + Eprint + AllocGlobal),
+    name: &str,
+    sort: Sort,
+) -> io::Result<()> {
+    match File::open(rt, name) {
+        Ok(mut file) => {
+            let count = next_count(&mut file, sort);
+            print_tally(rt, sort, ask_all(rt, &mut file, sort, count)?)
+        }
+        Err(error) => fail(rt, name, error),
     }
-    let count = next_count(fd, sort);
-    print_tally(sort, ask_all(fd, sort, count));
-    libc::close(fd);
 }
 
-fn main() {
-    ask_file(b"questions.bin", Sort::Case);
-    ask_file(b"sizes.bin", Sort::Size);
+fn main(rt: HostRuntime) -> io::Result<()> {
+    ask_file(&rt, "questions.bin", Sort::Case)?;
+    ask_file(&rt, "sizes.bin", Sort::Size)
 }

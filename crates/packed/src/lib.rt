@@ -3,6 +3,7 @@
 
 ghost use Rattle.packed.specs.Read.{IsPrefixLen, MissingIs0, HasRoom};
 
+pub mod failing;
 pub mod filled;
 pub mod same;
 

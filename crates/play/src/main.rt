@@ -1,18 +1,25 @@
 // Plays script.bin over circuit.bin, both in the folder that the program runs in, and prints the records and how the run ended, or the refusal.
 #![tactic(auto)]
 
-ghost use Rattle.std.specs.Prelude.{◌^◌, ◌<◌};
+ghost use Rattle.std.specs.Prelude.{◌^◌, ◌<◌, ◌×◌};
 ghost use Rattle.io.specs.Counts.{IsPrefixLen};
 
 mod outputs;
 mod text;
 
-use libc::STDOUT_FILENO;
 use outputs::outputs;
+use packed::read_full;
 use run::Answer;
+use std::fs::File;
+use std::io;
+use std::io::Read;
+use std::rt::Files;
 use text::add_word;
 use walk::record_size;
 use words::read;
+
+// The bytes of a buffer, of the log and of an area.
+const ROOM: usize = 65_536;
 
 // What is printed where a file is missing or too long.
 const NO_FILES: u64 = 14;
@@ -20,51 +27,46 @@ const NO_FILES: u64 = 14;
 // ---- printing: a record each, its words in signed decimal with one space between, and then the end; or the refusal
 
 // Prints a word in signed decimal, and the byte behind it.
-fn print_word(word: u64, last: u8) {
+fn print_word(rt: &impl Print, word: u64, last: u8) -> io::Result<()> {
     let mut text = [0u8; 22];
     let n = add_word(&mut text, 0, word, last);
-    io::write_all(STDOUT_FILENO, &text[..n]);
+    rt.write_all(&text[..n])
 }
 
 // Prints n words from word `at` on as a line.
-fn print_record(log: &[u8], at: usize, n: usize)
+fn print_record(rt: &impl Print, log: &[u8], at: usize, n: usize) -> io::Result<()>
     requires { (at < 2 ^ 61) × (n < 2 ^ 61) }
 {
     let mut i = 0;
     while i + 1 < n {
-        print_word(read(log, at + i), b' ');
+        print_word(rt, read(log, at + i), b' ')?;
         i += 1;
     }
-    print_word(read(log, at + i), b'\n');
+    print_word(rt, read(log, at + i), b'\n')
 }
 
 // Prints the records in the first `size` words of the log.
-fn print_records(circuit: &[u8], log: &[u8], size: usize)
+fn print_records(rt: &impl Print, circuit: &[u8], log: &[u8], size: usize) -> io::Result<()>
     requires { size < 2 ^ 61 }
 {
     let shown = outputs(circuit);
     let mut at = 0;
     while at < size {
         let n = record_size(log, at, size - at, shown);
-        print_record(log, at, n);
+        print_record(rt, log, at, n)?;
         at += n;
     }
+    Ok(())
 }
 
 // Prints the stop and the ticks done.
-fn print_end(stop: u64, ticks: u64) {
-    io::write_all(STDOUT_FILENO, b"end ");
-    io::print_decimal(STDOUT_FILENO, stop);
-    io::write_all(STDOUT_FILENO, b" ");
-    io::print_decimal(STDOUT_FILENO, ticks);
-    io::write_all(STDOUT_FILENO, b"\n");
+fn print_end(rt: &impl Print, stop: u64, ticks: u64) -> io::Result<()> {
+    println!(rt; "end {stop} {ticks}")
 }
 
 // Prints the number of the refusal.
-fn print_refused(number: u64) {
-    io::write_all(STDOUT_FILENO, b"refused ");
-    io::print_decimal(STDOUT_FILENO, number);
-    io::write_all(STDOUT_FILENO, b"\n");
+fn print_refused(rt: &impl Print, number: u64) -> io::Result<()> {
+    println!(rt; "refused {number}")
 }
 
 // ---- playing
@@ -77,32 +79,30 @@ struct Contents {
 }
 
 // Reads a file to the front of a buffer. A file that ends later than the buffer, or cannot be read to its end, is not whole.
-fn read_file(name: &[u8], buffer: &mut [u8]) -> Contents
+fn read_file(rt: &impl Files, name: &str, buffer: &mut [u8]) -> Contents
     ensures { IsPrefixLen result.bytes buffer.new }
 {
-    let fd = os::open_read(name);
-    if fd < 0 {
+    let Ok(mut file) = File::open(rt, name) else {
         return Contents {
             whole: false,
             bytes: 0,
         };
-    }
-    let n = io::read_full(fd, buffer);
+    };
+    let n = read_full(&mut file, buffer);
     let mut next = [0u8; 1];
-    let more = libc::read(fd, &mut next);
-    libc::close(fd);
+    let more = file.read(&mut next);
     Contents {
-        whole: more == 0,
+        whole: matches!(more, Ok(0)),
         bytes: n,
     }
 }
 
 // Lends a log and three areas of 65,536 bytes each, and prints what came of the call.
-fn play(circuit: &[u8], script: &[u8]) {
-    let mut log = io::large_buffer();
-    let mut values = io::large_buffer();
-    let mut units = io::large_buffer();
-    let mut delays = io::large_buffer();
+fn play(rt: &impl Print, circuit: &[u8], script: &[u8]) -> io::Result<()> {
+    let mut log = [0u8; ROOM];
+    let mut values = [0u8; ROOM];
+    let mut units = [0u8; ROOM];
+    let mut delays = [0u8; ROOM];
     let answer = run::run(
         circuit,
         script,
@@ -112,25 +112,25 @@ fn play(circuit: &[u8], script: &[u8]) {
         &mut delays,
     );
     match answer {
-        Answer::Refused(number) => print_refused(number),
+        Answer::Refused(number) => print_refused(rt, number),
         Answer::Played { stop, ticks, bytes } => {
-            print_records(circuit, &log, (bytes / 8) as usize);
-            print_end(stop, ticks);
+            print_records(rt, circuit, &log, (bytes / 8) as usize)?;
+            print_end(rt, stop, ticks)
         }
     }
 }
 
 // Reads both files, and plays them if they are there and whole.
-fn main() {
-    let mut circuit = io::large_buffer();
-    let mut script = io::large_buffer();
-    let c = read_file(b"circuit.bin", &mut circuit);
-    let s = read_file(b"script.bin", &mut script);
+fn main(rt: HostRuntime) -> io::Result<()> {
+    let mut circuit = [0u8; ROOM];
+    let mut script = [0u8; ROOM];
+    let c = read_file(&rt, "circuit.bin", &mut circuit);
+    let s = read_file(&rt, "script.bin", &mut script);
     let n = c.bytes;
     let m = s.bytes;
     if c.whole && s.whole {
-        play(&circuit[..n], &script[..m]);
+        play(&rt, &circuit[..n], &script[..m])
     } else {
-        print_refused(NO_FILES);
+        print_refused(&rt, NO_FILES)
     }
 }

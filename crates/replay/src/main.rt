@@ -16,11 +16,15 @@ mod tally;
 use bytes::is_answered;
 use class_due::{ClassDue, class_numbers, is_class_as_due};
 use due::{Due, is_as_due, numbers};
-use libc::STDOUT_FILENO;
+use packed::failing::fail;
 use packed::filled::{FILLED, TOLD, filled_words};
 use packed::{next_bytes, next_word, next_words};
 use report_due::ReportDue;
 use rooms::{DELAYS, ROOM, filled_delays, filled_room, room};
+use std::fs::File;
+use std::io;
+use std::io::Read;
+use std::rt::Files;
 use tally::Tally;
 use words::told::put_at;
 
@@ -36,16 +40,16 @@ const REPORT_HEAD: usize = 72;
 // ---- the parts of a log, read from a file
 
 // Reads how many bytes of records a part of a log has, and these to its front.
-fn next_part(fd: i32, part: &mut [u8]) -> bool {
-    let bytes = next_word(fd);
+fn next_part(file: &mut impl Read, part: &mut [u8]) -> bool {
+    let bytes = next_word(file);
     if !bytes.whole {
         return false;
     }
-    next_bytes(fd, part, bytes.value as usize)
+    next_bytes(file, part, bytes.value as usize)
 }
 
 // Reads the records of so many parts of a log, each of so many bytes: whether they were there whole, and have room.
-fn next_parts(fd: i32, log: &mut [u8], parts: u64, size: usize) -> bool {
+fn next_parts(file: &mut impl Read, log: &mut [u8], parts: u64, size: usize) -> bool {
     let n = log.len();
     let mut at = 0;
     let mut left = parts;
@@ -53,7 +57,7 @@ fn next_parts(fd: i32, log: &mut [u8], parts: u64, size: usize) -> bool {
         if n - at < size {
             return false;
         }
-        if !next_part(fd, &mut log[at..at + size]) {
+        if !next_part(file, &mut log[at..at + size]) {
             return false;
         }
         at += size;
@@ -65,27 +69,23 @@ fn next_parts(fd: i32, log: &mut [u8], parts: u64, size: usize) -> bool {
 // ---- what is printed
 
 // Prints two texts, a number and a third text.
-fn print(text: &[u8], name: &[u8], number: u64, end: &[u8]) {
-    io::write_all(STDOUT_FILENO, text);
-    io::write_all(STDOUT_FILENO, name);
-    io::print_decimal(STDOUT_FILENO, number);
-    io::write_all(STDOUT_FILENO, end);
+fn print(rt: &impl Print, text: &str, name: &str, number: u64, end: &str) -> io::Result<()> {
+    print!(rt; "{text}{name}{number}{end}")
 }
 
 // Prints the number of a run, a class or a report that differs, from 0.
-fn print_other(name: &[u8], number: u64) {
-    print(b"differs: ", name, number, b"\n");
+fn print_other(rt: &impl Print, name: &str, number: u64) -> io::Result<()> {
+    print(rt, "differs: ", name, number, "\n")
 }
 
 // Prints how many were played and differ, and which could not be read whole.
-fn print_tally(name: &[u8], tally: Tally, played: &[u8]) {
+fn print_tally(rt: &impl Print, name: &str, tally: Tally, played: &str) -> io::Result<()> {
     if tally.cut {
-        print(b"not whole: ", name, tally.played, b"\n");
+        print(rt, "not whole: ", name, tally.played, "\n")?;
     }
-    io::print_decimal(STDOUT_FILENO, tally.played);
-    io::write_all(STDOUT_FILENO, played);
-    io::print_decimal(STDOUT_FILENO, tally.differ);
-    io::write_all(STDOUT_FILENO, b" differ\n");
+    let all = tally.played;
+    let differ = tally.differ;
+    println!(rt; "{all}{played}{differ} differ")
 }
 
 // ---- runs
@@ -129,32 +129,40 @@ fn play(due: Due, circuit: &[u8], script: &[u8], records: &[u8]) -> bool {
 }
 
 // Plays a run with these bytes, and counts it.
-fn play_one(tally: Tally, due: Due, circuit: &[u8], script: &[u8], records: &[u8]) -> Tally {
+fn play_one(
+    rt: &impl Print,
+    tally: Tally,
+    due: Due,
+    circuit: &[u8],
+    script: &[u8],
+    records: &[u8],
+) -> io::Result<Tally> {
     if play(due, circuit, script, records) {
-        return tally.with_same();
+        return Ok(tally.with_same());
     }
-    print_other(b"run ", tally.played);
-    tally.with_other()
+    print_other(rt, "run ", tally.played)?;
+    Ok(tally.with_other())
 }
 
 // Reads the next run, if there are buffers for it, and plays it.
-fn play_next_run(fd: i32, tally: Tally) -> Tally {
+fn play_next_run(rt: &impl Print, file: &mut impl Read, tally: Tally) -> io::Result<Tally> {
     let mut head = [0u8; RUN_HEAD];
-    if !next_bytes(fd, &mut head, RUN_HEAD) {
-        return tally.with_cut();
+    if !next_bytes(file, &mut head, RUN_HEAD) {
+        return Ok(tally.with_cut());
     }
     let due = numbers(&head);
     if ROOM < due.circuit || ROOM < due.script || ROOM < due.records {
-        return tally.with_cut();
+        return Ok(tally.with_cut());
     }
     let mut circuit = room();
     let mut script = room();
     let mut records = room();
-    if next_bytes(fd, &mut circuit, due.circuit)
-        && next_bytes(fd, &mut script, due.script)
-        && next_bytes(fd, &mut records, due.records)
+    if next_bytes(file, &mut circuit, due.circuit)
+        && next_bytes(file, &mut script, due.script)
+        && next_bytes(file, &mut records, due.records)
     {
         return play_one(
+            rt,
             tally,
             due,
             &circuit[..due.circuit],
@@ -162,7 +170,7 @@ fn play_next_run(fd: i32, tally: Tally) -> Tally {
             &records[..due.records],
         );
     }
-    tally.with_cut()
+    Ok(tally.with_cut())
 }
 
 // ---- classes
@@ -220,44 +228,46 @@ fn play_class(due: ClassDue, circuit: &[u8], book: &[u8], records: &[u8], words:
 // Reads the words that are due to be told, and the records of each part: into buffers that are filled, so that these become the words and the log that are due. Plays the
 // class and counts it.
 fn play_one_class(
-    fd: i32,
+    rt: &impl Print,
+    file: &mut impl Read,
     tally: Tally,
     due: ClassDue,
     circuit: &[u8],
     book: &[u8],
     records: &mut [u8],
     words: &mut [u64],
-) -> Tally {
-    if !next_words(fd, words, due.words) {
-        return tally.with_cut();
+) -> io::Result<Tally> {
+    if !next_words(file, words, due.words) {
+        return Ok(tally.with_cut());
     }
-    if !next_parts(fd, records, due.parts, due.part) {
-        return tally.with_cut();
+    if !next_parts(file, records, due.parts, due.part) {
+        return Ok(tally.with_cut());
     }
     if play_class(due, circuit, book, records, words) {
-        return tally.with_same();
+        return Ok(tally.with_same());
     }
-    print_other(b"class ", tally.played);
-    tally.with_other()
+    print_other(rt, "class ", tally.played)?;
+    Ok(tally.with_other())
 }
 
 // Reads the next class, if there are buffers for it, and plays it.
-fn play_next_class(fd: i32, tally: Tally) -> Tally {
+fn play_next_class(rt: &impl Print, file: &mut impl Read, tally: Tally) -> io::Result<Tally> {
     let mut head = [0u8; CLASS_HEAD];
-    if !next_bytes(fd, &mut head, CLASS_HEAD) {
-        return tally.with_cut();
+    if !next_bytes(file, &mut head, CLASS_HEAD) {
+        return Ok(tally.with_cut());
     }
     let due = class_numbers(&head);
     if ROOM < due.circuit || ROOM < due.book || ROOM < due.log || TOLD < due.told {
-        return tally.with_cut();
+        return Ok(tally.with_cut());
     }
     let mut circuit = room();
     let mut book = room();
     let mut records = filled_room();
     let mut words = filled_words();
-    if next_bytes(fd, &mut circuit, due.circuit) && next_bytes(fd, &mut book, due.book) {
+    if next_bytes(file, &mut circuit, due.circuit) && next_bytes(file, &mut book, due.book) {
         return play_one_class(
-            fd,
+            rt,
+            file,
             tally,
             due,
             &circuit[..due.circuit],
@@ -266,7 +276,7 @@ fn play_next_class(fd: i32, tally: Tally) -> Tally {
             &mut words[..due.told],
         );
     }
-    tally.with_cut()
+    Ok(tally.with_cut())
 }
 
 // ---- reports
@@ -324,42 +334,44 @@ fn tell_lines(due: ReportDue, words: &mut [u64]) {
 // Reads the lines that are due, and tells how many bytes they have: into buffers that are filled, so that these become the buffer and the words that are due. Plays the
 // report and counts it.
 fn play_one_report(
-    fd: i32,
+    rt: &impl Print,
+    file: &mut impl Read,
     tally: Tally,
     due: ReportDue,
     circuit: &[u8],
     log: &[u8],
     lines: &mut [u8],
     words: &mut [u64],
-) -> Tally {
-    if !next_bytes(fd, lines, due.lines) {
-        return tally.with_cut();
+) -> io::Result<Tally> {
+    if !next_bytes(file, lines, due.lines) {
+        return Ok(tally.with_cut());
     }
     tell_lines(due, words);
     if play_report(due, circuit, log, lines, words) {
-        return tally.with_same();
+        return Ok(tally.with_same());
     }
-    print_other(b"report ", tally.played);
-    tally.with_other()
+    print_other(rt, "report ", tally.played)?;
+    Ok(tally.with_other())
 }
 
 // Reads the next report, if there are buffers for it, and plays it.
-fn play_next_report(fd: i32, tally: Tally) -> Tally {
+fn play_next_report(rt: &impl Print, file: &mut impl Read, tally: Tally) -> io::Result<Tally> {
     let mut head = [0u8; REPORT_HEAD];
-    if !next_bytes(fd, &mut head, REPORT_HEAD) {
-        return tally.with_cut();
+    if !next_bytes(file, &mut head, REPORT_HEAD) {
+        return Ok(tally.with_cut());
     }
     let due = ReportDue::of(&head);
     if ROOM < due.circuit || ROOM < due.log || ROOM < due.report || TOLD < due.told {
-        return tally.with_cut();
+        return Ok(tally.with_cut());
     }
     let mut circuit = room();
     let mut log = room();
     let mut lines = filled_room();
     let mut words = filled_words();
-    if next_bytes(fd, &mut circuit, due.circuit) && next_bytes(fd, &mut log, due.log) {
+    if next_bytes(file, &mut circuit, due.circuit) && next_bytes(file, &mut log, due.log) {
         return play_one_report(
-            fd,
+            rt,
+            file,
             tally,
             due,
             &circuit[..due.circuit],
@@ -368,7 +380,7 @@ fn play_next_report(fd: i32, tally: Tally) -> Tally {
             &mut words[..due.told],
         );
     }
-    tally.with_cut()
+    Ok(tally.with_cut())
 }
 
 // ---- a file
@@ -381,48 +393,55 @@ pub enum Sort {
     Report,
 }
 
-// Opens a file, which lies in the folder that the program runs in; below 0 where it cannot.
-fn open(name: &[u8]) -> i32 {
-    let fd = os::open_read(name);
-    if fd < 0 {
-        os::fail(name);
+// Opens a file, which lies in the folder that the program runs in; none where it cannot.
+fn open<R: Files + Eprint + AllocGlobal>(rt: &R, name: &str) -> io::Result<Option<R::File>> {
+    match File::open(rt, name) {
+        Ok(file) => Ok(Some(file)),
+        Err(error) => {
+            fail(rt, name, error)?;
+            Ok(None)
+        }
     }
-    fd
 }
 
 // Plays the next of these.
-fn play_next(fd: i32, sort: Sort, tally: Tally) -> Tally {
+fn play_next(rt: &impl Print, file: &mut impl Read, sort: Sort, tally: Tally) -> io::Result<Tally> {
     match sort {
-        Sort::Run => play_next_run(fd, tally),
-        Sort::Class => play_next_class(fd, tally),
-        Sort::Report => play_next_report(fd, tally),
+        Sort::Run => play_next_run(rt, file, tally),
+        Sort::Class => play_next_class(rt, file, tally),
+        Sort::Report => play_next_report(rt, file, tally),
     }
 }
 
 // Plays so many, or up to the first that cannot be read whole.
-fn play_all(fd: i32, sort: Sort, count: u64) -> Tally {
+fn play_all(rt: &impl Print, file: &mut impl Read, sort: Sort, count: u64) -> io::Result<Tally> {
     let mut tally = Tally::new();
     let mut left = count;
     while 0 < left && !tally.cut {
-        tally = play_next(fd, sort, tally);
+        tally = play_next(rt, file, sort, tally)?;
         left -= 1;
     }
-    tally
+    Ok(tally)
 }
 
 // Plays all of a file; `name` is one of them, and `played` stands behind how many there are.
-fn play_file(file: &[u8], sort: Sort, name: &[u8], played: &[u8]) {
-    let fd = open(file);
-    if fd < 0 {
-        return;
-    }
-    let tally = play_all(fd, sort, next_word(fd).value);
-    print_tally(name, tally, played);
-    libc::close(fd);
+fn play_file(
+    rt: &(impl Files + Print + Eprint + AllocGlobal),
+    file: &str,
+    sort: Sort,
+    name: &str,
+    played: &str,
+) -> io::Result<()> {
+    let Some(mut file) = open(rt, file)? else {
+        return Ok(());
+    };
+    let count = next_word(&mut file).value;
+    let tally = play_all(rt, &mut file, sort, count)?;
+    print_tally(rt, name, tally, played)
 }
 
-fn main() {
-    play_file(b"runs.bin", Sort::Run, b"run ", b" played, ");
-    play_file(b"classes.bin", Sort::Class, b"class ", b" classes, ");
-    play_file(b"reports.bin", Sort::Report, b"report ", b" reports, ");
+fn main(rt: HostRuntime) -> io::Result<()> {
+    play_file(&rt, "runs.bin", Sort::Run, "run ", " played, ")?;
+    play_file(&rt, "classes.bin", Sort::Class, "class ", " classes, ")?;
+    play_file(&rt, "reports.bin", Sort::Report, "report ", " reports, ")
 }
