@@ -1,7 +1,7 @@
 -- Laws of cases and counts.
 use Rattle.std.proofs.Common.{◌≡◌, ℕ, ◌≤◌, false, eqb, List, ◌++◌, length, get_or, set, sym, refl, ap, arith, length-append, length-take-le, eq-eqb, ne_eqb}
 use lib.Seq.{set_out}
-use Rattle.io.specs.Counts.{IsPrefixLen}
+use Rattle.packed.specs.Read.{IsPrefixLen}
 use Rattle.asked.specs.declared.case.Case.{Case}
 use Rattle.asked.specs.declared.case.Answers.{Answers}
 use Rattle.asked.specs.Case.{right}

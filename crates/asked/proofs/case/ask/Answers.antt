@@ -1,0 +1,6 @@
+use Rattle.asked.specs.Case.{answers, areas_of}
+use Rattle.asked.proofs.case.ask.Goals as goal
+
+pub returns : goal.returns
+unfolding answers areas_of
+returns c = λ i. record { check = c.check.ensures i; refusal = c.refusal.ensures i }
