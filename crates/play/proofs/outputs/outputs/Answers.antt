@@ -16,4 +16,4 @@ loop-g-preserved c = (search rules, omega (arith, few_more _ _ c.outputs-total.e
 pub returns : goal.returns
 returns c =
     let h = outputs_told _ (outputs_are _ _ _ _ _ _ _ c.read.ensures c.least-gates.ensures.value c.read-2.ensures c.least-constants.ensures.value refl (outputs_last _ _ _ _ _ _ c.loop-g-test.false c.loop-g.invariant.2)) (omega (arith, c.loop-g.invariant.0, c.loop-g.invariant.1, c.least-gates.ensures.upper_bound)) in
-    record { value = h.0; value_2 = h.1.0; upper_bound = h.1.1; }
+    record { value = h.0; value_2 = h.1.0; upper_bound = h.1.1 }

@@ -6,4 +6,4 @@ use Rattle.play.proofs.text.add_byte.Goals as goal
 pub returns : goal.returns
 returns c =
     let a = c.args in
-    record { text_value = byte_added a.text.now a.at a.byte (omega arith); value = refl; }
+    record { text_value = byte_added a.text.now a.at a.byte (omega arith); value = refl }

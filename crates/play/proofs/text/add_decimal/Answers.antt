@@ -14,4 +14,4 @@ overflow_add-result c = let few : c.decimal-n.result ≤ 20 = few_digits c.decim
 pub returns : goal.returns
 returns c =
     let few : c.decimal-n.result ≤ 20 = few_digits c.decimal-n.result c.args.number (omega arith) c.decimal-n.ensures.len in
-    record { text_value = number_added c.args.text.now _ _ c.args.at c.decimal-n.result c.args.number (omega arith) few c.decimal-n.ensures.in_bounds.0 c.decimal-n.ensures.len c.decimal-n.ensures.digits c.put_digits.ensures; lower_bound = (omega (arith, few), omega (arith, few)); }
+    record { text_value = number_added c.args.text.now _ _ c.args.at c.decimal-n.result c.args.number (omega arith) few c.decimal-n.ensures.in_bounds.0 c.decimal-n.ensures.len c.decimal-n.ensures.digits c.put_digits.ensures; lower_bound = (omega (arith, few), omega (arith, few)) }
