@@ -237,11 +237,7 @@ fn print_tally(rt: &impl Print, sort: Sort, tally: Tally) -> io::Result<()> {
 }
 
 // Asks about all of a file, which lies in the folder that the program runs in.
-fn ask_file(
-    rt: &(impl Files + Print + Eprint + AllocGlobal),
-    name: &str,
-    sort: Sort,
-) -> io::Result<()> {
+fn ask_file(rt: &(impl Files + Print + Eprint), name: &str, sort: Sort) -> io::Result<()> {
     match File::open(rt, name) {
         Ok(mut file) => {
             let count = next_count(&mut file, sort);

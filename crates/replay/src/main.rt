@@ -394,7 +394,7 @@ pub enum Sort {
 }
 
 // Opens a file, which lies in the folder that the program runs in; none where it cannot.
-fn open<R: Files + Eprint + AllocGlobal>(rt: &R, name: &str) -> io::Result<Option<R::File>> {
+fn open<R: Files + Eprint>(rt: &R, name: &str) -> io::Result<Option<R::File>> {
     match File::open(rt, name) {
         Ok(file) => Ok(Some(file)),
         Err(error) => {
@@ -426,7 +426,7 @@ fn play_all(rt: &impl Print, file: &mut impl Read, sort: Sort, count: u64) -> io
 
 // Plays all of a file; `name` is one of them, and `played` stands behind how many there are.
 fn play_file(
-    rt: &(impl Files + Print + Eprint + AllocGlobal),
+    rt: &(impl Files + Print + Eprint),
     file: &str,
     sort: Sort,
     name: &str,
