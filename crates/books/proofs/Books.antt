@@ -8,7 +8,7 @@ use lib.Dec.{leb}
 use lib.ListN.{length, get_or, take, drop}
 use borrow.Author.Tests.{le-leb, lt-leb}
 use Rattle.words.specs.Words.{words}
-use Rattle.model.specs.Base.{if◌then◌else◌}
+use Rattle.model.specs.Base.{if◌then◌otherwise◌}
 use Rattle.model.specs.Circuit.{word_at}
 use Rattle.model.specs.Questions.{within}
 use Rattle.model.specs.Book.{count, good_book, start_of, length_of, entry}
@@ -44,13 +44,13 @@ module _ (most : ℕ) (b : List ℕ) (n : ℕ) (e : n ≡ count b) where
 
 -- ---- string k: its start s and its length z, as they were read
 module _ (b : List ℕ) (n k s z : ℕ) (c : n ≡ count b) (es : s ≡ get_or (words b) (1 + k) 0) (ez : z ≡ get_or (words b) (1 + n + k) 0) where
-  entry_is : entry b k ≡ (if leb (s + z) (length b) then take z (drop s b) else [])
+  entry_is : entry b k ≡ (if leb (s + z) (length b) then take z (drop s b) otherwise [])
   unfolding entry start_of length_of word_at
   entry_is = rw (es, ez, c) refl
 
   -- it leaves the book
   leaves : length b < s + z → Spans b k (record { start = 0; end = 0 })
-  unfolding if◌then◌else◌
+  unfolding if◌then◌otherwise◌
   leaves h = (omega arith, omega arith, sym (entry_is ∙ rw (lt-leb (s + z) (length b) h) refl))
 
   pub entry_behind : length b < s → Spans b k (record { start = 0; end = 0 })
@@ -60,6 +60,6 @@ module _ (b : List ℕ) (n k s z : ℕ) (c : n ≡ count b) (es : s ≡ get_or (
   entry_over l h = leaves (omega arith)
 
   pub entry_within : s ≤ length b → z ≤ length b - s → Spans b k (record { start = s; end = s + z })
-  unfolding if◌then◌else◌
+  unfolding if◌then◌otherwise◌
   entry_within l h =
       (omega arith, omega arith, ap (λ (m : ℕ). take m (drop s b)) (let q : s + z - s ≡ z = omega arith in q) ∙ sym (entry_is ∙ rw (le-leb (s + z) (length b) (omega arith)) refl))

@@ -12,7 +12,7 @@ use Rattle.lists.specs.declared.Filed.TheVariants.{Full, Done}
 use Rattle.lists.proofs.Stacks.{stacked_length}
 use Rattle.lists.proofs.Rings.{queued_length}
 use Rattle.words.specs.Words.{words}
-use Rattle.model.specs.Base.{if◌then◌else◌, keep, snoc}
+use Rattle.model.specs.Base.{if◌then◌otherwise◌, keep, snoc}
 use Rattle.model.specs.Circuit.{Circuit, Call}
 use Rattle.model.specs.Chain.{Calls, no_calls, fit}
 use Rattle.model.proofs.Lists.{both_true}
@@ -101,23 +101,23 @@ module _ (u v : Units) (r : Filed) (k : Call) (f : fit u.calls ≡ true) where
 
 module _ (c : Circuit) (bs : List ℕ) (k : Call) (b : Bool) (eb : b ≡ k.remote) where
   remote_kept : b ≡ true → stack_before (k ∷ []) (units c bs).calls ≡ (units c bs).calls
-  unfolding stack_before keep if◌then◌else◌
+  unfolding stack_before keep if◌then◌otherwise◌
   remote_kept t = rw (sym eb ∙ t)
 
   other_kept : b ≡ false → forks_behind (k ∷ []) (units c bs).calls ≡ (units c bs).calls
-  unfolding forks_behind keep if◌then◌else◌
+  unfolding forks_behind keep if◌then◌otherwise◌
   other_kept t = rw (sym eb ∙ t) (ap (forks≔ (units c bs).calls) (append-nil (units c bs).calls.forks))
 
   fork_is : b ≡ true → forks_behind (k ∷ []) (units c bs).calls ≡ forks≔ (units c bs).calls ((units c bs).calls.forks ++ (k.to ∷ []))
-  unfolding forks_behind keep if◌then◌else◌
+  unfolding forks_behind keep if◌then◌otherwise◌
   fork_is t = rw (sym eb ∙ t)
 
   stack_is : b ≡ false → stack_before (k ∷ []) (units c bs).calls ≡ stack≔ (units c bs).calls (k.to ∷ (units c bs).calls.stack)
-  unfolding stack_before keep if◌then◌else◌
+  unfolding stack_before keep if◌then◌otherwise◌
   stack_is t = rw (sym eb ∙ t)
 
   both_fork : b ≡ true → stack_before (k ∷ []) (forks_behind (k ∷ []) (units c bs).calls) ≡ forks_behind (k ∷ []) (units c bs).calls
-  unfolding stack_before keep if◌then◌else◌
+  unfolding stack_before keep if◌then◌otherwise◌
   both_fork t = rw (sym eb ∙ t)
 
   pub fork_none : b ≡ false → Pushes (units c bs) (units c bs) Done (forks_behind (k ∷ []) (units c bs).calls)

@@ -8,7 +8,7 @@ use native.Mathlib.Omega.{arith}
 use lib.ListN.{length-append}
 use Rattle.lists.specs.declared.Filed.{Filed}
 use Rattle.lists.specs.declared.Filed.TheVariants.{Full, Done}
-use Rattle.model.specs.Base.{if◌then◌else◌, keep, from}
+use Rattle.model.specs.Base.{if◌then◌otherwise◌, keep, from}
 use Rattle.model.specs.Circuit.{Circuit, Call}
 use Rattle.model.specs.Chain.{Calls, no_calls, fit, push_calls}
 use Rattle.links.specs.Links.{net, call_of, target, first_call, call_count}
@@ -49,21 +49,21 @@ row_last l a (suc k) h = let e : suc k - 1 ≡ k = omega arith in rw e (row_some
 -- ---- one call more
 
 pub forks_cons : (k : Call) (ks : List Call) (q : Calls) → forks_behind (k ∷ ks) q ≡ forks_behind ks (forks_behind (k ∷ []) q)
-unfolding forks_behind keep if◌then◌else◌
+unfolding forks_behind keep if◌then◌otherwise◌
 forks_cons k ks q = go k.remote
   where
     rest : List ℕ
     rest = map (λ x. x.to) (keep (λ x. x.remote) ks)
 
     go : (b : Bool) →
-        forks≔ q (q.forks ++ map (λ x. x.to) (if b then k ∷ keep (λ x. x.remote) ks else keep (λ x. x.remote) ks))
-        ≡ forks≔ q (q.forks ++ map (λ x. x.to) (if b then k ∷ [] else []) ++ map (λ x. x.to) (keep (λ x. x.remote) ks))
+        forks≔ q (q.forks ++ map (λ x. x.to) (if b then k ∷ keep (λ x. x.remote) ks otherwise keep (λ x. x.remote) ks))
+        ≡ forks≔ q (q.forks ++ map (λ x. x.to) (if b then k ∷ [] otherwise []) ++ map (λ x. x.to) (keep (λ x. x.remote) ks))
     go true = ap (forks≔ q) (sym (append_assoc q.forks (k.to ∷ []) rest))
     go false = ap (λ (y : List ℕ). forks≔ q (y ++ rest)) (sym (append-nil q.forks))
 
 others_snoc : (k : Call) (ks : List Call) →
     map (λ x. x.to) (keep (λ x. not x.remote) (ks ++ (k ∷ []))) ≡ map (λ x. x.to) (keep (λ x. not x.remote) ks) ++ map (λ x. x.to) (keep (λ x. not x.remote) (k ∷ []))
-unfolding keep if◌then◌else◌
+unfolding keep if◌then◌otherwise◌
 others_snoc k [] = refl
 others_snoc k (x ∷ ks) = go (not x.remote) (others_snoc k ks)
   where
@@ -71,8 +71,8 @@ others_snoc k (x ∷ ks) = go (not x.remote) (others_snoc k ks)
     others ys = map (λ x. x.to) (keep (λ x. not x.remote) ys)
 
     go : (b : Bool) → others (ks ++ (k ∷ [])) ≡ others ks ++ others (k ∷ []) →
-        map (λ x. x.to) (if b then x ∷ keep (λ x. not x.remote) (ks ++ (k ∷ [])) else keep (λ x. not x.remote) (ks ++ (k ∷ [])))
-        ≡ map (λ x. x.to) (if b then x ∷ keep (λ x. not x.remote) ks else keep (λ x. not x.remote) ks) ++ others (k ∷ [])
+        map (λ x. x.to) (if b then x ∷ keep (λ x. not x.remote) (ks ++ (k ∷ [])) otherwise keep (λ x. not x.remote) (ks ++ (k ∷ [])))
+        ≡ map (λ x. x.to) (if b then x ∷ keep (λ x. not x.remote) ks otherwise keep (λ x. not x.remote) ks) ++ others (k ∷ [])
     go true e = ap (λ (ys : List ℕ). x.to ∷ ys) e
     go false e = e
 

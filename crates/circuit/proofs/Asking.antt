@@ -8,7 +8,7 @@ use lib.Dec.{ltb, eqb}
 use lib.ListN.{length, get_or, get_or-eq_default}
 use borrow.Author.Tests.{ltb-false, lt-ltb, le-ltb, eq-eqb, ne_eqb, not-true, not-false}
 use Rattle.model.specs.declared.Value.{Value}
-use Rattle.model.specs.Base.{if◌then◌else◌}
+use Rattle.model.specs.Base.{if◌then◌otherwise◌}
 use Rattle.model.specs.Kinds.{In, value, Out as Output, fires, shows, passes}
 use Rattle.model.specs.Circuit.{Circuit, minus_one}
 use Rattle.model.specs.Questions.{value_output, good_setting, names_constant, good_input, may_call, may_be_called}
@@ -74,24 +74,24 @@ store_some k b t h e = rw (ne_eqb k 0 h) e
 module _ (c : Circuit) (pin : In) (s k : ℕ) where
   -- what is asked of a source
   abbrev Sourced : Bool
-  Sourced = if eqb s minus_one then true else value_output c s && pin.source && eqb k 0
+  Sourced = if eqb s minus_one then true otherwise value_output c s && pin.source && eqb k 0
 
   pub source_minus_one : s ≡ minus_one → true ≡ Sourced
-  unfolding if◌then◌else◌
+  unfolding if◌then◌otherwise◌
   source_minus_one h = rw (eq-eqb s minus_one h)
 
   module _ (h : s ≡ minus_one → ⊥) (t : Bool) (e : t ≡ value_output c s) where
     pub source_no_output : not t ≡ true → false ≡ Sourced
-    unfolding if◌then◌else◌
+    unfolding if◌then◌otherwise◌
     source_no_output n = rw (ne_eqb s minus_one h, no t _ e n)
 
     module _ (y : not t ≡ false) (u : Bool) (f : u ≡ pin.source) where
       pub source_not_taken : not u ≡ true → false ≡ Sourced
-      unfolding if◌then◌else◌
+      unfolding if◌then◌otherwise◌
       source_not_taken n = rw (ne_eqb s minus_one h, yes t _ e y, no u _ f n)
 
       pub source_given : not u ≡ false → eqb k 0 ≡ Sourced
-      unfolding if◌then◌else◌
+      unfolding if◌then◌otherwise◌
       source_given n = rw (ne_eqb s minus_one h, yes t _ e y, yes u _ f n)
 
   -- ---- an input

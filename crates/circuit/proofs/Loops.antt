@@ -10,7 +10,7 @@ use lib.Seq.{drop-cons, get_or-take, get_or-drop}
 use borrow.Author.Tests.{eq-eqb, ne_eqb, le-leb, lt-leb}
 use Rattle.words.specs.Words.{words}
 use Rattle.words.proofs.Laws.{words_long}
-use Rattle.model.specs.Base.{if◌then◌else◌, all, both, keep, sum}
+use Rattle.model.specs.Base.{if◌then◌otherwise◌, all, both, keep, sum}
 use Rattle.model.specs.Value.{bit}
 use Rattle.model.specs.Circuit.{part}
 use Rattle.model.specs.Questions.{within, yes_all}
@@ -170,10 +170,10 @@ module _ (p : ℕ → Bool) (s : List ℕ) (k n : ℕ) where
   count_first = ap (λ (xs : List ℕ). length (keep p xs)) (left_first (words s) k n)
 
   count_split : (i w : ℕ) (t : Bool) → (k + n) * 8 ≤ length s → i < n → w ≡ get_or (words s) (k + i) 0 → t ≡ p w → passing i ≡ bit t + passing (i + 1)
-  unfolding keep if◌then◌else◌ bit
+  unfolding keep if◌then◌otherwise◌ bit
   count_split i w t l h e q = rw (left_next s k n i l h, ← e, ← q) (go t)
     where
-      go : (t : Bool) → length (if t then w ∷ keep p (left (words s) k n (i + 1)) else keep p (left (words s) k n (i + 1))) ≡ bit t + length (keep p (left (words s) k n (i + 1)))
+      go : (t : Bool) → length (if t then w ∷ keep p (left (words s) k n (i + 1)) otherwise keep p (left (words s) k n (i + 1))) ≡ bit t + length (keep p (left (words s) k n (i + 1)))
       go true = omega arith
       go false = omega arith
 

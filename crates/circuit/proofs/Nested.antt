@@ -11,7 +11,7 @@ use borrow.Author.Tests.{eq-eqb, ne_eqb}
 use Rattle.model.specs.declared.Value.{Value}
 use Rattle.model.specs.declared.Value.TheVariants.{Nothing, Int}
 use Rattle.model.specs.Value.{same}
-use Rattle.model.specs.Base.{if◌then◌else◌, all, keep, from}
+use Rattle.model.specs.Base.{if◌then◌otherwise◌, all, keep, from}
 use Rattle.model.specs.Circuit.{Call, Circuit, names, kind_of_gate, body_of_gate, input, stored_in, setting, gate_at_input, gate_at_output, calls_of, gates}
 use Rattle.model.specs.Questions.{calls_inside, in_a_body, entries_of, has_entry, comes_out, question_19}
 use Rattle.model.proofs.Lists.{all_map, from_first, from_none}
@@ -108,8 +108,8 @@ module _ (p q : ℕ → Bool) (n : ℕ) where
       let e : n - 0 ≡ n = omega arith in
       rw (e, zero-add (length (keep p (from 0 n))))
 
-  one_turn : (m i : ℕ) (b : Bool) → i < n → p i ≡ b → one_from m i ≡ (if b then (q i && one_from (m + 1) (i + 1)) else one_from m (i + 1))
-  unfolding one_from keep all if◌then◌else◌
+  one_turn : (m i : ℕ) (b : Bool) → i < n → p i ≡ b → one_from m i ≡ (if b then (q i && one_from (m + 1) (i + 1)) otherwise one_from m (i + 1))
+  unfolding one_from keep all if◌then◌otherwise◌
   one_turn m i b h e = rw (from_first i n h, e) (go b)
     where
       rest : List ℕ
@@ -119,25 +119,25 @@ module _ (p q : ℕ → Bool) (n : ℕ) where
       swap x y z = sym (and_assoc x y z) ∙ ap (λ (w : Bool). w && z) (and_comm x y) ∙ and_assoc y x z
 
       go : (b : Bool) →
-          (eqb (m + length (if b then i ∷ keep p (from (i + 1) (n - (i + 1))) else keep p (from (i + 1) (n - (i + 1))))) 1
-          && all q (if b then i ∷ keep p (from (i + 1) (n - (i + 1))) else keep p (from (i + 1) (n - (i + 1)))))
+          (eqb (m + length (if b then i ∷ keep p (from (i + 1) (n - (i + 1))) otherwise keep p (from (i + 1) (n - (i + 1))))) 1
+          && all q (if b then i ∷ keep p (from (i + 1) (n - (i + 1))) otherwise keep p (from (i + 1) (n - (i + 1)))))
           ≡ (if b then (q i && (eqb (m + 1 + length (keep p (from (i + 1) (n - (i + 1))))) 1 && all q (keep p (from (i + 1) (n - (i + 1))))))
-          else (eqb (m + length (keep p (from (i + 1) (n - (i + 1))))) 1 && all q (keep p (from (i + 1) (n - (i + 1))))))
+          otherwise (eqb (m + length (keep p (from (i + 1) (n - (i + 1))))) 1 && all q (keep p (from (i + 1) (n - (i + 1))))))
       go true =
           let s : m + suc (length rest) ≡ m + 1 + length rest = omega arith in
           rw s (swap (eqb (m + 1 + length rest) 1) (q i) (all q rest))
       go false = refl
 
   pub one_none : (m m₁ i : ℕ) (t x : Bool) → i < n → t ≡ p i → t ≡ false → m₁ ≡ m → one_from m i ≡ x → one_from m₁ (i + 1) ≡ x
-  unfolding if◌then◌else◌
+  unfolding if◌then◌otherwise◌
   one_none m m₁ i t x h et y em e = rw em (sym (one_turn m i false h (sym et ∙ y)) ∙ e)
 
   pub one_more : (m m₁ i : ℕ) (t x : Bool) → i < n → t ≡ p i → t ≡ true → q i ≡ true → m₁ ≡ m + 1 → one_from m i ≡ x → one_from m₁ (i + 1) ≡ x
-  unfolding if◌then◌else◌
+  unfolding if◌then◌otherwise◌
   one_more m m₁ i t x h et y z em e = rw em (sym (one_turn m i true h (sym et ∙ y) ∙ rw z) ∙ e)
 
   pub one_stop : (m i : ℕ) (t x : Bool) → i < n → t ≡ p i → t ≡ true → q i ≡ false → one_from m i ≡ x → false ≡ x
-  unfolding if◌then◌else◌
+  unfolding if◌then◌otherwise◌
   one_stop m i t x h et y z e = sym (one_turn m i true h (sym et ∙ y) ∙ rw z) ∙ e
 
   pub one_last : (m i : ℕ) (x : Bool) → n ≤ i → one_from m i ≡ x → eqb m 1 ≡ x

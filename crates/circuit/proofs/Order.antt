@@ -7,7 +7,7 @@ use mathlib.Core.List.{List}
 use mathlib.Core.Option.{Option, none, some}
 use lib.Dec.{leb}
 use Rattle.words.specs.Words.{words}
-use Rattle.model.specs.Base.{if◌then◌else◌}
+use Rattle.model.specs.Base.{if◌then◌otherwise◌}
 use Rattle.model.specs.Circuit.{Circuit, circuit}
 use Rattle.model.specs.Questions.{Areas, question_1, question_2, question_3, question_4, question_5, question_19, question_6, question_7, queues, circuit_refusal, script_refusal, or_else, refusal}
 use Rattle.links.specs.Links.{cells, net}
@@ -18,21 +18,21 @@ use Rattle.circuit.specs.Refusals.{words_refusal, links_refusal, areas_refusal, 
 
 module _ (s : List ℕ) (t : Bool) (a : t ≡ question_1 s (words s)) where
   pub no_1 : not t ≡ true → 1 ≡ words_refusal s
-  unfolding words_refusal if◌then◌else◌
+  unfolding words_refusal if◌then◌otherwise◌
   no_1 h = rw (← a, h)
 
   module _ (h : not t ≡ false) (u : Bool) (b : u ≡ question_2 (words s)) where
     pub no_2 : not u ≡ true → 2 ≡ words_refusal s
-    unfolding words_refusal if◌then◌else◌
+    unfolding words_refusal if◌then◌otherwise◌
     no_2 k = rw (← a, h, ← b, k)
 
     module _ (k : not u ≡ false) (v : Bool) (d : v ≡ question_3 (words s) (circuit (words s))) where
       pub no_3 : not v ≡ true → 3 ≡ words_refusal s
-      unfolding words_refusal if◌then◌else◌
+      unfolding words_refusal if◌then◌otherwise◌
       no_3 l = rw (← a, h, ← b, k, ← d, l)
 
       pub yes_3 : not v ≡ false → 0 ≡ words_refusal s
-      unfolding words_refusal if◌then◌else◌
+      unfolding words_refusal if◌then◌otherwise◌
       yes_3 l = rw (← a, h, ← b, k, ← d, l)
 
 -- where its words are not refused
@@ -42,12 +42,12 @@ pub record WordsPassed (s : List ℕ) : Type 0 where
   pub gates : question_3 (words s) (circuit (words s)) ≡ true
 
 pub words_passed : (s : List ℕ) → words_refusal s ≡ 0 → WordsPassed s
-unfolding words_refusal if◌then◌else◌
+unfolding words_refusal if◌then◌otherwise◌
 words_passed s h = go (question_1 s (words s)) refl (question_2 (words s)) refl (question_3 (words s) (circuit (words s))) refl h
   where
     go :
         (a : Bool) → question_1 s (words s) ≡ a → (b : Bool) → question_2 (words s) ≡ b → (d : Bool) → question_3 (words s) (circuit (words s)) ≡ d →
-        ◌≡◌ {A = ℕ} (if not a then 1 else if not b then 2 else if not d then 3 else 0) 0 → WordsPassed s
+        ◌≡◌ {A = ℕ} (if not a then 1 otherwise if not b then 2 otherwise if not d then 3 otherwise 0) 0 → WordsPassed s
     go false e b f d g h = absurd (omega (arith, h))
     go true e false f d g h = absurd (omega (arith, h))
     go true e true f false g h = absurd (omega (arith, h))
@@ -64,7 +64,7 @@ module _ (s l : List ℕ) (p : words_refusal s ≡ 0) (z : l ≡ cells (circuit 
   four = a ∙ ap (question_4 (words s)) (links_show s l p z)
 
   pub no_4 : not t ≡ true → 4 ≡ links_refusal (words s) (circuit (words s))
-  unfolding links_refusal if◌then◌else◌
+  unfolding links_refusal if◌then◌otherwise◌
   no_4 h = rw (← four, h)
 
   module _ (h : not t ≡ false) (u : Bool) (b : u ≡ question_5 (words s) (net l)) where
@@ -72,7 +72,7 @@ module _ (s l : List ℕ) (p : words_refusal s ≡ 0) (z : l ≡ cells (circuit 
     five = b ∙ ap (question_5 (words s)) (links_show s l p z)
 
     pub no_5 : not u ≡ true → 5 ≡ links_refusal (words s) (circuit (words s))
-    unfolding links_refusal if◌then◌else◌
+    unfolding links_refusal if◌then◌otherwise◌
     no_5 k = rw (← four, h, ← five, k)
 
     module _ (k : not u ≡ false) (i : Bool) (f : i ≡ question_19 (net l)) where
@@ -80,7 +80,7 @@ module _ (s l : List ℕ) (p : words_refusal s ≡ 0) (z : l ≡ cells (circuit 
       nineteen = f ∙ ap question_19 (links_show s l p z)
 
       pub no_19 : not i ≡ true → 19 ≡ links_refusal (words s) (circuit (words s))
-      unfolding links_refusal if◌then◌else◌
+      unfolding links_refusal if◌then◌otherwise◌
       no_19 j = rw (← four, h, ← five, k, ← nineteen, j)
 
       module _ (j : not i ≡ false) (v : Bool) (d : v ≡ question_6 (net l)) where
@@ -88,7 +88,7 @@ module _ (s l : List ℕ) (p : words_refusal s ≡ 0) (z : l ≡ cells (circuit 
         six = d ∙ ap question_6 (links_show s l p z)
 
         pub no_6 : not v ≡ true → 6 ≡ links_refusal (words s) (circuit (words s))
-        unfolding links_refusal if◌then◌else◌
+        unfolding links_refusal if◌then◌otherwise◌
         no_6 m = rw (← four, h, ← five, k, ← nineteen, j, ← six, m)
 
         module _ (m : not v ≡ false) (n : ℕ) (q : n ≡ queues (circuit (words s))) (w : Bool) (e : w ≡ leb n 8) where
@@ -97,11 +97,11 @@ module _ (s l : List ℕ) (p : words_refusal s ≡ 0) (z : l ≡ cells (circuit 
           seven = e ∙ ap (λ (x : ℕ). leb x 8) q
 
           pub no_7 : not w ≡ true → 7 ≡ links_refusal (words s) (circuit (words s))
-          unfolding links_refusal if◌then◌else◌
+          unfolding links_refusal if◌then◌otherwise◌
           no_7 x = rw (← four, h, ← five, k, ← nineteen, j, ← six, m, ← seven, x)
 
           pub yes_7 : not w ≡ false → 0 ≡ links_refusal (words s) (circuit (words s))
-          unfolding links_refusal if◌then◌else◌
+          unfolding links_refusal if◌then◌otherwise◌
           yes_7 x = rw (← four, h, ← five, k, ← nineteen, j, ← six, m, ← seven, x)
 
 -- ---- both groups, and the script
@@ -117,13 +117,13 @@ unfolding or_else
 later_number x y a b e z f = f ∙ ap (λ (n : ℕ). or_else n b) (sym z ∙ e)
 
 two_groups : (s : List ℕ) → circuit_refusal none s ≡ or_else (words_refusal s) (links_refusal (words s) (circuit (words s)))
-unfolding circuit_refusal words_refusal links_refusal or_else if◌then◌else◌
+unfolding circuit_refusal words_refusal links_refusal or_else if◌then◌otherwise◌
 two_groups s =
     go (question_1 s (words s)) (question_2 (words s)) (question_3 (words s) (circuit (words s))) (links_refusal (words s) (circuit (words s)))
   where
     go :
         (a b d : Bool) (n : ℕ) →
-        (if not a then 1 else if not b then 2 else if not d then 3 else n) ≡ or_else (if not a then 1 else if not b then 2 else if not d then 3 else 0) n
+        (if not a then 1 otherwise if not b then 2 otherwise if not d then 3 otherwise n) ≡ or_else (if not a then 1 otherwise if not b then 2 otherwise if not d then 3 otherwise 0) n
     go false b d n = refl
     go true false d n = refl
     go true true false n = refl
@@ -150,7 +150,7 @@ asked_all s l l₁ x y e z f g = (later_number x y _ _ e z g ∙ sym (two_groups
 
 -- question 7 with areas, once it was answered yes without
 areas_later : (A : Areas) (s : List ℕ) → circuit_refusal (some A) s ≡ or_else (circuit_refusal none s) (areas_refusal A (circuit (words s)))
-unfolding circuit_refusal question_7 areas_refusal or_else if◌then◌else◌
+unfolding circuit_refusal question_7 areas_refusal or_else if◌then◌otherwise◌
 areas_later A s =
     let c = circuit (words s) in
     let k = leb (queues c) 8 in
@@ -159,11 +159,11 @@ areas_later A s =
   where
     go :
         (a b d e f i g k x y z : Bool) →
-        (if not a then 1 else if not b then 2 else if not d then 3 else if not e then 4 else if not f then 5 else if not i then 19 else if not g then 6
-        else if not (k && x && y && z) then 7 else 0)
+        (if not a then 1 otherwise if not b then 2 otherwise if not d then 3 otherwise if not e then 4 otherwise if not f then 5 otherwise if not i then 19 otherwise if not g then 6
+        otherwise if not (k && x && y && z) then 7 otherwise 0)
         ≡ or_else
-        (if not a then 1 else if not b then 2 else if not d then 3 else if not e then 4 else if not f then 5 else if not i then 19 else if not g then 6 else if not k then 7 else 0)
-        (if k && x && y && z then 0 else 7)
+        (if not a then 1 otherwise if not b then 2 otherwise if not d then 3 otherwise if not e then 4 otherwise if not f then 5 otherwise if not i then 19 otherwise if not g then 6 otherwise if not k then 7 otherwise 0)
+        (if k && x && y && z then 0 otherwise 7)
     go false b d e f i g k x y z = refl
     go true false d e f i g k x y z = refl
     go true true false e f i g k x y z = refl
@@ -184,11 +184,11 @@ module _ (A : Areas) (c : Circuit) (n : ℕ) (q : n ≡ queues c) (t : Bool)
   lent = a ∙ ap (λ (m : ℕ). leb m 8 && leb 65536 A.values && leb 65536 A.units && leb (65536 * max 1 m) A.delays) q
 
   pub areas_enough : t ≡ true → 0 ≡ areas_refusal A c
-  unfolding areas_refusal if◌then◌else◌
+  unfolding areas_refusal if◌then◌otherwise◌
   areas_enough h = rw (← lent, h)
 
   pub areas_short : t ≡ false → 7 ≡ areas_refusal A c
-  unfolding areas_refusal if◌then◌else◌
+  unfolding areas_refusal if◌then◌otherwise◌
   areas_short h = rw (← lent, h)
 
 module _ (A : Areas) (s : List ℕ) (x : ℕ) (e : x ≡ circuit_refusal none s) where

@@ -11,7 +11,7 @@ use lib.Dec.{eqb, leb, leb-suc-suc}
 use lib.ListN.{length, get_or}
 use Rattle.words.specs.Words.{words}
 use Rattle.words.proofs.Laws.{words_long}
-use Rattle.model.specs.Base.{if◌then◌else◌, all, keep, from, sum}
+use Rattle.model.specs.Base.{if◌then◌otherwise◌, all, keep, from, sum}
 use Rattle.model.specs.Kinds.{kind_at}
 use Rattle.model.specs.Circuit.{Circuit, part, word_at, circuit, circuit_opened, kind_of_gate}
 use Rattle.model.specs.Questions.{Areas, within, question_1, question_3, question_7, question_8, question_9, question_10, names_constant, queues, good_length, script_refusal}
@@ -60,15 +60,15 @@ gates_are ws G K I t u g k i et eu =
 -- Those places of a list at which something that passes stands are as many as pass.
 keep_places : (p : ℕ → Bool) (f : ℕ → ℕ) (a : ℕ) (xs : List ℕ) → ((j : ℕ) → j < length xs → f (a + j) ≡ get_or xs j 0)
     → length (keep (λ g. p (f g)) (from a (length xs))) ≡ length (keep p xs)
-unfolding keep from if◌then◌else◌
+unfolding keep from if◌then◌otherwise◌
 keep_places p f a [] e = refl
 keep_places p f a (x ∷ xs) e =
     let h : f a ≡ x = sym (ap f (add-zero a)) ∙ e 0 (omega arith) in
     rw h (go (p x) (keep_places p f (suc a) xs (λ j l. let i : suc a + j ≡ a + suc j = omega arith in ap f i ∙ e (suc j) (omega arith))))
   where
     go : (b : Bool) → length (keep (λ g. p (f g)) (from (suc a) (length xs))) ≡ length (keep p xs)
-        → length (if b then a ∷ keep (λ g. p (f g)) (from (suc a) (length xs)) else keep (λ g. p (f g)) (from (suc a) (length xs)))
-        ≡ length (if b then x ∷ keep p xs else keep p xs)
+        → length (if b then a ∷ keep (λ g. p (f g)) (from (suc a) (length xs)) otherwise keep (λ g. p (f g)) (from (suc a) (length xs)))
+        ≡ length (if b then x ∷ keep p xs otherwise keep p xs)
     go true h = ap suc h
     go false h = h
 
@@ -126,19 +126,19 @@ stimuli_are s ws G K T S t u h g k es et e₁ e₂ =
 
 module _ (c : Circuit) (s : List ℕ) (t : Bool) (e : t ≡ question_8 s (words s)) where
   pub refused_8 : not t ≡ true → 8 ≡ script_refusal c s
-  unfolding script_refusal if◌then◌else◌
+  unfolding script_refusal if◌then◌otherwise◌
   refused_8 h = rw (← e, h)
 
   module _ (h : not t ≡ false) (u : Bool) (f : u ≡ question_9 (words s)) where
     pub refused_9 : not u ≡ true → 9 ≡ script_refusal c s
-    unfolding script_refusal if◌then◌else◌
+    unfolding script_refusal if◌then◌otherwise◌
     refused_9 k = rw (← e, h, ← f, k)
 
     module _ (k : not u ≡ false) (v : Bool) (g : v ≡ question_10 (words s) c) where
       pub refused_10 : not v ≡ true → 10 ≡ script_refusal c s
-      unfolding script_refusal if◌then◌else◌
+      unfolding script_refusal if◌then◌otherwise◌
       refused_10 l = rw (← e, h, ← f, k, ← g, l)
 
       pub not_refused : not v ≡ false → 0 ≡ script_refusal c s
-      unfolding script_refusal if◌then◌else◌
+      unfolding script_refusal if◌then◌otherwise◌
       not_refused l = rw (← e, h, ← f, k, ← g, l)

@@ -10,7 +10,7 @@ use lib.Bits.{bit_and}
 use lib.Dec.{eqb}
 use lib.ListN.{length, get_or}
 use borrow.Author.Tests.{not-true, not-false}
-use Rattle.model.specs.Base.{if◌then◌else◌, all, each, from}
+use Rattle.model.specs.Base.{if◌then◌otherwise◌, all, each, from}
 use Rattle.model.specs.Kinds.{kind_at, pure}
 use Rattle.model.specs.Circuit.{Circuit, kind_of_gate, input, inputs_of, source, gate_at_output, gates}
 use Rattle.model.specs.Questions.{source_placed, place, place_on, question_6}
@@ -57,10 +57,10 @@ module _ (c : Circuit) where
   ready bs g = not (pure (kind_of_gate c g)) || all (source_placed c bs) (inputs_of c g)
 
   awaited_apart : (bs : List Bool) (g : ℕ) → length bs ≤ 64 → eqb (bit_and (awaited c g) (unplaced bs)) 0 ≡ ready bs g
-  unfolding awaited ready if◌then◌else◌ with_source
+  unfolding awaited ready if◌then◌otherwise◌ with_source
   awaited_apart bs g h = go (pure (kind_of_gate c g))
     where
-      go : (b : Bool) → eqb (bit_and (if b then each (with_source c) 0 (inputs_of c g) else 0) (unplaced bs)) 0 ≡ (not b || all (source_placed c bs) (inputs_of c g))
+      go : (b : Bool) → eqb (bit_and (if b then each (with_source c) 0 (inputs_of c g) otherwise 0) (unplaced bs)) 0 ≡ (not b || all (source_placed c bs) (inputs_of c g))
       go false = refl
       go true = all_apart (source_bit c) (source_placed c bs) bs (inputs_of c g) (λ i. source_apart bs i h)
 
@@ -80,7 +80,7 @@ module _ (c : Circuit) where
       rw (q, source_bit)
 
   pub awaited_none : (g k : ℕ) (t : Bool) → k ≡ kind_of_gate c g → t ≡ pure k → not t ≡ true → 0 ≡ awaited c g
-  unfolding awaited if◌then◌else◌
+  unfolding awaited if◌then◌otherwise◌
   awaited_none g k t ek et h =
       let q : pure (kind_of_gate c g) ≡ false = ap pure (sym ek) ∙ sym et ∙ not-true t h in
       rw q
@@ -88,7 +88,7 @@ module _ (c : Circuit) where
   pub awaited_some :
       (g k a n w : ℕ) (t : Bool) → k ≡ kind_of_gate c g → t ≡ pure k → not t ≡ false → a ≡ input c g 0 → n ≡ length (kind_at k).ins →
       w ≡ each (with_source c) 0 (from a n) → w ≡ awaited c g
-  unfolding awaited if◌then◌else◌ inputs_of
+  unfolding awaited if◌then◌otherwise◌ inputs_of
   awaited_some g k a n w t ek et h ea en ew =
       let q : pure (kind_of_gate c g) ≡ true = ap pure (sym ek) ∙ sym et ∙ not-false t h in
       rw (q, ← ek, ← ea, ← en) ew

@@ -11,7 +11,7 @@ use lib.Dec.{ltb, eqb}
 use lib.ListN.{length, get_or, get_or-eq_default}
 use borrow.Author.Tests.{ltb-false, lt-ltb, le-ltb}
 use Rattle.floats.proofs.Bits.{unit_is}
-use Rattle.model.specs.Base.{if◌then◌else◌, all, each, from}
+use Rattle.model.specs.Base.{if◌then◌otherwise◌, all, each, from}
 use Rattle.model.specs.Questions.{yes_all}
 use Rattle.model.proofs.Lists.{all_places, places_all, from_same}
 use Rattle.circuit.specs.Gates.{word_of_bits, gates_where, gate_bit, with_gate, waits}
@@ -25,11 +25,11 @@ map_yes f h (x ∷ xs) (suc i) = map_yes f h xs i
 -- ---- one gate
 
 pub gate_in : (g : ℕ) → g < 64 → 1 * 2 ^ g % 2 ^ 64 ≡ gate_bit g
-unfolding gate_bit if◌then◌else◌
+unfolding gate_bit if◌then◌otherwise◌
 gate_in g h = rw (lt-ltb g 64 h) (unit_is g h)
 
 pub gate_out : (g : ℕ) → 64 ≤ g → 0 ≡ gate_bit g
-unfolding gate_bit if◌then◌else◌
+unfolding gate_bit if◌then◌otherwise◌
 gate_out g h = rw (le-ltb g 64 h)
 
 -- ---- words beside the word of the gates that are not placed
@@ -38,10 +38,10 @@ unfoldable pub unplaced : List Bool → ℕ
 unplaced placed = word_of_bits (map not placed)
 
 pub gate_apart : (placed : List Bool) (g : ℕ) → length placed ≤ 64 → eqb (bit_and (gate_bit g) (unplaced placed)) 0 ≡ get_or placed g true
-unfolding gate_bit if◌then◌else◌ unplaced
+unfolding gate_bit if◌then◌otherwise◌ unplaced
 gate_apart placed g h = go (ltb g 64) refl
   where
-    go : (b : Bool) → ltb g 64 ≡ b → eqb (bit_and (if b then 2 ^ g else 0) (unplaced placed)) 0 ≡ get_or placed g true
+    go : (b : Bool) → ltb g 64 ≡ b → eqb (bit_and (if b then 2 ^ g otherwise 0) (unplaced placed)) 0 ≡ get_or placed g true
     go true e = word_apart placed g
     go false e = sym (get_or-eq_default placed true (omega (arith, ltb-false g 64 e)))
 

@@ -2,7 +2,7 @@
 use Rattle.std.specs.Prelude.{ℕ, ◌+◌, ◌*◌, ◌^◌, Bool, not, List, [], ◌∷◌, map, ltb, eqb, get_or}
 use Rattle.std.proofs.Math.Option.{none, some}
 use Rattle.std.specs.Int.Bits.{bit_and, bit_or}
-use Rattle.model.specs.Base.{if◌then◌else◌, each, from}
+use Rattle.model.specs.Base.{if◌then◌otherwise◌, each, from}
 use Rattle.model.specs.Value.{bit}
 use Rattle.model.specs.Kinds.{pure}
 use Rattle.model.specs.Circuit.{Circuit, kind_of_gate, inputs_of, source, gate_at_output}
@@ -18,7 +18,7 @@ gates_where p n = word_of_bits (map p (from 0 n))
 
 -- gate h alone; none for a number above 63, for which a word has no bit
 unfoldable pub gate_bit : ℕ → ℕ
-gate_bit h = if ltb h 64 then 2 ^ h else 0
+gate_bit h = if ltb h 64 then 2 ^ h otherwise 0
 
 -- gate h, and those of the word w
 unfoldable pub with_gate : ℕ → ℕ → ℕ
@@ -35,7 +35,7 @@ module _ (c : Circuit) where
 
   -- the gates that gate g waits for: those that it reads, if it is pure
   unfoldable pub awaited : ℕ → ℕ
-  awaited g = if pure (kind_of_gate c g) then each with_source 0 (inputs_of c g) else 0
+  awaited g = if pure (kind_of_gate c g) then each with_source 0 (inputs_of c g) otherwise 0
 
 -- whether gate g waits for one of `unplaced`, where `words` has what each gate waits for
 unfoldable pub waits : List ℕ → ℕ → ℕ → Bool

@@ -2,7 +2,7 @@
 // no source on an S or a kind 11 or 13 Input, each setting as it has to be?
 ghost use Rattle.std.specs.Prelude.{◌≡◌, true, ◌&&◌, ◌||◌, eqb};
 ghost use Rattle.words.specs.Words.{words};
-ghost use Rattle.model.specs.Base.{if◌then◌else◌};
+ghost use Rattle.model.specs.Base.{if◌then◌otherwise◌};
 ghost use Rattle.model.specs.Circuit.{minus_one, kind_of_gate};
 ghost use Rattle.model.specs.Questions.{within, question_1, value_output, int_such_that, int_or_nothing, float_or_nothing, good_setting, names_constant, good_input, question_4};
 ghost use Rattle.kinds.specs.Pins.{in_of};
@@ -43,7 +43,7 @@ pub fn value_output(links: &[usize], o: usize) -> bool
 // Whether the pin's source is -1, or a value output where the pin takes one and no constant is stored.
 fn good_source(links: &[usize], pin: Pin, source: u64, stored: u64) -> bool
     requires { Linked links.now }
-    ensures { result ≡ (if eqb source minus_one then true else value_output (net_of links.now) source && (in_of pin).source && eqb stored 0) }
+    ensures { result ≡ (if eqb source minus_one then true otherwise value_output (net_of links.now) source && (in_of pin).source && eqb stored 0) }
 {
     if source == MINUS_ONE {
         return true;

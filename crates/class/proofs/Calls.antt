@@ -6,7 +6,7 @@ use mathlib.Core.List.{List, [], ◌∷◌, map}
 use mathlib.Core.Option.{some}
 use native.Mathlib.Omega.{arith}
 use lib.ListN.{length}
-use Rattle.model.specs.Base.{if◌then◌else◌, from}
+use Rattle.model.specs.Base.{if◌then◌otherwise◌, from}
 use Rattle.model.specs.Questions.{circuit_refusal, or_else}
 use Rattle.model.specs.Answer.{Answer, answer}
 use Rattle.model.specs.Book.{count, good_book, entry, entries, part_of}
@@ -58,13 +58,13 @@ module _ (k : Call) where
     module _ (z : n ≡ 0) (t : Bool) (b : t ≡ good_book most_scripts k.book) where
       -- by the book
       pub class_no_book : t ≡ false → Right k (record { log = k.log; values = k.values; units = k.units; delays = k.delays; told = k.told }) no_book
-      unfolding class_refusal if◌then◌else◌
+      unfolding class_refusal if◌then◌otherwise◌
       class_no_book h = left no_book (away no_book (later_number n no_book _ _ e z (rw (← b, h) refl)) (λ x. omega (arith, x)))
 
       -- ---- not turned away
       module _ (h : t ≡ true) (m : ℕ) (c : m ≡ count k.book) (size : ℕ) (s : size ≡ part_of m (length k.log)) where
         accepted : class_refusal (lent k) k.circuit k.book ≡ 0
-        unfolding class_refusal if◌then◌else◌
+        unfolding class_refusal if◌then◌otherwise◌
         accepted = sym (later_number n 0 _ _ e z (rw (← b, h) refl))
 
         size_is : size ≡ part_size k

@@ -8,7 +8,7 @@ use native.Mathlib.Nat.{add-zero, add-suc, suc-add, zero-mul, suc-mul}
 use lib.ListN.{length, take, drop, replicate, length-drop, length-replicate}
 use lib.Seq.{length-take-le, take_at, drop_at, drop-drop, take-add}
 use borrow.Rule.Slice.PartMut.{put_mid}
-use Rattle.model.specs.Base.{if◌then◌else◌, from}
+use Rattle.model.specs.Base.{if◌then◌otherwise◌, from}
 use Rattle.model.specs.Run.{Played}
 use Rattle.model.specs.Answer.{Answer, refused, played, log_after, area_after}
 use Rattle.model.specs.Book.{cut}
@@ -88,22 +88,22 @@ any_now (r ∷ rs) p = ap (λ (b : Bool). was_played r || b) (any_now rs p) ∙ 
 
 -- before the first answer
 pub area_first : (v : List ℕ) → v ≡ class_area (answered []) v
-unfolding class_area any_played if◌then◌else◌
+unfolding class_area any_played if◌then◌otherwise◌
 area_first v = refl
 
 -- it stays as long as it was
 pub area_long : (rs : List Answer) (v : List ℕ) → length (class_area (answered rs) v) ≡ length v
-unfolding class_area if◌then◌else◌
+unfolding class_area if◌then◌otherwise◌
 area_long rs v = go (any_played rs)
   where
-    go : (b : Bool) → length (if b then replicate (length v) 0 else v) ≡ length v
+    go : (b : Bool) → length (if b then replicate (length v) 0 otherwise v) ≡ length v
     go true = length-replicate (length v) 0
     go false = refl
 
 -- one answer more
 pub area_next :
     (rs : List Answer) (a : Answer) (v₀ v v₁ : List ℕ) → v ≡ class_area (answered rs) v₀ → v₁ ≡ area_after a v → v₁ ≡ class_area (answered (rs ++ (a ∷ []))) v₀
-unfolding class_area area_after if◌then◌else◌
-area_next rs (refused n) v₀ v v₁ e h = h ∙ e ∙ ap (λ (b : Bool). if b then replicate (length v₀) 0 else v₀) (sym (any_refused rs n))
+unfolding class_area area_after if◌then◌otherwise◌
+area_next rs (refused n) v₀ v v₁ e h = h ∙ e ∙ ap (λ (b : Bool). if b then replicate (length v₀) 0 otherwise v₀) (sym (any_refused rs n))
 area_next rs (played p) v₀ v v₁ e h =
-    h ∙ ap (λ (n : ℕ). replicate n 0) (ap length e ∙ area_long rs v₀) ∙ ap (λ (b : Bool). if b then replicate (length v₀) 0 else v₀) (sym (any_now rs p))
+    h ∙ ap (λ (n : ℕ). replicate n 0) (ap length e ∙ area_long rs v₀) ∙ ap (λ (b : Bool). if b then replicate (length v₀) 0 otherwise v₀) (sym (any_now rs p))

@@ -11,7 +11,7 @@ use mir.Facts.{to_z-of_z, to_z_pos, to_z-neg}
 use mir.Syntax.{w64}
 use mir.Val.{SFits}
 use Rattle.words.specs.Words.{signed, unsigned}
-use Rattle.model.specs.Base.{if◌then◌else◌}
+use Rattle.model.specs.Base.{if◌then◌otherwise◌}
 use Rattle.model.specs.Exec.{remainder, cycle_next}
 use Rattle.cycle.specs.Step.{step}
 
@@ -38,22 +38,22 @@ next a n p = go (eq-or-lt_of_le (mod-lt a p))
 module _ (d : Bool) (n r x : ℕ) where
   -- down from 0
   pub down_wraps : d ≡ true → r ≡ 0 → x ≡ n - 1 → x ≡ step d n r
-  unfolding step if◌then◌else◌
+  unfolding step if◌then◌otherwise◌
   down_wraps b h e = rw (b, eq-eqb r 0 h) e
 
   -- down from any other number
   pub down_goes : d ≡ true → (r ≡ 0 → ⊥) → x ≡ r - 1 → x ≡ step d n r
-  unfolding step if◌then◌else◌
+  unfolding step if◌then◌otherwise◌
   down_goes b h e = rw (b, ne_eqb r 0 h) e
 
   -- up from the last number
   pub up_wraps : d ≡ false → r + 1 ≡ n → x ≡ 0 → x ≡ step d n r
-  unfolding step if◌then◌else◌
+  unfolding step if◌then◌otherwise◌
   up_wraps b h e = rw (b, eq-eqb (r + 1) n h) e
 
   -- up from any other number
   pub up_goes : d ≡ false → (r + 1 ≡ n → ⊥) → x ≡ r + 1 → x ≡ step d n r
-  unfolding step if◌then◌else◌
+  unfolding step if◌then◌otherwise◌
   up_goes b h e = rw (b, ne_eqb (r + 1) n h) e
 
 -- ---- a step from a number's remainder is the remainder of the next number
@@ -100,7 +100,7 @@ remainder_below (negsuc a) n p = omega arith
 pub cycle_below : (d : Bool) (n : ℕ) (now : ℤ) → 0 < n → cycle_next d (pos n) now < n
 unfolding cycle_next
 cycle_below d zero now p = p
-cycle_below d (suc n) now p = remainder_below (if d then pred_ℤ now else suc_ℤ now) (suc n) p
+cycle_below d (suc n) now p = remainder_below (if d then pred_ℤ now otherwise suc_ℤ now) (suc n) p
 
 -- so no step gives more than 2 ^ 63 - 2, whatever Count is
 pub cycle_most : (d : Bool) (count now : ℤ) → SFits w64 count → cycle_next d count now ≤ 2 ^ 63 - 2
@@ -134,7 +134,7 @@ from_high_word z v f e h = go z v f (e ∙ ap unsigned (to_z-of_z f)) h
 
 -- the step is one from the remainder of the number now,
 stepped : (d : Bool) (n : ℕ) (now : ℤ) → 0 < n → step d n (remainder now n) ≡ cycle_next d (pos n) now
-unfolding cycle_next if◌then◌else◌
+unfolding cycle_next if◌then◌otherwise◌
 stepped d zero now p = absurd (omega arith)
 stepped false (suc n) now p = sym (step_up now (suc n) p)
 stepped true (suc n) now p = sym (step_down now (suc n) p)

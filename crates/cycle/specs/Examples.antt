@@ -1,6 +1,6 @@
 -- Examples, by computation.
 use Rattle.std.specs.Prelude.{ℕ, ◌^◌, ◌-◌, ◌≡◌, refl, Bool, true, false, List, [], ◌∷◌, map, ℤ, pos, negsuc}
-use Rattle.model.specs.Base.{if◌then◌else◌}
+use Rattle.model.specs.Base.{if◌then◌otherwise◌}
 use Rattle.model.specs.Exec.{cycle_next, remainder}
 
 -- a row: whether down, Count, the number now, and the next one
@@ -69,5 +69,5 @@ rows =
 
 -- each row is so
 examples : map (λ t. cycle_next t.down t.count t.now) rows ≡ map (λ t. t.next) rows
-unfolding cycle_next remainder if◌then◌else◌
+unfolding cycle_next remainder if◌then◌otherwise◌
 examples = refl

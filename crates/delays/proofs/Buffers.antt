@@ -5,7 +5,7 @@ use mathlib.Core.Bool.{Bool, true, false}
 use mathlib.Core.List.{[], ◌∷◌}
 use mathlib.Core.Option.{none}
 use Rattle.model.specs.declared.Value.{Value}
-use Rattle.model.specs.Base.{if◌then◌else◌}
+use Rattle.model.specs.Base.{if◌then◌otherwise◌}
 use Rattle.model.specs.Value.{truthy}
 use Rattle.model.specs.State.{idle, flight≔}
 use Rattle.model.specs.Delays.{Started, tick_down, due, moved, launch, buffer_input, landed, flown, advance_flight}
@@ -57,12 +57,12 @@ module _ (b : Buffer) (dt : ℕ) (s : Bool) (wait zero_wait : Value) where
 
     pub advance_lands : (r : Buffer) → over ≡ true → buffer_moved r ≡ landed (starts s wait zero_wait) (buffer b) v
         → buffer_moved r ≡ advance_flight (starts s wait zero_wait) dt (buffer b)
-    unfolding flown if◌then◌else◌
+    unfolding flown if◌then◌otherwise◌
     advance_lands r h p = let q : due (counted left) ≡ true = sym o ∙ h in rw (flies, q) p
 
     pub advance_flies : over ≡ false
         → buffer_moved (record { flight = Of v left; later = b.later; landed = None; changed = false }) ≡ advance_flight (starts s wait zero_wait) dt (buffer b)
-    unfolding buffer_moved flown row_of buffer flight_of moved flight≔ idle if◌then◌else◌
+    unfolding buffer_moved flown row_of buffer flight_of moved flight≔ idle if◌then◌otherwise◌
     advance_flies h = let q : due (counted left) ≡ false = sym o ∙ h in flies_on q ∙ sym flies
       where
         flies_on : due (counted left) ≡ false

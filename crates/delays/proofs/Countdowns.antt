@@ -11,7 +11,7 @@ use mir.Val.{to_z, of_z, Fits, SFits}
 use mir.Facts.{to_z-of_z}
 use borrow.Author.Tests.{ltb-true, ltb-false}
 use Rattle.model.specs.declared.Value.{Value}
-use Rattle.model.specs.Base.{if◌then◌else◌}
+use Rattle.model.specs.Base.{if◌then◌otherwise◌}
 use Rattle.model.specs.Value.{as_int, as_float, narrow, narrow_changes, le64, plus32, le32, minus_one_point_zero}
 use Rattle.model.specs.Circuit.{Circuit, kind_of_gate, setting}
 use Rattle.model.specs.State.{Countdown, ticks_left, seconds}
@@ -68,16 +68,16 @@ seconds_in wait w x e = λ j. record { left = seconds (e.0 j) 0; changed = e.1 j
 
 -- the choice between the zero wait z, if it is to be used, and the wait w
 module _ {A : Type 0} (start : A → Started) (rising used : Bool) (z w : A) where
-  choice_rising : rising ≡ true → start w ≡ start (if not rising && used then z else w)
-  unfolding if◌then◌else◌
+  choice_rising : rising ≡ true → start w ≡ start (if not rising && used then z otherwise w)
+  unfolding if◌then◌otherwise◌
   choice_rising e = rw e
 
-  choice_zero : rising ≡ false → used ≡ true → start z ≡ start (if not rising && used then z else w)
-  unfolding if◌then◌else◌
+  choice_zero : rising ≡ false → used ≡ true → start z ≡ start (if not rising && used then z otherwise w)
+  unfolding if◌then◌otherwise◌
   choice_zero e h = rw (e, h)
 
-  choice_unused : rising ≡ false → used ≡ false → start w ≡ start (if not rising && used then z else w)
-  unfolding if◌then◌else◌
+  choice_unused : rising ≡ false → used ≡ false → start w ≡ start (if not rising && used then z otherwise w)
+  unfolding if◌then◌otherwise◌
   choice_unused e h = rw (e, h)
 
 module _ (rising : Bool) (wait zero_wait : Value) (k : Started) where
@@ -119,11 +119,11 @@ module _ (rising : Bool) (wait zero_wait : Value) (k : Started) where
       h ∙ ap in_seconds b ∙ choice_unused in_seconds rising (le64 0 (as_float minus_one_point_zero zero_wait)) (as_float minus_one_point_zero zero_wait) (as_float 0 wait) e (ap (le64 0) (sym a) ∙ sym l ∙ t)
 
   pub by_seconds : (s : Bool) → s ≡ true → k ≡ countdown_seconds rising wait zero_wait → k ≡ countdown_by s rising wait zero_wait
-  unfolding countdown_by if◌then◌else◌
+  unfolding countdown_by if◌then◌otherwise◌
   by_seconds s e h = rw e h
 
   pub by_ticks : (s : Bool) → s ≡ false → k ≡ countdown_ticks rising wait zero_wait → k ≡ countdown_by s rising wait zero_wait
-  unfolding countdown_by if◌then◌else◌
+  unfolding countdown_by if◌then◌otherwise◌
   by_ticks s e h = rw e h
 
 -- the countdown that the definition starts for a gate
@@ -198,7 +198,7 @@ of_ticks s w e = rw e
 -- ---- which of the two it is
 
 pub kind_by : (s rising : Bool) (wait zero_wait : Value) → counts_seconds (countdown_by s rising wait zero_wait).left ≡ s
-unfolding counts_seconds countdown_by countdown_ticks countdown_seconds in_ticks in_seconds if◌then◌else◌
+unfolding counts_seconds countdown_by countdown_ticks countdown_seconds in_ticks in_seconds if◌then◌otherwise◌
 kind_by true rising wait zero_wait = refl
 kind_by false rising wait zero_wait = refl
 

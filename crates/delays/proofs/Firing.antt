@@ -7,7 +7,7 @@ use native.Mathlib.Omega.{arith}
 use lib.Dec.{leb}
 use lib.ListN.{length, get_or, set}
 use borrow.Author.Tests.{leb-true, leb-false, le-leb, lt-leb, lt-ltb, le-ltb}
-use Rattle.model.specs.Base.{if◌then◌else◌, snoc}
+use Rattle.model.specs.Base.{if◌then◌otherwise◌, snoc}
 use Rattle.model.specs.State.{Countdown, Delay, idle, fires≔}
 use Rattle.model.specs.Delays.{Moved, moved, tick_down, due, drop_due, advance_fires}
 use Rattle.delays.specs.declared.countdown.Countdown.{Countdown as Counting}
@@ -72,7 +72,7 @@ module _ (f : Fires) (k : Countdown) where
   pub add_full : 32 ≤ f.count
       → fires_moved (record { seconds = f.seconds; first = f.first; count = f.count; words = f.words; fired = 0 })
       ≡ moved (add_fire (fires f) k) [] 0
-  unfolding fires_moved add_fire fires fires_of fires≔ idle if◌then◌else◌
+  unfolding fires_moved add_fire fires fires_of fires≔ idle if◌then◌otherwise◌
   add_full l =
       let m : 32 ≤ length (fires_of f) = omega (arith, length_fires f) in
       rw (le-ltb (length (fires_of f)) 32 m)
@@ -80,7 +80,7 @@ module _ (f : Fires) (k : Countdown) where
   pub add_one_more : (w : ℕ) → length f.words ≡ 32 → f.count < 32 → counts_seconds k ≡ f.seconds → (w ≡ word_of k) × (of_word (counts_seconds k) w ≡ k)
       → fires_moved (record { seconds = f.seconds; first = f.first; count = f.count + 1; words = set f.words ((f.first % 32 + f.count) % 32) w; fired = 0 })
       ≡ moved (add_fire (fires f) k) [] 0
-  unfolding fires_moved add_fire fires fires_of fires≔ idle if◌then◌else◌
+  unfolding fires_moved add_fire fires fires_of fires≔ idle if◌then◌otherwise◌
   add_one_more w l m e b =
       let short : length (fires_of f) < 32 = omega (arith, length_fires f) in
       rw (lt-ltb (length (fires_of f)) 32 short)

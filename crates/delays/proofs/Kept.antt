@@ -9,7 +9,7 @@ use lib.Dec.{ltb, eqb}
 use lib.ListN.{length}
 use Rattle.model.specs.declared.Value.{Value}
 use Rattle.model.specs.declared.Value.TheVariants.{Float}
-use Rattle.model.specs.Base.{if◌then◌else◌}
+use Rattle.model.specs.Base.{if◌then◌otherwise◌}
 use Rattle.model.specs.Value.{bit, plus64, le64, lt64}
 use Rattle.model.specs.State.{Countdown, Flight, Queued, Delay, idle, flight≔, fires≔, elapsed≔}
 use Rattle.model.specs.Delays.{Started, Moved, moved, tick_down, due, buffer_input, landed, flown, advance_flight, advance_fires, clock_at, advance_elapsed, stopwatch_at, advance_time, pressed}
@@ -62,7 +62,7 @@ landed_kept start v = by_parts (λ e. landed start e v ≡ moved_flight e (lande
     go f (some u) ks t r qs = refl
 
 flown_kept : (start : Value → Started) (d : Delay) (v : Value) (k : Countdown) → flown start d v k ≡ moved_flight d (flown start (only_flight d) v k)
-unfolding only_flight with_flight moved_flight flown moved flight≔ idle if◌then◌else◌
+unfolding only_flight with_flight moved_flight flown moved flight≔ idle if◌then◌otherwise◌
 flown_kept start d v k = go (due k) refl
   where
     go : (b : Bool) → due k ≡ b → flown start d v k ≡ moved_flight d (flown start (only_flight d) v k)
@@ -106,7 +106,7 @@ unfolding advance_fires only_fires fires≔
 fires_kept dt d = drop_kept d (only_fires d) (map (tick_down dt) d.fires) 0
 
 pub add_kept : (d : Delay) (k : Countdown) → add_fire d k ≡ with_fires d (add_fire (only_fires d) k)
-unfolding add_fire only_fires with_fires fires≔ if◌then◌else◌
+unfolding add_fire only_fires with_fires fires≔ if◌then◌otherwise◌
 add_kept d k = go (ltb (length d.fires) 32) refl
   where
     go : (b : Bool) → ltb (length d.fires) 32 ≡ b → add_fire d k ≡ with_fires d (add_fire (only_fires d) k)
@@ -143,26 +143,26 @@ moved_elapsed d m = moved (with_elapsed d m.state) m.row m.fires
 
 -- where two states move on to one of two, each with this part alone changed
 either_kept : (d e : Delay) (b : Bool) (t₁ t₂ : ℕ) (r₁ r₂ : Bool) (x₁ x₂ : List Value) (n₁ n₂ : ℕ)
-    → (if b then moved (elapsed≔ d t₁ r₁) x₁ n₁ else moved (elapsed≔ d t₂ r₂) x₂ n₂)
-    ≡ moved_elapsed d (if b then moved (elapsed≔ e t₁ r₁) x₁ n₁ else moved (elapsed≔ e t₂ r₂) x₂ n₂)
-unfolding moved_elapsed with_elapsed elapsed≔ moved if◌then◌else◌
+    → (if b then moved (elapsed≔ d t₁ r₁) x₁ n₁ otherwise moved (elapsed≔ d t₂ r₂) x₂ n₂)
+    ≡ moved_elapsed d (if b then moved (elapsed≔ e t₁ r₁) x₁ n₁ otherwise moved (elapsed≔ e t₂ r₂) x₂ n₂)
+unfolding moved_elapsed with_elapsed elapsed≔ moved if◌then◌otherwise◌
 either_kept d e true t₁ t₂ r₁ r₂ x₁ x₂ n₁ n₂ = refl
 either_kept d e false t₁ t₂ r₁ r₂ x₁ x₂ n₁ n₂ = refl
 
 -- an enabled Clock sees its seconds alone
 enabled_kept : (dt interval : ℕ) (d e : Delay) → e.elapsed ≡ d.elapsed → advance_elapsed dt interval true d ≡ moved_elapsed d (advance_elapsed dt interval true e)
-unfolding advance_elapsed clock_at elapsed≔ if◌then◌else◌
+unfolding advance_elapsed clock_at elapsed≔ if◌then◌otherwise◌
 enabled_kept dt interval d e q =
     rw q (either_kept d e (le64 interval (plus64 d.elapsed dt)) 0 (plus64 d.elapsed dt) false false [] [] 1 0)
 
 pub clock_kept : (dt interval : ℕ) (enabled : Bool) (d : Delay)
     → advance_elapsed dt interval enabled d ≡ moved_elapsed d (advance_elapsed dt interval enabled (only_elapsed d))
-unfolding advance_elapsed only_elapsed moved_elapsed with_elapsed elapsed≔ moved if◌then◌else◌
+unfolding advance_elapsed only_elapsed moved_elapsed with_elapsed elapsed≔ moved if◌then◌otherwise◌
 clock_kept dt interval true d = enabled_kept dt interval d (only_elapsed d) refl
 clock_kept dt interval false d = refl
 
 pub stopwatch_kept : (dt limit : ℕ) (d : Delay) → advance_time dt limit d ≡ moved_elapsed d (advance_time dt limit (only_elapsed d))
-unfolding advance_time stopwatch_at only_elapsed moved_elapsed with_elapsed elapsed≔ idle moved if◌then◌else◌
+unfolding advance_time stopwatch_at only_elapsed moved_elapsed with_elapsed elapsed≔ idle moved if◌then◌otherwise◌
 stopwatch_kept dt limit d = go d.running refl
   where
     go : (b : Bool) → d.running ≡ b → advance_time dt limit d ≡ moved_elapsed d (advance_time dt limit (only_elapsed d))
@@ -172,7 +172,7 @@ stopwatch_kept dt limit d = go d.running refl
     go false e = rw e
 
 pub pressed_kept : (p : ℕ) (d : Delay) → pressed p d ≡ with_elapsed d (pressed p (only_elapsed d))
-unfolding pressed only_elapsed with_elapsed elapsed≔ idle if◌then◌else◌
+unfolding pressed only_elapsed with_elapsed elapsed≔ idle if◌then◌otherwise◌
 pressed_kept p d = go (eqb p 0) refl
   where
     go : (b : Bool) → eqb p 0 ≡ b → pressed p d ≡ with_elapsed d (pressed p (only_elapsed d))
@@ -181,8 +181,8 @@ pressed_kept p d = go (eqb p 0) refl
 
 -- the same for code
 pub clock_stored : (d : Delay) (c r : Clock) → c.elapsed ≡ d.elapsed → (dt interval : ℕ) (enabled : Bool) → clock_moved r ≡ advance_elapsed dt interval enabled (clock c)
-    → moved (elapsed≔ d r.elapsed (if enabled then false else d.running)) [] (bit r.fired) ≡ advance_elapsed dt interval enabled d
-unfolding advance_elapsed clock_moved clock moved_elapsed with_elapsed elapsed≔ idle moved if◌then◌else◌
+    → moved (elapsed≔ d r.elapsed (if enabled then false otherwise d.running)) [] (bit r.fired) ≡ advance_elapsed dt interval enabled d
+unfolding advance_elapsed clock_moved clock moved_elapsed with_elapsed elapsed≔ idle moved if◌then◌otherwise◌
 clock_stored d c r e dt interval true h = ap (moved_elapsed d) h ∙ sym (enabled_kept dt interval d (clock c) e)
 clock_stored d c r e dt interval false h =
     ap (λ (m : Moved). moved (elapsed≔ d m.state.elapsed d.running) [] m.fires) h ∙ ap (λ (t : ℕ). moved (elapsed≔ d t d.running) [] 0) e
@@ -193,7 +193,7 @@ module _ (d : Delay) (s r : Stopwatch) (e : s.time ≡ d.elapsed) (f : s.running
   stopwatch_only = λ j. elapsed≔ idle (e j) (f j)
 
   pub stopwatch_stored : (dt limit : ℕ) → stopwatch_moved r ≡ advance_time dt limit (stopwatch s)
-      → moved (elapsed≔ d r.time r.running) (if r.shows then Float r.time ∷ [] else []) (bit r.expired) ≡ advance_time dt limit d
+      → moved (elapsed≔ d r.time r.running) (if r.shows then Float r.time ∷ [] otherwise []) (bit r.expired) ≡ advance_time dt limit d
   unfolding moved_elapsed with_elapsed stopwatch_moved stopwatch elapsed≔ moved
   stopwatch_stored dt limit h = ap (moved_elapsed d) (h ∙ ap (advance_time dt limit) stopwatch_only) ∙ sym (stopwatch_kept dt limit d)
 

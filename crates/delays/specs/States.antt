@@ -3,7 +3,7 @@ use Rattle.std.specs.Prelude.{ℕ, zero, suc, min, ◌+◌, ◌*◌, ◌/◌, �
 use Rattle.std.proofs.Math.Option.{Option, none, some}
 use Rattle.model.specs.declared.Value.{Value}
 use Rattle.model.specs.declared.Value.TheVariants.{Float}
-use Rattle.model.specs.Base.{if◌then◌else◌, snoc}
+use Rattle.model.specs.Base.{if◌then◌otherwise◌, snoc}
 use Rattle.model.specs.Value.{truthy, bit}
 use Rattle.model.specs.State.{Countdown, ticks_left, seconds, Flight as Flying, Delay, idle, flight≔, fires≔, elapsed≔}
 use Rattle.model.specs.Delays.{Started, countdown_ticks, countdown_seconds, launch, Moved, moved}
@@ -48,7 +48,7 @@ of_word false w = ticks_left w
 
 -- the countdown that a buffer starts, in seconds or in ticks, by its settings wait and zero wait
 unfoldable pub countdown_by : Bool → Bool → Value → Value → Started
-countdown_by by_seconds rising wait zero_wait = if by_seconds then countdown_seconds rising wait zero_wait else countdown_ticks rising wait zero_wait
+countdown_by by_seconds rising wait zero_wait = if by_seconds then countdown_seconds rising wait zero_wait otherwise countdown_ticks rising wait zero_wait
 
 -- ---- a value buffer
 
@@ -104,7 +104,7 @@ fires_moved f = moved (fires f) [] f.fired
 
 -- one fire more, if there is room
 unfoldable pub add_fire : Delay → Countdown → Delay
-add_fire d k = if ltb (length d.fires) most_fires then fires≔ d (snoc d.fires k) else d
+add_fire d k = if ltb (length d.fires) most_fires then fires≔ d (snoc d.fires k) otherwise d
 
 -- ---- a Clock
 
@@ -124,7 +124,7 @@ stopwatch s = elapsed≔ idle s.time s.running
 
 -- what a Stopwatch moved on to, with the time that it shows and whether it expired
 unfoldable pub stopwatch_moved : Stopwatch → Moved
-stopwatch_moved s = moved (stopwatch s) (if s.shows then Float s.time ∷ [] else []) (bit s.expired)
+stopwatch_moved s = moved (stopwatch s) (if s.shows then Float s.time ∷ [] otherwise []) (bit s.expired)
 
 -- What a proof by computation opens.
 unfoldable pub states_opened : ℕ

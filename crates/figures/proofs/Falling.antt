@@ -9,15 +9,15 @@ use native.Mathlib.Omega.{arith}
 use lib.Dec.{ltb}
 use lib.ListN.{length, get_or, get_or-eq_default}
 use borrow.Author.Tests.{ltb-true, ltb-false, lt-ltb, le-ltb}
-use Rattle.model.specs.Base.{if◌then◌else◌, keep, all, among, from}
+use Rattle.model.specs.Base.{if◌then◌otherwise◌, keep, all, among, from}
 use Rattle.model.proofs.Lists.{clash, among_all, among_either, among_from, keep_most, from_length}
 use Rattle.figures.specs.Figures.{placed}
 use Rattle.figures.proofs.Rounds.{is_placed, placed_length, placed_at}
 
 -- one more before two lists, of which one is longer
 before_both :
-    (a b : Bool) (d x : ℕ) (ks ls : List ℕ) → (a ≡ true → b ≡ true) → d + length ks ≤ length ls → d + length (if a then x ∷ ks else ks) ≤ length (if b then x ∷ ls else ls)
-unfolding if◌then◌else◌
+    (a b : Bool) (d x : ℕ) (ks ls : List ℕ) → (a ≡ true → b ≡ true) → d + length ks ≤ length ls → d + length (if a then x ∷ ks otherwise ks) ≤ length (if b then x ∷ ls otherwise ls)
+unfolding if◌then◌otherwise◌
 before_both true true d x ks ls h l = omega (arith, l)
 before_both true false d x ks ls h l = clash (h refl) refl
 before_both false true d x ks ls h l = omega (arith, l)
@@ -31,7 +31,7 @@ module _ (p q : ℕ → Bool) (too : (x : ℕ) → p x ≡ true → q x ≡ true
   no_fewer (x ∷ xs) = omega (arith, before_both (p x) (q x) 0 x (keep p xs) (keep q xs) (too x) (omega (arith, no_fewer xs)))
 
   fewer : (xs : List ℕ) (x : ℕ) → among x xs ≡ true → p x ≡ false → q x ≡ true → length (keep p xs) < length (keep q xs)
-  unfolding keep if◌then◌else◌ among
+  unfolding keep if◌then◌otherwise◌ among
   fewer [] x a e h = clash a refl
   fewer (y ∷ xs) x a e h = go (among_either x y xs a) (λ b. fewer xs x b e h)
     where

@@ -7,7 +7,7 @@ use native.Mathlib.Omega.{arith}
 use lib.Dec.{eqb}
 use lib.ListN.{length, length-append, length-map}
 use Rattle.schedule.specs.Promise.{All}
-use Rattle.model.specs.Base.{if◌then◌else◌, joined}
+use Rattle.model.specs.Base.{if◌then◌otherwise◌, joined}
 use Rattle.model.specs.Circuit.{Circuit}
 use Rattle.model.specs.Script.{most_ticks}
 use Rattle.model.specs.Record.{LogRecord, record_words}
@@ -28,7 +28,7 @@ module _ (c : Circuit) where
   few_words t last r g =
       omega (arith, record_length r, g.begun, length-append r.late r.main, g.carried, g.shows, shown (length c.outputs) (eqb r.stop 0))
     where
-      shown : (n : ℕ) (b : _) → (if b then n else 0) ≤ n
+      shown : (n : ℕ) (b : _) → (if b then n otherwise 0) ≤ n
       shown n b = if_both (λ (k : ℕ). k ≤ n) b (omega arith) (omega arith)
 
   all_words : (t : ℕ) (rs : List LogRecord) → GoodLog c t rs → length (log_words rs) ≤ length rs * most_record_words c

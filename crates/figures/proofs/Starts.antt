@@ -9,7 +9,7 @@ use native.Mathlib.Omega.{arith}
 use lib.Dec.{leb, ltb, eqb}
 use lib.ListN.{length, get_or}
 use borrow.Author.Tests.{eqb-true, ltb-true, ltb-false, le-leb, lt-leb, lt-ltb, le-ltb}
-use Rattle.model.specs.Base.{if◌then◌else◌, all, among, from}
+use Rattle.model.specs.Base.{if◌then◌otherwise◌, all, among, from}
 use Rattle.model.specs.Kinds.{In, value, Watch, never, if_driven, always, fires, shows, kind_at, receiving, kinds_opened}
 use Rattle.model.specs.Circuit.{Circuit, kind_of_gate, input, output, has_source, source}
 use Rattle.model.specs.Unit.{fired}
@@ -23,7 +23,7 @@ use Rattle.figures.specs.Figures.{is-E, is_exec}
 
 -- the output that a Fire fires
 abbrev fire_output : ℕ → ℕ
-fire_output k = if eqb k 15 then 1 else 0
+fire_output k = if eqb k 15 then 1 otherwise 0
 
 -- output p of a kind is exec
 abbrev exec_of : ℕ → ℕ → Bool
@@ -42,8 +42,8 @@ if_so true b h e = h
 if_so false b h e = clash e refl
 
 -- by a choice that came out true
-chosen : (b : Bool) {x y : Bool} {A : Type 0} → (b ≡ true → x ≡ true → A) → (b ≡ false → y ≡ true → A) → (if b then x else y) ≡ true → A
-unfolding if◌then◌else◌
+chosen : (b : Bool) {x y : Bool} {A : Type 0} → (b ≡ true → x ≡ true → A) → (b ≡ false → y ≡ true → A) → (if b then x otherwise y) ≡ true → A
+unfolding if◌then◌otherwise◌
 chosen true f g h = f refl h
 chosen false f g h = g refl h
 
@@ -56,7 +56,7 @@ either false false d (inr h) = h
 -- what a unit fires is exec, and an input that a value drives is an E
 module _ (k : ℕ) (l : k < 32) where
   of_fire : (firing k || (receiving k || eqb k 28)) ≡ true → exec_of k (fire_output k) ≡ true
-  unfolding kinds_opened all from is_exec firing within if◌then◌else◌
+  unfolding kinds_opened all from is_exec firing within if◌then◌otherwise◌
   of_fire = if_so (firing k || (receiving k || eqb k 28)) _ (by_kind (λ k. not (firing k || (receiving k || eqb k 28)) || exec_of k (fire_output k)) refl k l)
 
   of_pin : (p : ℕ) → calm_or-E (get_or (kind_at k).ins p value) ≡ true
@@ -128,11 +128,11 @@ module _ (c : Circuit) (lay : Laid c) (known : (g : ℕ) → kind_of_gate c g < 
 
   -- a Fire, an Event or a World
   fires_low : (g form : ℕ) → form < 16 → (firing (kind_of_gate c g) || (receiving (kind_of_gate c g) || eqb (kind_of_gate c g) 28)) ≡ true → Start c g form
-  unfolding fired if◌then◌else◌
+  unfolding fired if◌then◌otherwise◌
   fires_low g form l h =
       inr (rw (lt-leb 16 form l), rw (lt-leb 32 form (omega (arith, l))) (go (eqb (kind_of_gate c g) 15) (exec_at g (fire_output (kind_of_gate c g)) (of_fire (kind_of_gate c g) (known g) h))))
     where
-      go : (b : Bool) → Exec c (output c g (if b then 1 else 0)) → Exec c (if b then output c g 1 else output c g 0)
+      go : (b : Bool) → Exec c (output c g (if b then 1 otherwise 0)) → Exec c (if b then output c g 1 otherwise output c g 0)
       go true e = e
       go false e = e
 
@@ -140,7 +140,7 @@ module _ (c : Circuit) (lay : Laid c) (known : (g : ℕ) → kind_of_gate c g < 
   enters_pin g form l m h = inl (rw (le-leb 16 form l, lt-ltb form 32 m), EAt g (form - 16) h)
 
   fires_edge : (g form : ℕ) → 32 ≤ form → form < 34 → eqb (kind_of_gate c g) 9 ≡ true → Start c g form
-  unfolding fired if◌then◌else◌
+  unfolding fired if◌then◌otherwise◌
   fires_edge g form l m h =
       let e : exec_of (kind_of_gate c g) (form - 32) ≡ true = rw (eqb-true (kind_of_gate c g) 9 h) (of_edge (form - 32) (omega arith)) in
       inr (rw (le-leb 16 form (omega (arith, l)), le-ltb form 32 l), rw (le-leb 32 form l) (exec_at g (form - 32) e))

@@ -10,7 +10,7 @@ use lib.ListN.{length, get_or-eq_default}
 use borrow.Author.Tests.{ltb-true, ltb-false}
 use Rattle.words.specs.Words.{words}
 use Rattle.schedule.specs.Promise.{All}
-use Rattle.model.specs.Base.{if◌then◌else◌, all, from}
+use Rattle.model.specs.Base.{if◌then◌otherwise◌, all, from}
 use Rattle.model.specs.Kinds.{kind_at}
 use Rattle.model.specs.Circuit.{Circuit, circuit, word_at, kind_of_gate, input, inputs_of, gate_at_input}
 use Rattle.model.specs.Script.{most_ticks}
@@ -58,10 +58,10 @@ kinds_known ws c q g =
 
 -- a circuit that is not refused with 23
 not_refused : (bytes : List ℕ) (T : ℕ) → size_refusal bytes T ≡ 0 → let c = circuit (words bytes) in (no_ring c ≡ true) × (no_loop c ≡ true)
-unfolding size_refusal or_else if◌then◌else◌
-not_refused bytes T h = let c = circuit (words bytes) in both_true (no_ring c) (no_loop c) (go (circuit_refusal none bytes) (no_ring c && no_loop c) (if not (within 0 most_ticks T) then wrong_ticks else 0) h)
+unfolding size_refusal or_else if◌then◌otherwise◌
+not_refused bytes T h = let c = circuit (words bytes) in both_true (no_ring c) (no_loop c) (go (circuit_refusal none bytes) (no_ring c && no_loop c) (if not (within 0 most_ticks T) then wrong_ticks otherwise 0) h)
   where
-    go : (n : ℕ) (b : Bool) (later : ℕ) → or_else n (if not b then ring_or_loop else later) ≡ 0 → b ≡ true
+    go : (n : ℕ) (b : Bool) (later : ℕ) → or_else n (if not b then ring_or_loop otherwise later) ≡ 0 → b ≡ true
     go zero true later h = refl
     go zero false later h = absurd (omega (arith, h))
     go (suc n) b later h = absurd (omega (arith, h))

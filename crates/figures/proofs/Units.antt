@@ -10,7 +10,7 @@ use native.Mathlib.Omega.{arith}
 use lib.Dec.{eqb}
 use lib.ListN.{length, get_or}
 use borrow.Author.Tests.{not-true}
-use Rattle.model.specs.Base.{if◌then◌else◌, all, joined, keep, from, sum, among}
+use Rattle.model.specs.Base.{if◌then◌otherwise◌, all, joined, keep, from, sum, among}
 use Rattle.model.specs.Kinds.{value, shows, kind_at}
 use Rattle.model.specs.Circuit.{Circuit, Call, kind_of_gate, input, output, gate_at_input, calls_of}
 use Rattle.model.specs.State.{Act}
@@ -122,7 +122,7 @@ module _ (c : Circuit) (Z : Weighable c) where
       omega (arith, at_most_greatest (steps_of_output c) (exec_outputs c) o (kept t (length c.outputs) o (inside is_exec c.outputs o shows defaults.0 h) h))
 
   begin_weighs : (a : Act) → Start c a.gate a.form → weigh (steps_of_input c) (begin c a) ≤ most_of_starts c
-  unfolding begin weigh sum if◌then◌else◌
+  unfolding begin weigh sum if◌then◌otherwise◌
   begin_weighs a (inl s) = rw s.0 (omega (arith, EWeighs _ s.1))
   begin_weighs a (inr s) = rw s.0 (omega (arith, exec_weighs _ s.1, push_weighs (steps_of_input c) c (fired c a.gate a.form) no_calls, output_weighs c (fired c a.gate a.form)))
 

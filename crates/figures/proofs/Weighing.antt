@@ -8,7 +8,7 @@ use native.Mathlib.Omega.{arith}
 use lib.Dec.{eqb}
 use lib.ListN.{length}
 use borrow.Author.Tests.{le-leb}
-use Rattle.model.specs.Base.{if◌then◌else◌, keep, sum}
+use Rattle.model.specs.Base.{if◌then◌otherwise◌, keep, sum}
 use Rattle.model.specs.Circuit.{Circuit, Call, calls_of, kind_of_gate, gate_at_input}
 use Rattle.model.specs.State.{State}
 use Rattle.model.specs.Exec.{exec_gate}
@@ -19,7 +19,7 @@ use Rattle.model.proofs.Running.{next_running}
 
 -- the step that was not made
 abbrev pub not_made : ℕ → ℕ
-not_made stop = if eqb stop runaway then 1 else 0
+not_made stop = if eqb stop runaway then 1 otherwise 0
 
 pub at_most_one : (stop : ℕ) → not_made stop ≤ 1
 at_most_one stop = if_both (λ (n : ℕ). n ≤ 1) (eqb stop runaway) (omega arith) (omega arith)
@@ -43,7 +43,7 @@ module _ (w : ℕ → ℕ) where
   calls_weigh ks = weights (map (λ k. k.to) ks)
 
   split : (ks : List Call) → calls_weigh (keep (λ k. not k.remote) ks) + calls_weigh (keep (λ k. k.remote) ks) ≡ calls_weigh ks
-  unfolding sum keep if◌then◌else◌
+  unfolding sum keep if◌then◌otherwise◌
   split [] = refl
   split (k ∷ ks) = go k.remote (split ks)
     where
@@ -54,7 +54,7 @@ module _ (w : ℕ → ℕ) where
       forks = keep (λ k. k.remote) ks
 
       go : (b : Bool) → calls_weigh rest + calls_weigh forks ≡ calls_weigh ks →
-          calls_weigh (if not b then k ∷ rest else rest) + calls_weigh (if b then k ∷ forks else forks) ≡ w k.to + calls_weigh ks
+          calls_weigh (if not b then k ∷ rest otherwise rest) + calls_weigh (if b then k ∷ forks otherwise forks) ≡ w k.to + calls_weigh ks
       go true e = omega (arith, e)
       go false e = omega (arith, e)
 
@@ -72,7 +72,7 @@ module _ (w : ℕ → ℕ) where
   taken (some t) = w t.input + weigh t.rest
 
   pop_first : (i : ℕ) (st fs : List ℕ) → taken (pop false 0 (i ∷ st) fs) ≡ w i + (weights st + weights fs)
-  unfolding weigh taken pop if◌then◌else◌
+  unfolding weigh taken pop if◌then◌otherwise◌
   pop_first i st fs = rw (le-leb 0 (length st) (omega arith), pop)
 
   taken_is : (st fs : List ℕ) → weights st + weights fs ≡ taken (pop false 0 st fs)
@@ -108,7 +108,7 @@ module _ (w : ℕ → ℕ) where
         go (some o) e = omega (arith, out.more s i o e, push_weighs c o q)
 
     called : (i : ℕ) (s : State) (left : ℕ) (t : Calls) → start + (w i + weigh t) ≤ suc left + total → SoFar (make_call c false i (chained s left 0 t))
-    unfolding make_call chained if◌then◌else◌
+    unfolding make_call chained if◌then◌otherwise◌
     called i s left t h = if_both (λ (n : ℕ). start + weigh q + not_made n ≤ left + total) (fit q && not (exec_gate c false s i).full) k k
       where
         q : Calls
@@ -124,7 +124,7 @@ module _ (w : ℕ → ℕ) where
           if_by SoFar (eqb (kind_of_gate c (gate_at_input c i)) 29) (λ e. clash e (out.no_loop (gate_at_input c i))) (λ _. called i s left t h)
 
       made_step : (t : Popped) (r : Chained) → r.stop ≡ 0 → pop false 0 r.calls.stack r.calls.forks ≡ some t → SoFar r → SoFar (make_step (operate c body false) t r)
-      unfolding make_step chained if◌then◌else◌
+      unfolding make_step chained if◌then◌otherwise◌
       made_step t r e p h = go r.left (omega (arith, h, pop_weighs r.calls t p))
         where
           go : (n : ℕ) → start + (w t.input + weigh t.rest) ≤ n + total →
@@ -145,5 +145,5 @@ module _ (w : ℕ → ℕ) where
           go (some t) e rec = let p = e t refl in rec _ (made_step t r p.0 p.1 h)
 
   pub chain_spent : (c : Circuit) → Outweighs c → (left : ℕ) (q : Calls) (s : State) → Spent left (weigh q) (run_chain c left q s)
-  unfolding run_chain run_nested chained if◌then◌else◌
+  unfolding run_chain run_nested chained if◌then◌otherwise◌
   chain_spent c out left q s = calls_spent c out left (weigh q) (run_body c _) (suc left) (chained s left 0 q) (omega arith)

@@ -3,7 +3,7 @@ use Rattle.std.specs.Prelude.{ℕ, zero, suc, ◌+◌, ◌*◌, min, max, Bool, 
 use Rattle.std.proofs.Math.Option.{none}
 use Rattle.words.specs.Words.{words}
 use Rattle.schedule.specs.Schedule.{most_units, most_waiting}
-use Rattle.model.specs.Base.{if◌then◌else◌, all, joined, sum, from, keep}
+use Rattle.model.specs.Base.{if◌then◌otherwise◌, all, joined, sum, from, keep}
 use Rattle.model.specs.Kinds.{In, value, Out, fires, shows, passes, kind_at, Loop}
 use Rattle.model.specs.Circuit.{Circuit, circuit, kind_of_gate, output, gate_at_input, calls_of, gates}
 use Rattle.model.specs.Script.{most_ticks}
@@ -129,7 +129,7 @@ wrong_ticks = 24
 unfoldable pub size_refusal : List ℕ → ℕ → ℕ
 size_refusal bytes T =
     let c = circuit (words bytes) in
-    or_else (circuit_refusal none bytes) (if not (no_ring c && no_loop c) then ring_or_loop else if not (within 0 most_ticks T) then wrong_ticks else 0)
+    or_else (circuit_refusal none bytes) (if not (no_ring c && no_loop c) then ring_or_loop otherwise if not (within 0 most_ticks T) then wrong_ticks otherwise 0)
 
 -- refused with a number, or the two figures: steps and bytes
 pub data Size : Type 0 where

@@ -4,7 +4,7 @@ use Rattle.std.proofs.Math.Option.{some}
 use Rattle.words.specs.Words.{words}
 use Rattle.schedule.specs.Schedule.{plain, Turn, Tick}
 use Rattle.schedule.specs.Promise.{All}
-use Rattle.model.specs.Base.{if◌then◌else◌}
+use Rattle.model.specs.Base.{if◌then◌otherwise◌}
 use Rattle.model.specs.Circuit.{Circuit, circuit, word_at}
 use Rattle.model.specs.Chain.{Chained, runaway}
 use Rattle.model.specs.Unit.{World, run_unit}
@@ -16,7 +16,7 @@ use Rattle.figures.specs.Figures.{figures, size}
 
 -- the steps that a unit caused which began in the world w and came to r: those that it made, and the one that 11 did not let it make
 unfoldable pub caused : World → Chained → ℕ
-caused w r = w.left - r.left + (if eqb r.stop runaway then 1 else 0)
+caused w r = w.left - r.left + (if eqb r.stop runaway then 1 otherwise 0)
 
 -- no unit of a tick causes more than so many
 module _ (c : Circuit) (most : ℕ) where

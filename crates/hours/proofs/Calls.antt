@@ -12,7 +12,7 @@ use lib.Seq.{length-take-le, take-length}
 use Rattle.words.specs.Words.{words, bytes, Filled}
 use Rattle.words.proofs.Laws.{Below, length_bytes}
 use Rattle.words.proofs.Filling.{filled_bytes}
-use Rattle.model.specs.Base.{if◌then◌else◌, each, joined, among}
+use Rattle.model.specs.Base.{if◌then◌otherwise◌, each, joined, among}
 use Rattle.model.specs.Circuit.{Circuit, circuit}
 use Rattle.model.specs.Script.{most_ticks}
 use Rattle.model.specs.Record.{LogRecord}
@@ -84,7 +84,7 @@ rows_length len cs i [] = refl
 rows_length len cs i (d ∷ ds) = let r = rows_length len cs (suc i) ds in omega (arith, r)
 
 not_written : (len : ℕ) (ss : List Share) (old : List ℕ) → has_room len (length old) ss ≡ false → Written (reported len (length old) ss) old old 0
-unfolding reported if◌then◌else◌ reply_size buffer_after
+unfolding reported if◌then◌otherwise◌ reply_size buffer_after
 not_written len ss old e = rw e (record { size = refl; buffer = refl })
 
 module _ (len : ℕ) (ss : List Share) (good : Each GoodShare ss) (ds cs ds₁ cs₁ : List ℕ) (n : ℕ) (q : CountsAll ss ds cs ds₁ cs₁ n) (ecs : cs ≡ replicate most_counts 0) (long : length ds₁ ≡ most_drivers) (old : List ℕ) where
@@ -131,7 +131,7 @@ module _ (len : ℕ) (ss : List Share) (good : Each GoodShare ss) (ds cs ds₁ c
   pub all_written :
       n ≤ most_drivers → 8 * (driver_size * n + line_size) ≤ length old → (new : List ℕ) → Below 256 old → Below 256 new → Filled old new 0 (rows_from len cs₁ 0 (take n ds₁)) →
       Written (reported len (length old) ss) old new (8 * (driver_size * n + line_size))
-  unfolding has_room reported if◌then◌else◌ reply_size buffer_after
+  unfolding has_room reported if◌then◌otherwise◌ reply_size buffer_after
   all_written l h new b₁ b₂ f =
       let z = sizes l in
       let z₀ = z.0 in
@@ -153,9 +153,9 @@ numbered : (cb log : List ℕ) (driver activity len room : ℕ) → among (reply
 unfolding hours log_refusal circuit_refusal reported among or_refused or_else reply_number
 numbered cb log driver activity len room =
     let c = circuit (words cb) in
-    let later : Reply = or_refused (if good_names c driver activity len then 0 else wrong_names) (reported len room (shares driver activity (records c log))) in
+    let later : Reply = or_refused (if good_names c driver activity len then 0 otherwise wrong_names) (reported len room (shares driver activity (records c log))) in
     let P : Reply → Type 0 = λ a. among (reply_number a) numbers ≡ true in
-    let Q : ℕ → Type 0 = λ n. P (or_refused (or_else n (if whole c log then 0 else not_whole)) later) in
+    let Q : ℕ → Type 0 = λ n. P (or_refused (or_else n (if whole c log then 0 otherwise not_whole)) later) in
     let last : P (reported len room (shares driver activity (records c log))) = if_both P _ refl refl in
     let names : P later = if_both (λ n. P (or_refused n (reported len room (shares driver activity (records c log))))) _ last refl in
     if_both Q _ refl (if_both Q _ refl (if_both Q _ refl (if_both Q _ refl (if_both Q _ refl (if_both Q _ refl (if_both Q _ refl (if_both Q _ refl (if_both (λ n. P (or_refused n later)) _ names refl))))))))
@@ -218,7 +218,7 @@ module _ (k : Call) where
 
     -- by 17
     pub refused_names : {b : Bool} → b ≡ good_names (net made) k.driver k.activity k.len → not b ≡ true → Right k (record { report = k.report; told = k.told }) wrong_names
-    unfolding hours or_refused if◌then◌else◌
+    unfolding hours or_refused if◌then◌otherwise◌
     refused_names {b = b} e h =
         let z : good_names c k.driver k.activity k.len ≡ false = ap (λ (c : Circuit). good_names c k.driver k.activity k.len) (sym shows) ∙ sym e ∙ not-true b h in
         right_refused wrong_names (rw (first, z))
@@ -237,7 +237,7 @@ module _ (k : Call) where
 
       -- the questions are answered yes, so the answer is the report, or 18
       asked : hours_answer k ≡ reported k.len (length k.report) ss
-      unfolding hours or_refused if◌then◌else◌
+      unfolding hours or_refused if◌then◌otherwise◌
       asked = rw (first, named)
 
       same_records : shares k.driver k.activity (records_in outs most_ticks (words k.log)) ≡ ss
@@ -250,11 +250,11 @@ module _ (k : Call) where
 
         -- the report is written
         fits : has_room k.len (length k.report) ss ≡ true → hours_answer k ≡ writes (bytes (report_words (report k.len ss)))
-        unfolding reported if◌then◌else◌
+        unfolding reported if◌then◌otherwise◌
         fits q = asked ∙ rw q refl
 
         fits_not : has_room k.len (length k.report) ss ≡ false → hours_answer k ≡ refused no_room
-        unfolding reported if◌then◌else◌
+        unfolding reported if◌then◌otherwise◌
         fits_not q = asked ∙ rw q refl
 
         -- by 18

@@ -7,7 +7,7 @@ use native.Mathlib.Omega.{arith}
 use lib.Dec.{eqb}
 use lib.ListN.{length}
 use borrow.Author.Tests.{eqb-true, eqb-false, eq-eqb, ne_eqb}
-use Rattle.model.specs.Base.{if◌then◌else◌, keep, snoc, among}
+use Rattle.model.specs.Base.{if◌then◌otherwise◌, keep, snoc, among}
 use Rattle.model.specs.Value.{bit}
 use Rattle.hours.specs.Hours.{Share, unassigned, assigned, last_activity, drivers_after, is_share, is_nobodys}
 use Rattle.hours.specs.Tally.{with_driver}
@@ -19,10 +19,10 @@ Each P (x ∷ xs) = P x × Each P xs
 
 -- as many as pass
 pub counted : {A : Type 0} (p : A → Bool) (x : A) (xs : List A) → length (keep p (x ∷ xs)) ≡ bit (p x) + length (keep p xs)
-unfolding keep if◌then◌else◌ bit
+unfolding keep if◌then◌otherwise◌ bit
 counted p x xs = go (p x)
   where
-    go : (b : Bool) → length (if b then x ∷ keep p xs else keep p xs) ≡ bit b + length (keep p xs)
+    go : (b : Bool) → length (if b then x ∷ keep p xs otherwise keep p xs) ≡ bit b + length (keep p xs)
     go true = omega arith
     go false = omega arith
 
@@ -140,30 +140,30 @@ absent_often d (x ∷ ds) h = go (λ k. absent_often d ds k) (eqb d x) refl h
     go rec false e k = rw (ne_eqb x d (λ z. eqb-false d x e (sym z))) (omega (arith, rec k))
 
 with_once : (ds : List ℕ) (d : ℕ) → ((e : ℕ) → often e ds ≤ 1) → ((e : ℕ) → often e (with_driver ds d) ≤ 1)
-unfolding with_driver if◌then◌else◌ bit
+unfolding with_driver if◌then◌otherwise◌ bit
 with_once ds d h e = go (among d ds) refl
   where
     both_ways : (b : Bool) → eqb d e ≡ b → often d ds ≡ 0 → often e ds + bit b ≤ 1
     both_ways true q z = let s : d ≡ e = eqb-true d e q in let w : often e ds ≡ 0 = ap (λ (x : ℕ). often x ds) (sym s) ∙ z in omega (arith, w)
     both_ways false q z = omega (arith, h e)
 
-    go : (b : Bool) → among d ds ≡ b → often e (if b then ds else snoc ds d) ≤ 1
+    go : (b : Bool) → among d ds ≡ b → often e (if b then ds otherwise snoc ds d) ≤ 1
     go true q = h e
     go false q = omega (arith, often_last e d ds, both_ways (eqb d e) refl (absent_often d ds q))
 
 with_grows : (ds : List ℕ) (d e : ℕ) → often e ds ≤ often e (with_driver ds d)
-unfolding with_driver if◌then◌else◌
+unfolding with_driver if◌then◌otherwise◌
 with_grows ds d e = go (among d ds)
   where
-    go : (b : Bool) → often e ds ≤ often e (if b then ds else snoc ds d)
+    go : (b : Bool) → often e ds ≤ often e (if b then ds otherwise snoc ds d)
     go true = omega arith
     go false = omega (arith, often_last e d ds)
 
 with_has : (ds : List ℕ) (d : ℕ) → 1 ≤ often d (with_driver ds d)
-unfolding with_driver if◌then◌else◌ bit
+unfolding with_driver if◌then◌otherwise◌ bit
 with_has ds d = go (among d ds) refl
   where
-    go : (b : Bool) → among d ds ≡ b → 1 ≤ often d (if b then ds else snoc ds d)
+    go : (b : Bool) → among d ds ≡ b → 1 ≤ often d (if b then ds otherwise snoc ds d)
     go true q = among_often d ds q
     go false q = let w : bit (eqb d d) ≡ 1 = rw (eq-eqb d d refl) in omega (arith, often_last d d ds, w)
 

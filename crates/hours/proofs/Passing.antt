@@ -11,7 +11,7 @@ use lib.Seq.{drop-cons, length-take-le, take-suc-set, set_out}
 use borrow.Author.Tests.{eqb-true, eqb-false, eq-eqb, ne_eqb, leb-true, leb-false}
 use Rattle.words.specs.Words.{words}
 use Rattle.model.specs.declared.Value.{Value}
-use Rattle.model.specs.Base.{if◌then◌else◌, each, keep, snoc, among}
+use Rattle.model.specs.Base.{if◌then◌otherwise◌, each, keep, snoc, among}
 use Rattle.model.specs.Value.{value_of}
 use Rattle.model.specs.Script.{most_ticks}
 use Rattle.model.specs.Record.{LogRecord, stop_in, shown_at, record_size, record_at}
@@ -41,14 +41,14 @@ module _ (ds : List ℕ) (n d i r : ℕ) (l : n ≤ length ds) (h : place_left d
       (λ j. take (a j) (drop-cons ds i 0 (omega (arith, k, l)) j)) ∙ ap (λ (x : ℕ). get_or ds i 0 ∷ take (n - (i + 1)) (drop x ds)) b
 
   pub place_here : i < n → get_or ds i 0 ≡ d → i ≡ r
-  unfolding place_left place if◌then◌else◌
+  unfolding place_left place if◌then◌otherwise◌
   place_here k e =
       let q : eqb d (get_or ds i 0) ≡ true = eq-eqb d (get_or ds i 0) (sym e) in
       let z : place d (take (n - i) (drop i ds)) ≡ 0 = ap (place d) (split k) ∙ rw q in
       omega (arith, z, h)
 
   pub place_next : i < n → (get_or ds i 0 ≡ d → ⊥) → place_left ds n d (i + 1) ≡ r
-  unfolding place_left place if◌then◌else◌
+  unfolding place_left place if◌then◌otherwise◌
   place_next k e =
       let q : eqb d (get_or ds i 0) ≡ false = ne_eqb d (get_or ds i 0) (λ z. e (sym z)) in
       let z : place d (take (n - i) (drop i ds)) ≡ suc (place d (take (n - (i + 1)) (drop (i + 1) ds))) = ap (place d) (split k) ∙ rw q in
@@ -114,18 +114,18 @@ module _ (ds cs : List ℕ) (n d a p : ℕ) (few_n : n ≤ most_drivers) (long :
   taken = length-take-le n ds (omega (arith, few_n, long))
 
   with_old : p < n → with_driver (take n ds) d ≡ take n ds
-  unfolding with_driver if◌then◌else◌
+  unfolding with_driver if◌then◌otherwise◌
   with_old l = go (among d (take n ds)) refl
     where
-      go : (b : Bool) → among d (take n ds) ≡ b → (if b then take n ds else snoc (take n ds) d) ≡ take n ds
+      go : (b : Bool) → among d (take n ds) ≡ b → (if b then take n ds otherwise snoc (take n ds) d) ≡ take n ds
       go true e = refl
       go false e = absurd (let z = place_out d (take n ds) e in let t = taken in omega (arith, z, t, ep, l))
 
   with_new : n ≤ p → with_driver (take n ds) d ≡ take n ds ++ (d ∷ [])
-  unfolding with_driver if◌then◌else◌ snoc
+  unfolding with_driver if◌then◌otherwise◌ snoc
   with_new l = go (among d (take n ds)) refl
     where
-      go : (b : Bool) → among d (take n ds) ≡ b → (if b then take n ds else take n ds ++ (d ∷ [])) ≡ take n ds ++ (d ∷ [])
+      go : (b : Bool) → among d (take n ds) ≡ b → (if b then take n ds otherwise take n ds ++ (d ∷ [])) ≡ take n ds ++ (d ∷ [])
       go true e = absurd (let z = place_in d (take n ds) e in let t = taken in omega (arith, z, t, ep, l))
       go false e = refl
 
@@ -184,12 +184,12 @@ no_activity d (suc zero) b n = absurd (n refl)
 no_activity d (suc (suc zero)) b n = refl
 no_activity d (suc (suc (suc k))) b n = refl
 
-both_ints : (d a : ℕ) → share (value_of 1 d) (value_of 1 a) ≡ (if leb a last_activity then assigned d a else unassigned)
+both_ints : (d a : ℕ) → share (value_of 1 d) (value_of 1 a) ≡ (if leb a last_activity then assigned d a otherwise unassigned)
 unfolding share active value_of
 both_ints d a = refl
 
-choice_assigned : (b : Bool) (d a : ℕ) → b ≡ is_assigned (if b then assigned d a else unassigned)
-unfolding is_assigned if◌then◌else◌
+choice_assigned : (b : Bool) (d a : ℕ) → b ≡ is_assigned (if b then assigned d a otherwise unassigned)
+unfolding is_assigned if◌then◌otherwise◌
 choice_assigned true d a = refl
 choice_assigned false d a = refl
 
@@ -214,12 +214,12 @@ module _ (s : List ℕ) (outs k driver activity x : ℕ) (ex : x ≡ get_or (wor
 
 -- an assigned tick is so by these contents
 share_cases : (x d y a : ℕ) → is_assigned (share (value_of x d) (value_of y a)) ≡ true → (share (value_of x d) (value_of y a) ≡ assigned d a) × (a ≤ last_activity)
-unfolding is_assigned share active value_of if◌then◌else◌
+unfolding is_assigned share active value_of if◌then◌otherwise◌
 share_cases zero d y a h = absurd (true≢false (sym h))
 share_cases (suc zero) d zero a h = absurd (true≢false (sym h))
 share_cases (suc zero) d (suc zero) a h = go (leb a last_activity) refl h
   where
-    go : (b : Bool) → leb a last_activity ≡ b → is_assigned (if b then assigned d a else unassigned) ≡ true → ((if b then assigned d a else unassigned) ≡ assigned d a) × (a ≤ last_activity)
+    go : (b : Bool) → leb a last_activity ≡ b → is_assigned (if b then assigned d a otherwise unassigned) ≡ true → ((if b then assigned d a otherwise unassigned) ≡ assigned d a) × (a ≤ last_activity)
     go true e k = (refl, leb-true a last_activity e)
     go false e k = absurd (true≢false (sym k))
 share_cases (suc zero) d (suc (suc zero)) a h = absurd (true≢false (sym h))
@@ -250,11 +250,11 @@ counts_as s s₁ ds cs n ds₁ cs₁ r e h = subst (λ (x : Share). Counts (x �
 -- ---- one record
 
 shares_one : (driver activity : ℕ) (r : LogRecord) → eqb r.stop 0 ≡ true → shares driver activity (r ∷ []) ≡ share (shown_in driver r) (shown_in activity r) ∷ []
-unfolding shares ticks_read keep if◌then◌else◌
+unfolding shares ticks_read keep if◌then◌otherwise◌
 shares_one driver activity r e = rw e
 
 shares_stopped : (driver activity : ℕ) (r : LogRecord) → eqb r.stop 0 ≡ false → shares driver activity (r ∷ []) ≡ []
-unfolding shares ticks_read keep if◌then◌else◌
+unfolding shares ticks_read keep if◌then◌otherwise◌
 shares_stopped driver activity r e = rw e
 
 stop_shown : (outs : ℕ) (s : List ℕ) (at : ℕ) (b x : Bool) → b ≡ eqb (stop_in (drop at (words s))) 0 → b ≡ x → eqb (record_at outs (drop at (words s))).stop 0 ≡ x
@@ -278,21 +278,21 @@ module _ (outs : ℕ) (s : List ℕ) (at : ℕ) (f : Fits outs s at) (b : Bool) 
 -- ---- all records
 
 shares_split : (driver activity : ℕ) (r : LogRecord) (rs : List LogRecord) → shares driver activity (r ∷ rs) ≡ shares driver activity (r ∷ []) ++ shares driver activity rs
-unfolding shares ticks_read keep if◌then◌else◌
+unfolding shares ticks_read keep if◌then◌otherwise◌
 shares_split driver activity r rs = go (eqb r.stop 0)
   where
     go :
         (b : Bool) →
-        map (λ r. share (shown_in driver r) (shown_in activity r)) (if b then r ∷ keep (λ r. eqb r.stop 0) rs else keep (λ r. eqb r.stop 0) rs)
-        ≡ map (λ r. share (shown_in driver r) (shown_in activity r)) (if b then r ∷ [] else []) ++ map (λ r. share (shown_in driver r) (shown_in activity r)) (keep (λ r. eqb r.stop 0) rs)
+        map (λ r. share (shown_in driver r) (shown_in activity r)) (if b then r ∷ keep (λ r. eqb r.stop 0) rs otherwise keep (λ r. eqb r.stop 0) rs)
+        ≡ map (λ r. share (shown_in driver r) (shown_in activity r)) (if b then r ∷ [] otherwise []) ++ map (λ r. share (shown_in driver r) (shown_in activity r)) (keep (λ r. eqb r.stop 0) rs)
     go true = refl
     go false = refl
 
 shares_few : (driver activity : ℕ) (r : LogRecord) → length (shares driver activity (r ∷ [])) ≤ 1
-unfolding shares ticks_read keep if◌then◌else◌
+unfolding shares ticks_read keep if◌then◌otherwise◌
 shares_few driver activity r = go (eqb r.stop 0)
   where
-    go : (b : Bool) → length (map (λ r. share (shown_in driver r) (shown_in activity r)) (if b then r ∷ [] else [])) ≤ 1
+    go : (b : Bool) → length (map (λ r. share (shown_in driver r) (shown_in activity r)) (if b then r ∷ [] otherwise [])) ≤ 1
     go true = omega arith
     go false = omega arith
 

@@ -9,7 +9,7 @@ use lib.Dec.{leb, eqb}
 use lib.ListN.{length, get_or, set, drop, length-drop, get_or-append, replicate, length-set, length-append}
 use lib.Seq.{get_or-set_same, get_or-set_other, drop-cons, get_or-append-add}
 use borrow.Author.Tests.{leb-true, leb-false, eqb-true, eqb-false, eq-eqb}
-use Rattle.model.specs.Base.{if◌then◌else◌, each, keep, joined, snoc, among}
+use Rattle.model.specs.Base.{if◌then◌otherwise◌, each, keep, joined, snoc, among}
 use Rattle.model.specs.Value.{bit}
 use Rattle.hours.specs.Hours.{Share, unassigned, assigned, last_activity, most_drivers, drivers_after, drivers, is_share, is_nobodys, line_words, line_of, last_line, lines_of, report, report_words}
 use Rattle.hours.specs.Tally.{most_counts, place, Tally, more, with_driver, tallied, line_row, driver_rows, rows_from}
@@ -18,57 +18,57 @@ use Rattle.hours.proofs.Counts.{Each, counted, GoodShare}
 -- ---- places
 
 pub place_most : (d : ℕ) (ds : List ℕ) → place d ds ≤ length ds
-unfolding place if◌then◌else◌
+unfolding place if◌then◌otherwise◌
 place_most d [] = omega arith
 place_most d (x ∷ xs) = go (place_most d xs) (eqb d x)
   where
-    go : place d xs ≤ length xs → (b : Bool) → (if b then 0 else suc (place d xs)) ≤ suc (length xs)
+    go : place d xs ≤ length xs → (b : Bool) → (if b then 0 otherwise suc (place d xs)) ≤ suc (length xs)
     go r true = omega arith
     go r false = omega (arith, r)
 
 -- among them, and otherwise behind all
 pub place_in : (d : ℕ) (ds : List ℕ) → among d ds ≡ true → place d ds < length ds
-unfolding place among if◌then◌else◌
+unfolding place among if◌then◌otherwise◌
 place_in d [] h = absurd (true≢false (sym h))
 place_in d (x ∷ xs) h = go (place_in d xs) (eqb d x) h
   where
-    go : (among d xs ≡ true → place d xs < length xs) → (b : Bool) → (b || among d xs) ≡ true → (if b then 0 else suc (place d xs)) < suc (length xs)
+    go : (among d xs ≡ true → place d xs < length xs) → (b : Bool) → (b || among d xs) ≡ true → (if b then 0 otherwise suc (place d xs)) < suc (length xs)
     go rec true k = omega arith
     go rec false k = let r = rec k in omega (arith, r)
 
 pub place_out : (d : ℕ) (ds : List ℕ) → among d ds ≡ false → place d ds ≡ length ds
-unfolding place among if◌then◌else◌
+unfolding place among if◌then◌otherwise◌
 place_out d [] h = refl
 place_out d (x ∷ xs) h = go (place_out d xs) (eqb d x) h
   where
-    go : (among d xs ≡ false → place d xs ≡ length xs) → (b : Bool) → (b || among d xs) ≡ false → (if b then 0 else suc (place d xs)) ≡ suc (length xs)
+    go : (among d xs ≡ false → place d xs ≡ length xs) → (b : Bool) → (b || among d xs) ≡ false → (if b then 0 otherwise suc (place d xs)) ≡ suc (length xs)
     go rec true k = absurd (true≢false k)
     go rec false k = ap suc (rec k)
 
 pub place_found : (d : ℕ) (ds : List ℕ) → place d ds < length ds → get_or ds (place d ds) 0 ≡ d
-unfolding place if◌then◌else◌
+unfolding place if◌then◌otherwise◌
 place_found d [] h = absurd (omega (arith, h))
 place_found d (x ∷ xs) h = go (place_found d xs) (eqb d x) refl h
   where
-    go : (place d xs < length xs → get_or xs (place d xs) 0 ≡ d) → (b : Bool) → eqb d x ≡ b → (if b then 0 else suc (place d xs)) < suc (length xs) → get_or (x ∷ xs) (if b then 0 else suc (place d xs)) 0 ≡ d
+    go : (place d xs < length xs → get_or xs (place d xs) 0 ≡ d) → (b : Bool) → eqb d x ≡ b → (if b then 0 otherwise suc (place d xs)) < suc (length xs) → get_or (x ∷ xs) (if b then 0 otherwise suc (place d xs)) 0 ≡ d
     go rec true e k = sym (eqb-true d x e)
     go rec false e k = rec (omega (arith, k))
 
 -- one more at the end: its place
 place_last : (d : ℕ) (ds : List ℕ) → place d (ds ++ (d ∷ [])) ≡ place d ds
-unfolding place if◌then◌else◌
+unfolding place if◌then◌otherwise◌
 place_last d [] = rw (eq-eqb d d refl)
-place_last d (x ∷ xs) = ap (λ (n : ℕ). if eqb d x then 0 else suc n) (place_last d xs)
+place_last d (x ∷ xs) = ap (λ (n : ℕ). if eqb d x then 0 otherwise suc n) (place_last d xs)
 
 -- and that of another, which is where it was, or behind all both times
 place_other : (e d : ℕ) (ds : List ℕ) → eqb e d ≡ false → (place e (ds ++ (d ∷ [])) ≡ place e ds) ⊎ ((length ds ≤ place e ds) × (length ds < place e (ds ++ (d ∷ []))))
-unfolding place if◌then◌else◌
+unfolding place if◌then◌otherwise◌
 place_other e d [] h = inr (omega arith, rw h (omega arith))
 place_other e d (x ∷ xs) h = go (place_other e d xs h) (eqb e x)
   where
     go :
         (place e (xs ++ (d ∷ [])) ≡ place e xs) ⊎ ((length xs ≤ place e xs) × (length xs < place e (xs ++ (d ∷ [])))) → (b : Bool) →
-        ((if b then 0 else suc (place e (xs ++ (d ∷ [])))) ≡ (if b then 0 else suc (place e xs))) ⊎ ((suc (length xs) ≤ (if b then 0 else suc (place e xs))) × (suc (length xs) < (if b then 0 else suc (place e (xs ++ (d ∷ []))))))
+        ((if b then 0 otherwise suc (place e (xs ++ (d ∷ [])))) ≡ (if b then 0 otherwise suc (place e xs))) ⊎ ((suc (length xs) ≤ (if b then 0 otherwise suc (place e xs))) × (suc (length xs) < (if b then 0 otherwise suc (place e (xs ++ (d ∷ []))))))
     go r true = inl refl
     go (inl q) false = inl (ap suc q)
     go (inr q) false = inr (omega (arith, q.0), omega (arith, q.1))
@@ -76,26 +76,26 @@ place_other e d (x ∷ xs) h = go (place_other e d xs h) (eqb e x)
 -- ---- with one more driver
 
 pub with_place : (d : ℕ) (ds : List ℕ) → (place d (with_driver ds d) ≡ place d ds) × (place d ds < length (with_driver ds d))
-unfolding with_driver if◌then◌else◌ snoc
+unfolding with_driver if◌then◌otherwise◌ snoc
 with_place d ds = go (among d ds) refl
   where
-    go : (b : Bool) → among d ds ≡ b → (place d (if b then ds else ds ++ (d ∷ [])) ≡ place d ds) × (place d ds < length (if b then ds else ds ++ (d ∷ [])))
+    go : (b : Bool) → among d ds ≡ b → (place d (if b then ds otherwise ds ++ (d ∷ [])) ≡ place d ds) × (place d ds < length (if b then ds otherwise ds ++ (d ∷ [])))
     go true q = (refl, place_in d ds q)
     go false q = (place_last d ds, omega (arith, place_most d ds, length-append ds (d ∷ [])))
 
 pub with_length : (d : ℕ) (ds : List ℕ) → (length ds ≤ length (with_driver ds d)) × (length (with_driver ds d) ≤ suc (length ds))
-unfolding with_driver if◌then◌else◌ snoc
+unfolding with_driver if◌then◌otherwise◌ snoc
 with_length d ds = go (among d ds)
   where
-    go : (b : Bool) → (length ds ≤ length (if b then ds else ds ++ (d ∷ []))) × (length (if b then ds else ds ++ (d ∷ [])) ≤ suc (length ds))
+    go : (b : Bool) → (length ds ≤ length (if b then ds otherwise ds ++ (d ∷ []))) × (length (if b then ds otherwise ds ++ (d ∷ [])) ≤ suc (length ds))
     go true = (omega arith, omega arith)
     go false = (omega (arith, length-append ds (d ∷ [])), omega (arith, length-append ds (d ∷ [])))
 
 with_other : (e d : ℕ) (ds : List ℕ) → eqb e d ≡ false → (place e (with_driver ds d) ≡ place e ds) ⊎ ((length ds ≤ place e ds) × (length ds ≤ place e (with_driver ds d)))
-unfolding with_driver if◌then◌else◌ snoc
+unfolding with_driver if◌then◌otherwise◌ snoc
 with_other e d ds h = go (among d ds)
   where
-    go : (b : Bool) → (place e (if b then ds else ds ++ (d ∷ [])) ≡ place e ds) ⊎ ((length ds ≤ place e ds) × (length ds ≤ place e (if b then ds else ds ++ (d ∷ []))))
+    go : (b : Bool) → (place e (if b then ds otherwise ds ++ (d ∷ [])) ≡ place e ds) ⊎ ((length ds ≤ place e ds) × (length ds ≤ place e (if b then ds otherwise ds ++ (d ∷ []))))
     go true = inl refl
     go false = next (place_other e d ds h)
       where
@@ -244,19 +244,19 @@ abbrev Own : List ℕ → Type 0
 Own ds = (i : ℕ) → i < length ds → place (get_or ds i 0) ds ≡ i
 
 place_before : (e d : ℕ) (ds : List ℕ) → place e ds < length ds → place e (ds ++ (d ∷ [])) ≡ place e ds
-unfolding place if◌then◌else◌
+unfolding place if◌then◌otherwise◌
 place_before e d [] h = absurd (omega (arith, h))
 place_before e d (x ∷ xs) h = go (place_before e d xs) (eqb e x) h
   where
-    go : (place e xs < length xs → place e (xs ++ (d ∷ [])) ≡ place e xs) → (b : Bool) → (if b then 0 else suc (place e xs)) < suc (length xs) → (if b then 0 else suc (place e (xs ++ (d ∷ [])))) ≡ (if b then 0 else suc (place e xs))
+    go : (place e xs < length xs → place e (xs ++ (d ∷ [])) ≡ place e xs) → (b : Bool) → (if b then 0 otherwise suc (place e xs)) < suc (length xs) → (if b then 0 otherwise suc (place e (xs ++ (d ∷ [])))) ≡ (if b then 0 otherwise suc (place e xs))
     go rec true k = refl
     go rec false k = ap suc (rec (omega (arith, k)))
 
 own_with : (d : ℕ) (ds : List ℕ) → Own ds → Own (with_driver ds d)
-unfolding with_driver if◌then◌else◌ snoc
+unfolding with_driver if◌then◌otherwise◌ snoc
 own_with d ds h = go (among d ds) refl
   where
-    go : (b : Bool) → among d ds ≡ b → Own (if b then ds else ds ++ (d ∷ []))
+    go : (b : Bool) → among d ds ≡ b → Own (if b then ds otherwise ds ++ (d ∷ []))
     go true q i l = h i l
     go false q i l = next (leb (suc i) (length ds)) refl
       where

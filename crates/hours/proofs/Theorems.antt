@@ -10,7 +10,7 @@ use lib.ListN.{length, length-map}
 use borrow.Author.Tests.{leb-true}
 use Rattle.model.specs.declared.Value.{Value}
 use Rattle.model.specs.declared.Value.TheVariants.{Nothing, Int, Float, Bool as Truth}
-use Rattle.model.specs.Base.{if◌then◌else◌, keep, sum}
+use Rattle.model.specs.Base.{if◌then◌otherwise◌, keep, sum}
 use Rattle.model.specs.Record.{LogRecord}
 use Rattle.records.specs.Records.{ticks_read, shown_in}
 use Rattle.hours.specs.Hours.{Share, unassigned, assigned, last_activity, active, share, shares, drivers_after, drivers, is_share, is_nobodys, minute, half_minute, minutes, line_of, last_line, lines_of, report}
@@ -37,12 +37,12 @@ lines_total len ss (d ∷ ds) h =
 
 -- an activity that counts is 0 to 3
 share_good : (d a : Value) → GoodShare (share d a)
-unfolding share active if◌then◌else◌
+unfolding share active if◌then◌otherwise◌
 share_good Nothing a = tt
 share_good (Int d) Nothing = tt
 share_good (Int d) (Int a) = go (leb a last_activity) refl
   where
-    go : (b : Bool) → leb a last_activity ≡ b → GoodShare (if b then assigned d a else unassigned)
+    go : (b : Bool) → leb a last_activity ≡ b → GoodShare (if b then assigned d a otherwise unassigned)
     go true e = leb-true a last_activity e
     go false e = tt
 share_good (Int d) (Float b) = tt

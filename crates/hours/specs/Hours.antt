@@ -3,7 +3,7 @@ use Rattle.std.specs.Prelude.{ℕ, ◌+◌, ◌*◌, ◌/◌, Bool, true, false,
 use Rattle.words.specs.Words.{words, bytes}
 use Rattle.model.specs.declared.Value.{Value}
 use Rattle.model.specs.declared.Value.TheVariants.{Nothing, Int, Float, Bool as Truth}
-use Rattle.model.specs.Base.{if◌then◌else◌, keep, joined, snoc, among}
+use Rattle.model.specs.Base.{if◌then◌otherwise◌, keep, joined, snoc, among}
 use Rattle.model.specs.Circuit.{Circuit, circuit}
 use Rattle.model.specs.Record.{LogRecord}
 use Rattle.model.specs.Questions.{within, value_output}
@@ -25,7 +25,7 @@ last_activity = 3
 -- the activity, beside a driver that is an Int; a negative Int is 2 ^ 63 or more
 unfoldable pub active : ℕ → Value → Share
 active d Nothing = unassigned
-active d (Int a) = if leb a last_activity then assigned d a else unassigned
+active d (Int a) = if leb a last_activity then assigned d a otherwise unassigned
 active d (Float b) = unassigned
 active d (Truth t) = unassigned
 
@@ -44,7 +44,7 @@ shares driver activity rs = map (λ r. share (shown_in driver r) (shown_in activ
 unfoldable pub drivers_after : List ℕ → List Share → List ℕ
 drivers_after ds [] = ds
 drivers_after ds (unassigned ∷ ss) = drivers_after ds ss
-drivers_after ds (assigned d a ∷ ss) = drivers_after (if among d ds then ds else snoc ds d) ss
+drivers_after ds (assigned d a ∷ ss) = drivers_after (if among d ds then ds otherwise snoc ds d) ss
 
 unfoldable pub drivers : List Share → List ℕ
 drivers ss = drivers_after [] ss
@@ -128,14 +128,14 @@ has_room len room ss = leb (length (drivers ss)) most_drivers && leb (8 * length
 
 -- the report of some ticks, where there is room
 unfoldable pub reported : ℕ → ℕ → List Share → Reply
-reported len room ss = if has_room len room ss then writes (bytes (report_words (report len ss))) else refused no_room
+reported len room ss = if has_room len room ss then writes (bytes (report_words (report len ss))) otherwise refused no_room
 
 -- What the call answers, with a report buffer of so many bytes: the circuit's own refusals and 16, then 17, then 18, or the report.
 unfoldable pub hours : List ℕ → List ℕ → ℕ → ℕ → ℕ → ℕ → Reply
 hours circuit_bytes log driver activity len room =
     let c = circuit (words circuit_bytes) in
     or_refused (log_refusal circuit_bytes log)
-    (or_refused (if good_names c driver activity len then 0 else wrong_names) (reported len room (shares driver activity (records c log))))
+    (or_refused (if good_names c driver activity len then 0 otherwise wrong_names) (reported len room (shares driver activity (records c log))))
 
 unfoldable pub hours_opened : ℕ
 unfolding active share shares drivers_after drivers is_share is_nobodys minutes line_words line_of last_line lines_of report report_words good_names has_room reported hours

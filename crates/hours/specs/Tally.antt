@@ -2,7 +2,7 @@
 use Rattle.words.specs.Words.{words}
 use Rattle.std.specs.Prelude.{ℕ, suc, ◌+◌, ◌*◌, ◌≤◌, ◌<◌, ◌≡◌, Bool, true, false, List, [], ◌∷◌, ◌++◌, eqb, length, get_or, set, take}
 use Rattle.words.specs.Slices.{Slice, before, after}
-use Rattle.model.specs.Base.{if◌then◌else◌, each, snoc, among}
+use Rattle.model.specs.Base.{if◌then◌otherwise◌, each, snoc, among}
 use Rattle.model.specs.Script.{most_ticks}
 use Rattle.links.specs.Links.{most_outputs}
 use Rattle.records.specs.Records.{records_in}
@@ -22,7 +22,7 @@ most_counts = 1 + 4 * most_drivers
 -- the place of a driver, or how many there are
 unfoldable pub place : ℕ → List ℕ → ℕ
 place d [] = 0
-place d (x ∷ xs) = if eqb d x then 0 else suc (place d xs)
+place d (x ∷ xs) = if eqb d x then 0 otherwise suc (place d xs)
 
 -- one more in place i
 unfoldable pub more : List ℕ → ℕ → List ℕ
@@ -30,7 +30,7 @@ more cs i = set cs i (get_or cs i 0 + 1)
 
 -- a driver more, if it is a new one
 unfoldable pub with_driver : List ℕ → ℕ → List ℕ
-with_driver ds d = if among d ds then ds else snoc ds d
+with_driver ds d = if among d ds then ds otherwise snoc ds d
 
 -- one more tick
 unfoldable pub tallied : Tally → Share → Tally

@@ -9,7 +9,7 @@ use lib.Dec.{leb, ltb}
 use lib.ListN.{length, get_or, drop, replicate, get_or-eq_default}
 use borrow.Author.Tests.{ne_eqb, leb-true, leb-false, ltb-true, ltb-false}
 use types.Run.{OneOf}
-use Rattle.model.specs.Base.{if◌then◌else◌, joined, among, from, base_opened}
+use Rattle.model.specs.Base.{if◌then◌otherwise◌, joined, among, from, base_opened}
 use Rattle.model.specs.Kinds.{Kind, value, fires, kind_at, table, kinds_opened}
 use Rattle.model.proofs.Lists.{map_from, all_same}
 use Rattle.model.proofs.Roomy.{nine_outputs}
@@ -32,7 +32,7 @@ Others (keys ∷ arms) k = Others arms k × (OneOf keys k → ⊥)
 
 -- the entry of kind k, or r where k is a key
 unfoldable pub beside : {A : Type 0} → List (List ℕ) → (Kind → A) → A → ℕ → A
-beside arms entry r k = if among k (joined arms) then r else entry (kind_at k)
+beside arms entry r k = if among k (joined arms) then r otherwise entry (kind_at k)
 
 no_key : (keys rest : List ℕ) (k : ℕ) → (OneOf keys k → ⊥) → among k rest ≡ false → among k (keys ++ rest) ≡ false
 unfolding among
@@ -49,7 +49,7 @@ no_keys (keys ∷ arms) k o = no_key keys (joined arms) k o.1 (no_keys arms k o.
 pub ranged :
     {A : Type 0} (entry : Kind → A) (r : A) (arms : List (List ℕ)) (a b k : ℕ) → Others arms k → a ≤ k → k < b →
     map (beside arms entry r) (from a (b - a)) ≡ replicate (b - a) r → r ≡ entry (kind_at k)
-unfolding beside if◌then◌else◌
+unfolding beside if◌then◌otherwise◌
 ranged {A} entry r arms a b k o l h e =
     let f : ℕ → A = beside arms entry r in
     let i : a + (k - a) ≡ k = omega arith in

@@ -9,7 +9,7 @@ use borrow.Author.Tests.{lt-ltb, le-ltb, eq-eqb, ne_eqb}
 use lib.Dec.{ltb}
 use lib.ListN.{length, get_or, set, length-map}
 use lib.Seq.{sets}
-use Rattle.model.specs.Base.{if◌then◌else◌}
+use Rattle.model.specs.Base.{if◌then◌otherwise◌}
 use Rattle.links.specs.Links.{packed}
 use Rattle.linking.specs.Building.{below, Chains, chains, chained, all_chained, chain, chain_at, size_at, target, row_of}
 use Rattle.linking.proofs.Loops.{below_mono}
@@ -102,11 +102,11 @@ size_most c o = chain_most c.next 640 (get_or c.heads o 0)
 -- ---- a member's target
 
 pub target_itself : (ws : List ℕ) (t i : ℕ) → t ≡ 0 → i ≡ target ws t i
-unfolding target if◌then◌else◌
+unfolding target if◌then◌otherwise◌
 target_itself ws t i e = rw (eq-eqb t 0 e)
 
 pub target_word : (ws : List ℕ) (t i v : ℕ) → (t ≡ 0 → ⊥) → v ≡ get_or ws (t + i) 0 → v ≡ target ws t i
-unfolding target if◌then◌else◌
+unfolding target if◌then◌otherwise◌
 target_word ws t i v h e = rw (ne_eqb t 0 h) e
 
 -- ---- rows

@@ -6,7 +6,7 @@ use mathlib.Core.List.{List, [], ◌∷◌, ◌++◌, map, map-map}
 use native.Mathlib.Omega.{arith}
 use lib.ListN.{length, get_or, replicate, length-append}
 use Rattle.schedule.proofs.Erase.{map_append}
-use Rattle.model.specs.Base.{if◌then◌else◌, keep, joined, both, from, starts, owners}
+use Rattle.model.specs.Base.{if◌then◌otherwise◌, keep, joined, both, from, starts, owners}
 use Rattle.model.specs.Circuit.{part}
 use Rattle.model.proofs.Lists.{from_same}
 use Rattle.model.proofs.Laid.{part_is}
@@ -98,13 +98,13 @@ map_joined {A} {B} f n p = map_joins f (listed n p) ∙ ap (λ (xs : List (List 
 -- ---- those that pass a test
 
 pub keep_map : {A B : Type 0} (p : B → Bool) (f : A → B) (xs : List A) → keep p (map f xs) ≡ map f (keep (λ x. p (f x)) xs)
-unfolding keep if◌then◌else◌
+unfolding keep if◌then◌otherwise◌
 keep_map p f [] = refl
 keep_map {A} {B} p f (x ∷ xs) = go (p (f x)) (keep_map p f xs)
   where
     go :
         (b : Bool) → keep p (map f xs) ≡ map f (keep (λ x. p (f x)) xs) →
-        (if b then f x ∷ keep p (map f xs) else keep p (map f xs)) ≡ map f (if b then x ∷ keep (λ x. p (f x)) xs else keep (λ x. p (f x)) xs)
+        (if b then f x ∷ keep p (map f xs) otherwise keep p (map f xs)) ≡ map f (if b then x ∷ keep (λ x. p (f x)) xs otherwise keep (λ x. p (f x)) xs)
     go true h = ap (λ (r : List B). f x ∷ r) h
     go false h = h
 
@@ -112,4 +112,4 @@ pub keep_from : (p q : ℕ → Bool) (a n : ℕ) → ((k : ℕ) → k < a + n �
 unfolding keep from
 keep_from p q a zero h = refl
 keep_from p q a (suc n) h =
-    λ j. if h a (omega arith) j then a ∷ keep_from p q (suc a) n (λ k l. h k (omega arith)) j else keep_from p q (suc a) n (λ k l. h k (omega arith)) j
+    λ j. if h a (omega arith) j then a ∷ keep_from p q (suc a) n (λ k l. h k (omega arith)) j otherwise keep_from p q (suc a) n (λ k l. h k (omega arith)) j

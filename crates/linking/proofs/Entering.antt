@@ -11,7 +11,7 @@ use lib.ListN.{length, get_or, set, replicate, length-set, length-replicate, get
 use lib.Seq.{get_or-set_same, get_or-set_other}
 use Rattle.model.specs.declared.Value.{Value}
 use Rattle.model.specs.declared.Value.TheVariants.{Nothing, Int, Float, Bool as Truth}
-use Rattle.model.specs.Base.{if◌then◌else◌, keep, from}
+use Rattle.model.specs.Base.{if◌then◌otherwise◌, keep, from}
 use Rattle.model.specs.Value.{same}
 use Rattle.model.proofs.Lists.{from_first, from_none}
 use Rattle.links.proofs.Net.{first_kept}
@@ -20,11 +20,11 @@ use Rattle.linking.specs.Building.{below, Gates, ins_at, members, value_named, g
 -- ---- what a gate names
 
 pub entry_names : (kind : ℕ) (v : Value) (r : ℕ) → kind ≡ 30 → r ≡ gate_of v → r ≡ gate_named kind v
-unfolding gate_named if◌then◌else◌
+unfolding gate_named if◌then◌otherwise◌
 entry_names kind v r h e = rw (eq-eqb kind 30 h) e
 
 pub none_named : (kind : ℕ) (v : Value) → (kind ≡ 30 → ⊥) → 64 ≡ gate_named kind v
-unfolding gate_named if◌then◌else◌
+unfolding gate_named if◌then◌otherwise◌
 none_named kind v h = rw (ne_eqb kind 30 h)
 
 -- an Int that is a gate's number
@@ -37,10 +37,10 @@ same_gate (Truth t) g l = sym (ne_eqb 64 g (λ e. omega arith))
 
 -- so a gate names another in the definition exactly where it does here; what is stored is looked at only in an entry
 pub names_gate : (kind g : ℕ) (v w : Value) → g < 64 → (kind ≡ 30 → v ≡ w) → (eqb kind 30 && same v (Int g)) ≡ eqb (gate_named kind w) g
-unfolding gate_named if◌then◌else◌
+unfolding gate_named if◌then◌otherwise◌
 names_gate kind g v w l h = go (eqb kind 30) refl
   where
-    go : (b : Bool) → eqb kind 30 ≡ b → (b && same v (Int g)) ≡ eqb (if b then gate_of w else 64) g
+    go : (b : Bool) → eqb kind 30 ≡ b → (b && same v (Int g)) ≡ eqb (if b then gate_of w otherwise 64) g
     go true e = same_gate v g l ∙ ap (λ (x : Value). eqb (gate_of x) g) (h (eqb-true kind 30 e))
     go false e = sym (ne_eqb 64 g (λ e. omega arith))
 
@@ -85,13 +85,13 @@ record Found (named : ℕ → ℕ) (n : ℕ) (es : List ℕ) (j : ℕ) : Type 0 
 
 -- one more gate
 turn : (named : ℕ → ℕ) (n : ℕ) (es : List ℕ) (j : ℕ) → j < n → Found named n es (j + 1) → Found named n (set es (named j) j) j
-unfolding keep if◌then◌else◌
+unfolding keep if◌then◌otherwise◌
 turn named n es j h m =
     record { long = length-set es (named j) j ∙ m.long; each = λ g l. rw (from_first j n h) (go g l (eqb (named j) g) refl) }
   where
     go :
         (g : ℕ) → g < 64 → (b : Bool) → eqb (named j) g ≡ b →
-        get_or (set es (named j) j) g 0 ≡ get_or (if b then j ∷ rest named n (j + 1) g else rest named n (j + 1) g) 0 0
+        get_or (set es (named j) j) g 0 ≡ get_or (if b then j ∷ rest named n (j + 1) g otherwise rest named n (j + 1) g) 0 0
     go g l true q =
         let s : named j ≡ g = eqb-true (named j) g q in
         let k : g < length es = omega (arith, m.long) in

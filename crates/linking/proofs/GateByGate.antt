@@ -10,7 +10,7 @@ use types.Run.{OneOf, miss}
 use lib.Dec.{eqb}
 use lib.ListN.{length, get_or}
 use lib.Seq.{sets}
-use Rattle.model.specs.Base.{if◌then◌else◌}
+use Rattle.model.specs.Base.{if◌then◌otherwise◌}
 use Rattle.model.specs.Value.{bit}
 use Rattle.model.specs.Kinds.{In, value, kind_at, kinds_opened}
 use Rattle.model.specs.Circuit.{minus_one, source_of, has_source, is_watched}
@@ -94,10 +94,10 @@ module _ (ws : List ℕ) (kinds : ℕ) where
 
 -- there is a source where the word is not -1
 driven : (w : ℕ) → not (eqb w minus_one) ≡ has_source (source_of w)
-unfolding source_of has_source if◌then◌else◌
+unfolding source_of has_source if◌then◌otherwise◌
 driven w = go (eqb w minus_one)
   where
-    go : (b : Bool) → not b ≡ has_source (if b then none else some w)
+    go : (b : Bool) → not b ≡ has_source (if b then none otherwise some w)
     go true = refl
     go false = refl
 

@@ -11,7 +11,7 @@ use lib.ListN.{length, get_or, set, replicate}
 use lib.Pow.{pow_mono}
 use lib.Seq.{set_out, sets}
 use Rattle.floats.proofs.Bits.{unit_is}
-use Rattle.model.specs.Base.{if◌then◌else◌, joined}
+use Rattle.model.specs.Base.{if◌then◌otherwise◌, joined}
 use Rattle.model.specs.Questions.{within}
 use Rattle.model.proofs.Lists.{both_true}
 use Rattle.links.specs.Links.{gates_at, sources_at, stored_kinds_at, stored_contents_at, inputs_at, outputs_at, constant_kinds_at, constant_contents_at, total, listed}
@@ -26,49 +26,49 @@ put_past l i v h = sym (set_out l i v h)
 -- ---- names
 
 pub named_none : (ws : List ℕ) (a n k : ℕ) → k ≡ 0 → 0 ≡ named_word ws a n k
-unfolding named_word if◌then◌else◌
+unfolding named_word if◌then◌otherwise◌
 named_none ws a n k e = rw (eq-eqb k 0 e)
 
 pub named_past : (ws : List ℕ) (a n k : ℕ) → (k ≡ 0 → ⊥) → n < k → 0 ≡ named_word ws a n k
-unfolding named_word if◌then◌else◌
+unfolding named_word if◌then◌otherwise◌
 named_past ws a n k e h = rw (ne_eqb k 0 e, lt-ltb n k h)
 
 pub named_in : (ws : List ℕ) (a n k v : ℕ) → (k ≡ 0 → ⊥) → k ≤ n → v ≡ get_or ws (a + (k - 1)) 0 → v ≡ named_word ws a n k
-unfolding named_word if◌then◌else◌
+unfolding named_word if◌then◌otherwise◌
 named_in ws a n k v e h q = rw (ne_eqb k 0 e, le-ltb n k h) q
 
 -- ---- words of gates
 
 pub bit_low : (low high kind g : ℕ) → kind < low → 0 ≡ gate_bit low high kind g
-unfolding gate_bit within if◌then◌else◌
+unfolding gate_bit within if◌then◌otherwise◌
 bit_low low high kind g h = rw (lt-leb low kind h)
 
 pub bit_high : (low high kind g : ℕ) → low ≤ kind → high < kind → 0 ≡ gate_bit low high kind g
-unfolding gate_bit within if◌then◌else◌
+unfolding gate_bit within if◌then◌otherwise◌
 bit_high low high kind g h k = rw (le-leb low kind h, lt-leb kind high k)
 
 pub bit_in : (low high kind g : ℕ) → low ≤ kind → kind ≤ high → g < 64 → 1 * 2 ^ g % 18446744073709551616 ≡ gate_bit low high kind g
-unfolding gate_bit within if◌then◌else◌
+unfolding gate_bit within if◌then◌otherwise◌
 bit_in low high kind g h k l =
     rw (le-leb low kind h, le-leb kind high k) (unit_is g l)
 
 -- one bit at most is set
 bit_most : (low high kind g : ℕ) → gate_bit low high kind g ≤ 2 ^ g
-unfolding gate_bit if◌then◌else◌
+unfolding gate_bit if◌then◌otherwise◌
 bit_most low high kind g = go (within low high kind)
   where
-    go : (b : Bool) → (if b then 2 ^ g else 0) ≤ 2 ^ g
+    go : (b : Bool) → (if b then 2 ^ g otherwise 0) ≤ 2 ^ g
     go true = omega arith
     go false = omega arith
 
 -- of two ranges of kinds that do not meet, one bit at most is set
 pub two_bits_most : (low high low₁ high₁ kind g : ℕ) → high < low₁ → gate_bit low high kind g + gate_bit low₁ high₁ kind g ≤ 2 ^ g
-unfolding gate_bit if◌then◌else◌ within
+unfolding gate_bit if◌then◌otherwise◌ within
 two_bits_most low high low₁ high₁ kind g h = go (leb low kind && leb kind high) refl (leb low₁ kind && leb kind high₁) refl
   where
     go :
         (a : Bool) → (leb low kind && leb kind high) ≡ a → (b : Bool) → (leb low₁ kind && leb kind high₁) ≡ b →
-        (if a then 2 ^ g else 0) + (if b then 2 ^ g else 0) ≤ 2 ^ g
+        (if a then 2 ^ g otherwise 0) + (if b then 2 ^ g otherwise 0) ≤ 2 ^ g
     go true e true d =
         let p = leb-true kind high (both_true (leb low kind) (leb kind high) e).1 in
         let q = leb-true low₁ kind (both_true (leb low₁ kind) (leb kind high₁) d).0 in

@@ -9,7 +9,7 @@ use borrow.Author.Tests.{lt-ltb, le-ltb, ne_eqb, eqb-true, eqb-false}
 use lib.Dec.{eqb}
 use lib.ListN.{length, get_or, set, replicate, length-set, length-replicate, get_or-replicate}
 use lib.Seq.{get_or-set_same, get_or-set_other, sets}
-use Rattle.model.specs.Base.{if◌then◌else◌, keep, joined, from}
+use Rattle.model.specs.Base.{if◌then◌otherwise◌, keep, joined, from}
 use Rattle.model.proofs.Lists.{from_length, from_first, from_none}
 use Rattle.links.specs.Links.{rows_at, readers_at, calls_at, listed, packed}
 use Rattle.links.proofs.Tables.{shares}
@@ -47,11 +47,11 @@ chain_is {next} (suc n) e h (link {low = low} {i = i} {l = l} q m t) =
 
 module _ {A : Type 0} where
   pub keep_length : (p : A → Bool) (xs : List A) → length (keep p xs) ≤ length xs
-  unfolding keep if◌then◌else◌
+  unfolding keep if◌then◌otherwise◌
   keep_length p [] = omega arith
   keep_length p (x ∷ xs) = go (p x) (keep_length p xs)
     where
-      go : (b : Bool) → length (keep p xs) ≤ length xs → length {A = A} (if b then x ∷ keep p xs else keep p xs) ≤ suc (length xs)
+      go : (b : Bool) → length (keep p xs) ≤ length xs → length {A = A} (if b then x ∷ keep p xs otherwise keep p xs) ≤ suc (length xs)
       go true h = omega arith
       go false h = omega arith
 
@@ -69,7 +69,7 @@ record Made (key : ℕ → ℕ) (n : ℕ) (c : Chains) (j : ℕ) : Type 0 where
 
 -- one more number
 turn : (key : ℕ → ℕ) (n : ℕ) → n ≤ 640 → (c : Chains) (j : ℕ) → j < n → Made key n c (j + 1) → Made key n (chained c j (key j)) j
-unfolding chained keep if◌then◌else◌
+unfolding chained keep if◌then◌otherwise◌
 turn key n short c j h m =
     record {
       heads = length-set c.heads (key j) j ∙ m.heads;
@@ -88,7 +88,7 @@ turn key n short c j h m =
 
     go :
         (o : ℕ) → o < 576 → (b : Bool) → eqb (key j) o ≡ b → (l : List ℕ) → Chain ns (j + 1) (get_or hs o 0) l →
-        Chain (set ns j (get_or hs (key j) 0)) j (get_or (set hs (key j) j) o 0) (if b then j ∷ l else l)
+        Chain (set ns j (get_or hs (key j) 0)) j (get_or (set hs (key j) j) o 0) (if b then j ∷ l otherwise l)
     go o lo true q l t =
         let s : key j ≡ o = eqb-true (key j) o q in
         let long : o < length hs = omega (arith, m.heads) in
@@ -153,7 +153,7 @@ rows_small key n m c h l e =
 -- a list that is written with its members' targets
 targets_of : (key : ℕ → ℕ) (n m t : ℕ) (ws : List ℕ) (c : Chains) → n ≤ 640 → m ≤ 576 → 0 < t → c ≡ all_chained key n no_chains →
     listed m (λ o. map (target ws t) (chain_at c o)) ≡ listed m (λ o. map (λ i. get_or ws (t + i) 0) (members key n o))
-unfolding target if◌then◌else◌
+unfolding target if◌then◌otherwise◌
 targets_of key n m t ws c h l p e =
     listed_same m (λ o. map (target ws t) (chain_at c o)) (λ o. map (λ i. get_or ws (t + i) 0) (members key n o))
     (λ o k. map_same (target ws t) (λ i. get_or ws (t + i) 0) (λ i. rw (ne_eqb t 0 (λ z. omega arith))) (chain_at c o)
@@ -162,7 +162,7 @@ targets_of key n m t ws c h l p e =
 -- or with the members themselves
 itself_of : (key : ℕ → ℕ) (n m : ℕ) (ws : List ℕ) (c : Chains) → n ≤ 640 → m ≤ 576 → c ≡ all_chained key n no_chains →
     listed m (λ o. map (target ws 0) (chain_at c o)) ≡ listed m (members key n)
-unfolding target if◌then◌else◌
+unfolding target if◌then◌otherwise◌
 itself_of key n m ws c h l e =
     listed_same m (λ o. map (target ws 0) (chain_at c o)) (members key n) (λ o k. map-id (chain_at c o) ∙ chain_members key n h c e o (omega arith))
 

@@ -9,7 +9,7 @@ use borrow.Author.Tests.{eq-eqb, ne_eqb, eqb-true, eqb-false}
 use lib.Dec.{eqb}
 use lib.ListN.{length, get_or, replicate, length-map, length-append, length-replicate}
 use Rattle.schedule.proofs.Erase.{map_append}
-use Rattle.model.specs.Base.{if◌then◌else◌, keep, joined, both, from, starts, owners}
+use Rattle.model.specs.Base.{if◌then◌otherwise◌, keep, joined, both, from, starts, owners}
 use Rattle.model.specs.Value.{bit}
 use Rattle.model.specs.Kinds.{In, value, kind_at}
 use Rattle.model.specs.Circuit.{Call, Listed, minus_one, source_of, is_watched, reads, listed_call, calls_from}
@@ -117,10 +117,10 @@ abbrev is_output : ℕ → Option ℕ → Bool
 is_output o s = elim s as (λ _. Bool) [ none ↦ false | some p ↦ eqb o p ]
 
 reads_word : (o w : ℕ) → o < 576 → is_output o (source_of w) ≡ eqb w o
-unfolding source_of if◌then◌else◌
+unfolding source_of if◌then◌otherwise◌
 reads_word o w l = go (eqb w minus_one) refl
   where
-    go : (b : Bool) → eqb w minus_one ≡ b → is_output o (if b then none else some w) ≡ eqb w o
+    go : (b : Bool) → eqb w minus_one ≡ b → is_output o (if b then none otherwise some w) ≡ eqb w o
     go true e = let x = eqb-true w minus_one e in sym (ne_eqb w o (λ z. omega arith))
     go false e = eqb_turn o w
 

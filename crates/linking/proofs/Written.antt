@@ -9,7 +9,7 @@ use lib.Dec.{eqb, ltb, leb}
 use lib.ListN.{length, get_or, get_or-eq_default}
 use Rattle.model.specs.declared.Value.{Value}
 use Rattle.model.specs.declared.Value.TheVariants.{Nothing}
-use Rattle.model.specs.Base.{if◌then◌else◌, keep, joined, both, from, starts, owners}
+use Rattle.model.specs.Base.{if◌then◌otherwise◌, keep, joined, both, from, starts, owners}
 use Rattle.model.specs.Value.{value_of, kind_of, content_of}
 use Rattle.model.specs.Kinds.{kind_at}
 use Rattle.model.specs.Circuit.{source_of, gates_such}
@@ -60,28 +60,28 @@ module _ (ws : List ℕ) (kinds G : ℕ) where
 -- ---- words of gates
 
 -- the word of the gates from a on that pass a test
-word_from : (t : ℕ → Bool) (a n : ℕ) → below (λ g. if t g then 2 ^ g else 0) a + word_of_gates (keep t (from a n)) ≡ below (λ g. if t g then 2 ^ g else 0) (a + n)
-unfolding word_of_gates keep from below if◌then◌else◌
+word_from : (t : ℕ → Bool) (a n : ℕ) → below (λ g. if t g then 2 ^ g otherwise 0) a + word_of_gates (keep t (from a n)) ≡ below (λ g. if t g then 2 ^ g otherwise 0) (a + n)
+unfolding word_of_gates keep from below if◌then◌otherwise◌
 word_from t a zero = let e : a + 0 ≡ a = omega arith in rw e (omega arith)
 word_from t a (suc n) =
     let e : a + suc n ≡ suc a + n = omega arith in
     rw e (go (t a) refl (word_from t (suc a) n))
   where
     f : ℕ → ℕ
-    f g = if t g then 2 ^ g else 0
+    f g = if t g then 2 ^ g otherwise 0
 
     go :
-        (b : Bool) → t a ≡ b → below f a + (if t a then 2 ^ a else 0) + word_of_gates (keep t (from (suc a) n)) ≡ below f (suc a + n) →
-        below f a + word_of_gates (if b then a ∷ keep t (from (suc a) n) else keep t (from (suc a) n)) ≡ below f (suc a + n)
+        (b : Bool) → t a ≡ b → below f a + (if t a then 2 ^ a otherwise 0) + word_of_gates (keep t (from (suc a) n)) ≡ below f (suc a + n) →
+        below f a + word_of_gates (if b then a ∷ keep t (from (suc a) n) otherwise keep t (from (suc a) n)) ≡ below f (suc a + n)
     go true h q = let r = rw h at q in omega arith
     go false h q = let r = rw h at q in omega arith
 
-word_first : (t : ℕ → Bool) (n : ℕ) → word_of_gates (keep t (from 0 n)) ≡ below (λ g. if t g then 2 ^ g else 0) n
+word_first : (t : ℕ → Bool) (n : ℕ) → word_of_gates (keep t (from 0 n)) ≡ below (λ g. if t g then 2 ^ g otherwise 0) n
 unfolding below
 word_first t n = let e : 0 + n ≡ n = omega arith in let q = rw e at (word_from t 0 n) in omega arith
 
 -- of the gates whose kinds pass a test
-words_of : (p : ℕ → Bool) (ks : List ℕ) (G : ℕ) (kind : ℕ → ℕ) → ks ≡ listed G kind → word_of_gates (gates_such p ks) ≡ below (λ g. if p (kind g) then 2 ^ g else 0) G
+words_of : (p : ℕ → Bool) (ks : List ℕ) (G : ℕ) (kind : ℕ → ℕ) → ks ≡ listed G kind → word_of_gates (gates_such p ks) ≡ below (λ g. if p (kind g) then 2 ^ g otherwise 0) G
 unfolding gates_such
 words_of p ks G kind e =
     let n : length (listed G kind) ≡ G = listed_length G kind in
@@ -92,13 +92,13 @@ words_of p ks G kind e =
 
 -- where no kind is in both ranges
 two_tests : (low high low₁ high₁ k x : ℕ) → high < low₁ →
-    (if (within low high k || within low₁ high₁ k) then x else 0) ≡ (if within low high k then x else 0) + (if within low₁ high₁ k then x else 0)
-unfolding within if◌then◌else◌
+    (if (within low high k || within low₁ high₁ k) then x otherwise 0) ≡ (if within low high k then x otherwise 0) + (if within low₁ high₁ k then x otherwise 0)
+unfolding within if◌then◌otherwise◌
 two_tests low high low₁ high₁ k x m = go (leb low k && leb k high) refl (leb low₁ k && leb k high₁) refl
   where
     go :
         (a : Bool) → (leb low k && leb k high) ≡ a → (b : Bool) → (leb low₁ k && leb k high₁) ≡ b →
-        (if (a || b) then x else 0) ≡ (if a then x else 0) + (if b then x else 0)
+        (if (a || b) then x otherwise 0) ≡ (if a then x otherwise 0) + (if b then x otherwise 0)
     go true e true d =
         let p = leb-true k high (both_true (leb low k) (leb k high) e).1 in
         let q = leb-true low₁ k (both_true (leb low₁ k) (leb k high₁) d).0 in
@@ -113,8 +113,8 @@ module _ (ws : List ℕ) (kinds G : ℕ) (ks : List ℕ) (e : ks ≡ listed G (�
   unfolding bits_of gate_bit
   word_within p low high h =
       words_of p ks G (λ g. get_or ws (kinds + g) 0) e
-      ∙ below_same (λ g. if p (get_or ws (kinds + g) 0) then 2 ^ g else 0) (λ g. if within low high (get_or ws (kinds + g) 0) then 2 ^ g else 0) G
-      (λ g l. ap (λ (b : Bool). if b then 2 ^ g else 0) (h (get_or ws (kinds + g) 0)))
+      ∙ below_same (λ g. if p (get_or ws (kinds + g) 0) then 2 ^ g otherwise 0) (λ g. if within low high (get_or ws (kinds + g) 0) then 2 ^ g otherwise 0) G
+      (λ g l. ap (λ (b : Bool). if b then 2 ^ g otherwise 0) (h (get_or ws (kinds + g) 0)))
 
   -- or two of them
   pub word_within_two : (p : ℕ → Bool) (low high low₁ high₁ : ℕ) → high < low₁ → ((k : ℕ) → p k ≡ (within low high k || within low₁ high₁ k)) →
@@ -122,8 +122,8 @@ module _ (ws : List ℕ) (kinds G : ℕ) (ks : List ℕ) (e : ks ≡ listed G (�
   unfolding gate_bit
   word_within_two p low high low₁ high₁ m h =
       words_of p ks G (λ g. get_or ws (kinds + g) 0) e
-      ∙ below_same (λ g. if p (get_or ws (kinds + g) 0) then 2 ^ g else 0) (λ g. gate_bit low high (get_or ws (kinds + g) 0) g + gate_bit low₁ high₁ (get_or ws (kinds + g) 0) g) G
-      (λ g l. ap (λ (b : Bool). if b then 2 ^ g else 0) (h (get_or ws (kinds + g) 0)) ∙ two_tests low high low₁ high₁ (get_or ws (kinds + g) 0) (2 ^ g) m)
+      ∙ below_same (λ g. if p (get_or ws (kinds + g) 0) then 2 ^ g otherwise 0) (λ g. gate_bit low high (get_or ws (kinds + g) 0) g + gate_bit low₁ high₁ (get_or ws (kinds + g) 0) g) G
+      (λ g l. ap (λ (b : Bool). if b then 2 ^ g otherwise 0) (h (get_or ws (kinds + g) 0)) ∙ two_tests low high low₁ high₁ (get_or ws (kinds + g) 0) (2 ^ g) m)
       ∙ sym (two_words ws kinds G low high low₁ high₁)
 
 -- ---- tests of kinds as ranges
@@ -168,12 +168,12 @@ source_table n f =
 
 -- no constant is of a kind above 3
 no_kind : (k b : ℕ) → 3 < k → good_constant k b ≡ true → ⊥
-unfolding good_constant if◌then◌else◌
+unfolding good_constant if◌then◌otherwise◌
 no_kind k b l h = true≢false (sym (rw (ne_eqb k 1 (λ z. omega arith), ne_eqb k 2 (λ z. omega arith), ne_eqb k 3 (λ z. omega arith)) at h))
 
 -- the words of a good constant can be a value's
 good_words : (k b : ℕ) → good_constant k b ≡ true → (0 < k) × (k < 4) × (k ≡ 3 → b < 2)
-unfolding good_constant if◌then◌else◌
+unfolding good_constant if◌then◌otherwise◌
 good_words zero b h = absurd (true≢false (sym h))
 good_words (suc zero) b h = (omega arith, omega arith, λ e. absurd (omega arith))
 good_words (suc (suc zero)) b h = (omega arith, omega arith, λ e. absurd (omega arith))
@@ -193,12 +193,12 @@ module _ (K : ℕ) (a b : ℕ → ℕ) (show : Value → ℕ) (nothing : show No
   -- by name
   named_show : (ws : List ℕ) (first : ℕ) → ((k : ℕ) → f k ≡ get_or ws (first + k) 0) → (n : ℕ) →
       show (get_or (Nothing ∷ both value_of (listed K a) (listed K b)) n Nothing) ≡ named_word ws first K n
-  unfolding named_word if◌then◌else◌
+  unfolding named_word if◌then◌otherwise◌
   named_show ws first e zero = nothing
   named_show ws first e (suc n) =
       rw (both_listed value_of K a b, ne_eqb (suc n) 0 (λ z. omega arith)) (go (ltb K (suc n)) refl)
     where
-      go : (t : Bool) → ltb K (suc n) ≡ t → show (get_or (listed K (λ k. value_of (a k) (b k))) n Nothing) ≡ (if t then 0 else get_or ws (first + (suc n - 1)) 0)
+      go : (t : Bool) → ltb K (suc n) ≡ t → show (get_or (listed K (λ k. value_of (a k) (b k))) n Nothing) ≡ (if t then 0 otherwise get_or ws (first + (suc n - 1)) 0)
       go true h =
           let l = ltb-true K (suc n) h in
           ap show (get_or-eq_default (listed K (λ k. value_of (a k) (b k))) Nothing (omega (arith, listed_length K (λ k. value_of (a k) (b k))))) ∙ nothing

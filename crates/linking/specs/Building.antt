@@ -1,7 +1,7 @@
 -- What the builder's own functions do. The contract of `link` cites none of it: `cells` of Links says what they make together.
 use Rattle.std.specs.Prelude.{ℕ, zero, suc, ◌+◌, ◌-◌, ◌*◌, ◌/◌, ◌%◌, ◌^◌, ◌<◌, true, false, List, [], ◌∷◌, map, eqb, ltb, length, get_or, set, replicate}
 use Rattle.std.proofs.lemmas.List.Edits.{sets}
-use Rattle.model.specs.Base.{if◌then◌else◌, keep, joined, from}
+use Rattle.model.specs.Base.{if◌then◌otherwise◌, keep, joined, from}
 use Rattle.model.specs.declared.Value.{Value}
 use Rattle.model.specs.declared.Value.TheVariants.{Nothing, Int, Float, Bool as Truth}
 use Rattle.model.specs.Value.{bit, value_of}
@@ -21,11 +21,11 @@ below f (suc k) = below f k + f k
 
 -- the word of name k, where the K words from `first` on are named 1 to K, and no other
 unfoldable pub named_word : List ℕ → ℕ → ℕ → ℕ → ℕ
-named_word ws first K k = if eqb k 0 then 0 else if ltb K k then 0 else get_or ws (first + (k - 1)) 0
+named_word ws first K k = if eqb k 0 then 0 otherwise if ltb K k then 0 otherwise get_or ws (first + (k - 1)) 0
 
 -- bit g, if the kind is one of low to high
 unfoldable pub gate_bit : ℕ → ℕ → ℕ → ℕ → ℕ
-gate_bit low high kind g = if within low high kind then 2 ^ g else 0
+gate_bit low high kind g = if within low high kind then 2 ^ g otherwise 0
 
 -- each of the n words from place a on is below m
 abbrev pub Small : List ℕ → ℕ → ℕ → ℕ → Type 0
@@ -69,7 +69,7 @@ size_at c o = length (chain_at c o)
 
 -- what is written of member i: word `targets` + i, or i itself where `targets` is 0
 unfoldable pub target : List ℕ → ℕ → ℕ → ℕ
-target ws targets i = if eqb targets 0 then i else get_or ws (targets + i) 0
+target ws targets i = if eqb targets 0 then i otherwise get_or ws (targets + i) 0
 
 -- the row of output o: where its readers begin and how many they are, and the same of its calls
 unfoldable pub row_of : (ℕ → ℕ) → (ℕ → ℕ) → ℕ → ℕ
@@ -137,7 +137,7 @@ gate_of (Truth t) = most_gates
 
 -- the gate that one of this kind names by its setting, if it is an entry
 unfoldable pub gate_named : ℕ → Value → ℕ
-gate_named kind v = if eqb kind LoopEntry then gate_of v else most_gates
+gate_named kind v = if eqb kind LoopEntry then gate_of v otherwise most_gates
 
 -- the gate that gate e names
 unfoldable pub named_by : List ℕ → ℕ → ℕ → ℕ → ℕ → ℕ

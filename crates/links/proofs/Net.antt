@@ -11,7 +11,7 @@ use lib.ListN.{length, get_or, length-map, get_or-map}
 use borrow.Author.Tests.{eqb-true}
 use Rattle.words.specs.Words.{words}
 use Rattle.model.specs.declared.Value.TheVariants.{Nothing}
-use Rattle.model.specs.Base.{if◌then◌else◌, keep, all, joined, both, from, starts}
+use Rattle.model.specs.Base.{if◌then◌otherwise◌, keep, all, joined, both, from, starts}
 use Rattle.model.specs.Value.{value_of, kind_of, content_of, bit}
 use Rattle.model.specs.Kinds.{value, fires, kind_at, time_source, buffering, receiving}
 use Rattle.model.specs.Circuit.{Call, Circuit, circuit, part, word_at, minus_one, source_of, reads, listed_call, calls_from, names, gates_such, kind_of_gate, input, output, gate_at_input, gate_at_output}
@@ -414,10 +414,10 @@ module _ (c : Circuit) (L : Laid c) (F : Full c) (T : Fitting c) where
 
 -- a source and its cell
 pub source_back : (w : ℕ) → source_cell (source_of w) ≡ w
-unfolding source_of source_cell if◌then◌else◌
+unfolding source_of source_cell if◌then◌otherwise◌
 source_back w = go (eqb w minus_one) refl
   where
-    go : (b : Bool) → eqb w minus_one ≡ b → source_cell (if b then none else some w) ≡ w
+    go : (b : Bool) → eqb w minus_one ≡ b → source_cell (if b then none otherwise some w) ≡ w
     go true e = sym (eqb-true w minus_one e)
     go false e = refl
 
@@ -438,11 +438,11 @@ under_map n f z h (x ∷ xs) (suc i) = under_map n f z h xs i
 
 -- the first of n numbers from a on that passes a test
 pub first_kept : (m : ℕ) (p : ℕ → Bool) (a n : ℕ) → 0 < m → a + n ≤ m → get_or (keep p (from a n)) 0 0 < m
-unfolding keep from if◌then◌else◌
+unfolding keep from if◌then◌otherwise◌
 first_kept m p a zero z l = z
 first_kept m p a (suc n) z l = go (p a) (first_kept m p (suc a) n z (omega arith))
   where
-    go : (b : Bool) → get_or (keep p (from (suc a) n)) 0 0 < m → get_or (if b then a ∷ keep p (from (suc a) n) else keep p (from (suc a) n)) 0 0 < m
+    go : (b : Bool) → get_or (keep p (from (suc a) n)) 0 0 < m → get_or (if b then a ∷ keep p (from (suc a) n) otherwise keep p (from (suc a) n)) 0 0 < m
     go true h = omega arith
     go false h = h
 
@@ -457,7 +457,7 @@ module _ (bytes ws : List ℕ) (q : question_1 bytes ws ≡ true) (r : question_
   few_outputs = (few bytes ws q r).outputs
 
   sources_again : (i : ℕ) → source_of (source_cell (get_or (circuit ws).sources i none)) ≡ get_or (circuit ws).sources i none
-  unfolding circuit source_of if◌then◌else◌
+  unfolding circuit source_of if◌then◌otherwise◌
   sources_again i =
       let ss = part ws (4 + 2 * word_at ws 1 + 2 * word_at ws 0) (word_at ws 2) in
       let e : get_or (map source_of ss) i none ≡ source_of (get_or ss i minus_one) = get_or-map source_of ss i minus_one in

@@ -9,7 +9,7 @@ use native.Mathlib.Numerals.{add-one}
 use lib.Dec.{eqb}
 use lib.ListN.{length, get_or, length-map, get_or-eq_default}
 use borrow.Author.Tests.{eq-eqb, ne_eqb}
-use Rattle.model.specs.Base.{if◌then◌else◌, each, from}
+use Rattle.model.specs.Base.{if◌then◌otherwise◌, each, from}
 use Rattle.model.specs.Circuit.{minus_one, source_of, kind_of_gate, rank_of_gate, body_of_gate, entry_of_loop, input, output, gate_at_input, source, gate_at_output, watching, stored_in, setting, readers_of, calls_of, Call}
 use Rattle.model.specs.declared.Value.{Value}
 use Rattle.model.specs.declared.Value.TheVariants.{Nothing}
@@ -141,15 +141,15 @@ module _ (l : List ℕ) (o x : ℕ) (e : x ≡ get_or (entries l 3 576 rows_at) 
 
 module _ (l : List ℕ) (i x : ℕ) (e : x ≡ get_or (entries l 2 640 sources_at) i minus_one) where
   source_known : source_of x ≡ source (net l) i
-  unfolding source net source_of if◌then◌else◌
+  unfolding source net source_of if◌then◌otherwise◌
   source_known = listed_over source_of _ _ i minus_one x e
 
   pub source_none : x ≡ minus_one → none ≡ source (net l) i
-  unfolding source_of if◌then◌else◌
+  unfolding source_of if◌then◌otherwise◌
   source_none h = let q : eqb x minus_one ≡ true = eq-eqb x minus_one h in sym (rw q) ∙ source_known
 
   pub source_some : (x ≡ minus_one → ⊥) → some x ≡ source (net l) i
-  unfolding source_of if◌then◌else◌
+  unfolding source_of if◌then◌otherwise◌
   source_some h = let q : eqb x minus_one ≡ false = ne_eqb x minus_one h in sym (rw q) ∙ source_known
 
 -- for a caller that looks at the answer: what its case says of the circuit

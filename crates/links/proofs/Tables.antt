@@ -9,7 +9,7 @@ use lib.Dec.{eqb, ltb}
 use lib.ListN.{length, get_or, replicate, length-append, length-replicate, length-map, get_or-append}
 use lib.Seq.{get_or-append-add, ext_get_or}
 use borrow.Author.Tests.{ltb-true, ltb-false}
-use Rattle.model.specs.Base.{if◌then◌else◌, keep, joined, both, from, sum, starts}
+use Rattle.model.specs.Base.{if◌then◌otherwise◌, keep, joined, both, from, sum, starts}
 use Rattle.model.specs.Value.{bit}
 use Rattle.model.proofs.Lists.{bit_most, all_same, both_length}
 use Rattle.model.proofs.Laid.{sum_lengths}
@@ -292,12 +292,12 @@ pub double : (a m : ℕ) → 2 ^ suc a * m ≡ 2 ^ a * (2 * m)
 double a m = ap (λ x. x * m) (pow-suc 2 a) ∙ mul_assoc (2 ^ a) 2 m
 
 marked : (p : ℕ → Bool) (a n : ℕ) → word_of_gates (keep p (from a n)) ≡ 2 ^ a * mark p a n
-unfolding word_of_gates keep from mark if◌then◌else◌ bit
+unfolding word_of_gates keep from mark if◌then◌otherwise◌ bit
 marked p a zero = omega arith
 marked p a (suc n) = go (p a) refl (marked p (suc a) n)
   where
     go : (b : Bool) → p a ≡ b → word_of_gates (keep p (from (suc a) n)) ≡ 2 ^ suc a * mark p (suc a) n →
-        word_of_gates (if b then a ∷ keep p (from (suc a) n) else keep p (from (suc a) n)) ≡ 2 ^ a * (bit b + 2 * mark p (suc a) n)
+        word_of_gates (if b then a ∷ keep p (from (suc a) n) otherwise keep p (from (suc a) n)) ≡ 2 ^ a * (bit b + 2 * mark p (suc a) n)
     go true e h = omega (arith, h, double a (mark p (suc a) n), mul-add (2 ^ a) 1 (2 * mark p (suc a) n))
     go false e h = omega (arith, h, double a (mark p (suc a) n), mul-add (2 ^ a) 0 (2 * mark p (suc a) n))
 
@@ -326,7 +326,7 @@ mark_out p (suc k) a (suc n) h =
 keep_same :
     (q p : ℕ → Bool) (m n a : ℕ) → n ≤ m → ((i : ℕ) → i < n → q (a + i) ≡ p (a + i)) → ((i : ℕ) → n ≤ i → q (a + i) ≡ false) →
     keep q (from a m) ≡ keep p (from a n)
-unfolding keep from if◌then◌else◌
+unfolding keep from if◌then◌otherwise◌
 keep_same q p zero zero a h f g = refl
 keep_same q p zero (suc n) a h f g = absurd (omega arith)
 keep_same q p (suc m) zero a h f g =
@@ -338,7 +338,7 @@ keep_same q p (suc m) (suc n) a h f g =
     keep_same q p m n (suc a) (omega arith) (λ i k. ap q (next_place a i) ∙ f (suc i) (omega arith) ∙ sym (ap p (next_place a i)))
     (λ i k. ap q (next_place a i) ∙ g (suc i) (omega arith))
     in
-    λ j. if e j then a ∷ r j else r j
+    λ j. if e j then a ∷ r j otherwise r j
 
 pub bit_read : (b : Bool) → eqb (bit b) 1 ≡ b
 unfolding bit
@@ -390,10 +390,10 @@ module _ {A : Type 0} (t : ℕ → A → Bool) where
   shares_none (o ∷ os) = shares_none os
 
   keep_length : (p : A → Bool) (x : A) (xs : List A) → length (keep p (x ∷ xs)) ≡ bit (p x) + length (keep p xs)
-  unfolding keep if◌then◌else◌ bit
+  unfolding keep if◌then◌otherwise◌ bit
   keep_length p x xs = go (p x)
     where
-      go : (b : Bool) → length (if b then x ∷ keep p xs else keep p xs) ≡ bit b + length (keep p xs)
+      go : (b : Bool) → length (if b then x ∷ keep p xs otherwise keep p xs) ≡ bit b + length (keep p xs)
       go true = omega arith
       go false = omega arith
 

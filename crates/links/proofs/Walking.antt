@@ -9,14 +9,14 @@ use lib.Dec.{eqb}
 use lib.ListN.{length, get_or, drop}
 use lib.Count.{count_trailing_zeros, under, trailing_of_zero}
 use Rattle.floats.proofs.Bits.{unit_is}
-use Rattle.model.specs.Base.{if◌then◌else◌, keep, each, from}
+use Rattle.model.specs.Base.{if◌then◌otherwise◌, keep, each, from}
 use Rattle.links.specs.Links.{word_of_gates, gates_of_word}
 use Rattle.links.proofs.Tables.{double, next_place}
 
 -- of the numbers from a on, those whose bits among the n lowest of d are set
 bits : ℕ → ℕ → ℕ → List ℕ
 bits a zero d = []
-bits a (suc n) d = if eqb (d % 2) 1 then a ∷ bits (suc a) n (d / 2) else bits (suc a) n (d / 2)
+bits a (suc n) d = if eqb (d % 2) 1 then a ∷ bits (suc a) n (d / 2) otherwise bits (suc a) n (d / 2)
 
 keep_bits : (p : ℕ → Bool) (a n d : ℕ) → ((i : ℕ) → i < n → p (a + i) ≡ eqb (d / 2 ^ i % 2) 1) → keep p (from a n) ≡ bits a n d
 unfolding keep from bits
@@ -29,7 +29,7 @@ keep_bits p a (suc n) d h =
     ap p (next_place a i) ∙ h (suc i) (omega arith)
     ∙ ap (λ x. eqb (x % 2) 1) (ap (λ y. d / y) (pow-succ' 2 i) ∙ sym (div-div-eq-div-mul d 2 (2 ^ i))))
     in
-    λ j. if e j then a ∷ r j else r j
+    λ j. if e j then a ∷ r j otherwise r j
 
 gates_are : (d : ℕ) → gates_of_word d ≡ bits 0 64 d
 unfolding gates_of_word
@@ -37,24 +37,24 @@ gates_are d = keep_bits (λ g. eqb (d / 2 ^ g % 2) 1) 0 64 d (λ i k. ap (λ g. 
 
 -- the first of them stands above the zeros
 bits_first : (a n d : ℕ) → get_or (bits a n d) 0 (a + n) ≡ a + count_trailing_zeros n d
-unfolding bits count_trailing_zeros if◌then◌else◌
+unfolding bits count_trailing_zeros if◌then◌otherwise◌
 bits_first a zero d = refl
 bits_first a (suc n) d = go (d % 2) (omega arith) (bits_first (suc a) n (d / 2))
   where
     go : (m : ℕ) → m < 2 → get_or (bits (suc a) n (d / 2)) 0 (suc a + n) ≡ suc a + count_trailing_zeros n (d / 2) →
-        get_or (if eqb m 1 then a ∷ bits (suc a) n (d / 2) else bits (suc a) n (d / 2)) 0 (a + suc n) ≡ a + under m (count_trailing_zeros n (d / 2))
+        get_or (if eqb m 1 then a ∷ bits (suc a) n (d / 2) otherwise bits (suc a) n (d / 2)) 0 (a + suc n) ≡ a + under m (count_trailing_zeros n (d / 2))
     go zero h r = sym (ap (λ x. get_or (bits (suc a) n (d / 2)) 0 x) (next_place a n)) ∙ r ∙ next_place a (count_trailing_zeros n (d / 2))
     go (suc zero) h r = sym (add-zero a)
     go (suc (suc m)) h r = absurd (omega arith)
 
 -- without it the rest are left
 bits_rest : (a n d : ℕ) → bits a n (d - 2 ^ count_trailing_zeros n d) ≡ drop 1 (bits a n d)
-unfolding bits count_trailing_zeros if◌then◌else◌
+unfolding bits count_trailing_zeros if◌then◌otherwise◌
 bits_rest a zero d = refl
 bits_rest a (suc n) d = go (d % 2) refl (omega arith) (bits_rest (suc a) n (d / 2))
   where
     go : (m : ℕ) → d % 2 ≡ m → m < 2 → bits (suc a) n (d / 2 - 2 ^ count_trailing_zeros n (d / 2)) ≡ drop 1 (bits (suc a) n (d / 2)) →
-        bits a (suc n) (d - 2 ^ under m (count_trailing_zeros n (d / 2))) ≡ drop 1 (if eqb m 1 then a ∷ bits (suc a) n (d / 2) else bits (suc a) n (d / 2))
+        bits a (suc n) (d - 2 ^ under m (count_trailing_zeros n (d / 2))) ≡ drop 1 (if eqb m 1 then a ∷ bits (suc a) n (d / 2) otherwise bits (suc a) n (d / 2))
     go zero e h r =
         let t = count_trailing_zeros n (d / 2) in
         let q : (d - 2 ^ suc t) % 2 ≡ 0 = omega (arith, pow-succ' 2 t) in
@@ -67,12 +67,12 @@ bits_rest a (suc n) d = go (d % 2) refl (omega arith) (bits_rest (suc a) n (d / 
     go (suc (suc m)) e h r = absurd (omega arith)
 
 bits_none : (a n d : ℕ) → n ≤ count_trailing_zeros n d → bits a n d ≡ []
-unfolding bits count_trailing_zeros if◌then◌else◌
+unfolding bits count_trailing_zeros if◌then◌otherwise◌
 bits_none a zero d h = refl
 bits_none a (suc n) d h = go (d % 2) (omega arith) (bits_none (suc a) n (d / 2)) h
   where
     go : (m : ℕ) → m < 2 → (n ≤ count_trailing_zeros n (d / 2) → bits (suc a) n (d / 2) ≡ []) → suc n ≤ under m (count_trailing_zeros n (d / 2)) →
-        (if eqb m 1 then a ∷ bits (suc a) n (d / 2) else bits (suc a) n (d / 2)) ≡ []
+        (if eqb m 1 then a ∷ bits (suc a) n (d / 2) otherwise bits (suc a) n (d / 2)) ≡ []
     go zero l r h = r (omega arith)
     go (suc zero) l r h = absurd (omega arith)
     go (suc (suc m)) l r h = absurd (omega arith)
@@ -89,12 +89,12 @@ zeros_fit (suc n) d h = go (d % 2) refl (omega arith) (zeros_fit n (d / 2)) h
     go (suc (suc m)) e l r h = absurd (omega arith)
 
 bits_again : (a n d : ℕ) → d < 2 ^ n → word_of_gates (bits a n d) ≡ 2 ^ a * d
-unfolding bits word_of_gates if◌then◌else◌
+unfolding bits word_of_gates if◌then◌otherwise◌
 bits_again a zero d h = let e : d ≡ 0 = omega arith in rw e (omega arith)
 bits_again a (suc n) d h = go (d % 2) refl (omega arith) (bits_again (suc a) n (d / 2) (omega (arith, pow-succ' 2 n)))
   where
     go : (m : ℕ) → d % 2 ≡ m → m < 2 → word_of_gates (bits (suc a) n (d / 2)) ≡ 2 ^ suc a * (d / 2) →
-        word_of_gates (if eqb m 1 then a ∷ bits (suc a) n (d / 2) else bits (suc a) n (d / 2)) ≡ 2 ^ a * d
+        word_of_gates (if eqb m 1 then a ∷ bits (suc a) n (d / 2) otherwise bits (suc a) n (d / 2)) ≡ 2 ^ a * d
     go zero e l r = let q : 2 * (d / 2) ≡ d = omega arith in r ∙ double a (d / 2) ∙ ap (λ x. 2 ^ a * x) q
     go (suc zero) e l r =
         let q : 1 + 2 * (d / 2) ≡ d = omega arith in

@@ -11,7 +11,7 @@ use lib.Seq.{sets-eq}
 use Rattle.words.specs.Words.{words, tail, Filled}
 use Rattle.words.proofs.Laws.{count_words}
 use Rattle.model.specs.declared.Value.{Value}
-use Rattle.model.specs.Base.{if◌then◌else◌}
+use Rattle.model.specs.Base.{if◌then◌otherwise◌}
 use Rattle.model.specs.Value.{kind_of, content_of}
 use Rattle.model.specs.Circuit.{Circuit}
 use Rattle.model.specs.Record.{Listed, LogRecord, head_size, head, gates_and_forms, kinds_and_contents, record_words}
@@ -42,12 +42,12 @@ outputs_filled vs {p = p} n l m = filled_more (ap (λ (k : ℕ). p + k) (sym (le
 
 -- ---- how many outputs a record shows
 
-pub shown_all : (stop m n : ℕ) → stop ≡ 0 → (n ≡ m) × (n ≤ 576) → (n ≡ (if eqb stop 0 then m else 0)) × (n ≤ 576)
-unfolding if◌then◌else◌
+pub shown_all : (stop m n : ℕ) → stop ≡ 0 → (n ≡ m) × (n ≤ 576) → (n ≡ (if eqb stop 0 then m otherwise 0)) × (n ≤ 576)
+unfolding if◌then◌otherwise◌
 shown_all stop m n z e = let q : eqb stop 0 ≡ true = eq-eqb stop 0 z in (rw q e.0, e.1)
 
-pub shown_none : (stop m : ℕ) → (stop ≡ 0 → ⊥) → (0 ≡ (if eqb stop 0 then m else 0)) × (0 ≤ 576)
-unfolding if◌then◌else◌
+pub shown_none : (stop m : ℕ) → (stop ≡ 0 → ⊥) → (0 ≡ (if eqb stop 0 then m otherwise 0)) × (0 ≤ 576)
+unfolding if◌then◌otherwise◌
 shown_none stop m z = let q : eqb stop 0 ≡ false = ne_eqb stop 0 z in (rw q, omega arith)
 
 -- ---- a record by its parts
@@ -62,17 +62,17 @@ head_is h begun carried outs n k e f =
 
 -- the outputs, of which a stopped tick shows none
 outs_shown :
-    (c : Circuit) (vs : List ℕ) (stop o : ℕ) → o ≡ (if eqb stop 0 then length c.outputs else 0) → (if eqb stop 0 then (values c vs).wires.outs else []) ≡ outs_in o vs
-unfolding if◌then◌else◌ outs_in
+    (c : Circuit) (vs : List ℕ) (stop o : ℕ) → o ≡ (if eqb stop 0 then length c.outputs otherwise 0) → (if eqb stop 0 then (values c vs).wires.outs otherwise []) ≡ outs_in o vs
+unfolding if◌then◌otherwise◌ outs_in
 outs_shown c vs stop o = go (eqb stop 0)
   where
-    go : (b : Bool) → o ≡ (if b then length c.outputs else 0) → (if b then (values c vs).wires.outs else []) ≡ outs_in o vs
+    go : (b : Bool) → o ≡ (if b then length c.outputs otherwise 0) → (if b then (values c vs).wires.outs otherwise []) ≡ outs_in o vs
     go true e = outs_are c vs ∙ ap (λ (k : ℕ). outs_in k vs) (sym e)
     go false e = rw e
 
 -- ---- the record of circuit c that the areas us and vs tell
 
-module _ (c : Circuit) (us vs : List ℕ) (h : Head) {n k o : ℕ} (l : 65536 ≤ length vs) (en : (c : Circuit) → n ≡ length (units c us).begun) (ek : (c : Circuit) → k ≡ length (units c us).lists.carried) (eo : (o ≡ (if eqb h.stop 0 then length c.outputs else 0)) × (o ≤ 576)) where
+module _ (c : Circuit) (us vs : List ℕ) (h : Head) {n k o : ℕ} (l : 65536 ≤ length vs) (en : (c : Circuit) → n ≡ length (units c us).begun) (ek : (c : Circuit) → k ≡ length (units c us).lists.carried) (eo : (o ≡ (if eqb h.stop 0 then length c.outputs otherwise 0)) × (o ≤ 576)) where
   abbrev parts : LogRecord
   parts = record_of h (units c us).begun (map as_listed (units c us).lists.carried) (values c vs).wires.outs
 
@@ -110,7 +110,7 @@ module _ (c : Circuit) (us vs : List ℕ) (h : Head) {n k o : ℕ} (l : 65536 �
 
   -- It does not fit.
   pub record_full : {s : List ℕ} {at : ℕ} → length s / 8 < at + (head_size + 2 * n + 2 * k + 2 * o) → (Full ≡ written_as (fits s at the_record) the_record) × Writes s s at the_record
-  unfolding fits written_as if◌then◌else◌
+  unfolding fits written_as if◌then◌otherwise◌
   record_full {s = s} {at = at} x =
       let q : leb (at + length the_record) (length (words s)) ≡ false = lt-leb (at + length the_record) (length (words s)) (omega (arith, count_words s, record_size)) in
       (rw q, record { words = rw q; tail = refl })
@@ -120,7 +120,7 @@ module _ (c : Circuit) (us vs : List ℕ) (h : Head) {n k o : ℕ} (l : 65536 �
       {s t u v w : List ℕ} {at : ℕ} → at + (head_size + 2 * n + 2 * k + 2 * o) ≤ length s / 8 → Filled s t at (head_row h n k) → Filled t u (at + head_size) (gates_and_forms (entries_in begun_first n us)) →
       Filled u v (at + head_size + 2 * n) (gates_and_forms (entries_in carried_first k us)) → Filled v w (at + head_size + 2 * n + 2 * k) (kinds_and_contents (outs_in o vs)) →
       (Fits (head_size + 2 * n + 2 * k + 2 * o) ≡ written_as (fits s at the_record) the_record) × Writes s w at the_record
-  unfolding fits written_as if◌then◌else◌ head_row
+  unfolding fits written_as if◌then◌otherwise◌ head_row
   record_written {s = s} {w = w} {at = at} x a b d e =
       let y : at + head_size + 2 * n ≡ at + head_size + length (gates_and_forms (entries_in begun_first n us)) = omega (arith, length_units (entries_in begun_first n us), entries_length begun_first n us) in
       let z : at + head_size + 2 * n + 2 * k ≡ at + head_size + 2 * n + length (gates_and_forms (entries_in carried_first k us)) = omega (arith, length_units (entries_in carried_first k us), entries_length carried_first k us) in

@@ -2,7 +2,7 @@
 use Rattle.std.specs.Prelude.{ℕ, ◌+◌, ◌≡◌, Bool, true, false, List, [], ◌++◌, leb, eqb, length, take, drop}
 use Rattle.words.specs.Words.{words, tail}
 use Rattle.model.specs.declared.Value.{Value}
-use Rattle.model.specs.Base.{if◌then◌else◌}
+use Rattle.model.specs.Base.{if◌then◌otherwise◌}
 use Rattle.model.specs.Record.{Listed, LogRecord}
 use Rattle.logging.specs.declared.Head.{Head}
 use Rattle.logging.specs.declared.Written.{Written}
@@ -19,7 +19,7 @@ record_of h begun carried outs =
       carried = carried;
       stop = h.stop;
       changed = h.changed;
-      outs = if eqb h.stop 0 then outs else [];
+      outs = if eqb h.stop 0 then outs otherwise [];
     }
 
 -- whether a record fits behind the first `at` words of a log
@@ -33,5 +33,5 @@ written_as false rs = Full
 
 -- The log became `after`: the record stands behind the first `at` words if it fits; all else is as it was.
 pub record Writes (before after : List ℕ) (at : ℕ) (rs : List ℕ) : Type 0 where
-  pub words : words after ≡ (if fits before at rs then take at (words before) ++ rs ++ drop (at + length rs) (words before) else words before)
+  pub words : words after ≡ (if fits before at rs then take at (words before) ++ rs ++ drop (at + length rs) (words before) otherwise words before)
   pub tail : tail after ≡ tail before

@@ -4,7 +4,7 @@
 ghost use Rattle.std.specs.Prelude.{◌≡◌, map, ◌+◌, ◌*◌, ◌<◌, ◌≤◌, eqb, length, get_or};
 ghost use Rattle.words.specs.Words.{words, Filled};
 ghost use Rattle.words.specs.Slices.{HasWords};
-ghost use Rattle.model.specs.Base.{if◌then◌else◌};
+ghost use Rattle.model.specs.Base.{if◌then◌otherwise◌};
 // The definitions `values` and `units` are named for what they hold, beside the slices of their names.
 ghost use Rattle.model.specs.Value.{kind_of, content_of};
 ghost use Rattle.model.specs.Record.{head_size, gates_and_forms, kinds_and_contents};
@@ -101,7 +101,7 @@ fn write_units(units: &[u8], first: usize, n: usize, log: &mut [u8], p: usize)
 // How many outputs the record of a tick with this stop shows: all, or none where there is a stop.
 fn outputs_shown(links: &[usize], stop: u64) -> usize
     requires { Linked links.now }
-    ensures { (result ≡ (if eqb stop 0 then length (net_of links.now).outputs else 0)) × (result ≤ most_outputs) }
+    ensures { (result ≡ (if eqb stop 0 then length (net_of links.now).outputs otherwise 0)) × (result ≤ most_outputs) }
 {
     if stop == 0 { outputs(links) } else { 0 }
 }

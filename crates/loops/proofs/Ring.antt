@@ -12,7 +12,7 @@ use Rattle.lists.specs.declared.Taken.{Taken}
 use Rattle.lists.specs.declared.Taken.TheVariants.{Empty, Entry}
 use Rattle.words.specs.Words.{signed}
 use Rattle.words.specs.Tables.{digits}
-use Rattle.model.specs.Base.{if◌then◌else◌}
+use Rattle.model.specs.Base.{if◌then◌otherwise◌}
 use Rattle.model.specs.Circuit.{Circuit, kind_of_gate, output, gate_at_input}
 use Rattle.model.specs.State.{State, unions_passed≔, runs_left≔, wires≔}
 use Rattle.model.specs.Exec.{read}
@@ -201,7 +201,7 @@ module _ (c : Circuit) (deep : ℕ) (inside : Bool) (i g k left : ℕ) (eg : g �
   kind_is = ek ∙ ap (kind_of_gate c) eg
 
   pub operate_call : (k ≡ 29 → ⊥) → (b : Contents) (r : Ran) → Runs a b r (make_call c inside i (started a left)) → Runs a b r entered
-  unfolding operate if◌then◌else◌
+  unfolding operate if◌then◌otherwise◌
   operate_call n b r m = let e : eqb (kind_of_gate c (gate_at_input c i)) 29 ≡ false = ne_eqb _ 29 (λ z. n (kind_is ∙ z)) in subst (Runs a b r) (sym (rw (e, operate) refl)) m
 
   module _ (l : k ≡ 29) (b : Contents) (ran : Ran) (m : Runs a b ran (run_loop c (run_body c deep) g (started a left))) where
@@ -209,7 +209,7 @@ module _ (c : Circuit) (deep : ℕ) (inside : Bool) (i g k left : ℕ) (eg : g �
     looped = run_loop c (run_body c deep) g (started a left)
 
     entered_is : entered ≡ unless_stopped (fire_output c (output c g 0)) looped
-    unfolding operate if◌then◌else◌
+    unfolding operate if◌then◌otherwise◌
     entered_is =
         let e : eqb (kind_of_gate c (gate_at_input c i)) 29 ≡ true = eq-eqb _ 29 (sym kind_is ∙ l) in
         let z : entered ≡ unless_stopped (fire_output c (output c (gate_at_input c i) 0)) (run_loop c (run_body c deep) (gate_at_input c i) (started a left)) = rw (e, operate) refl in

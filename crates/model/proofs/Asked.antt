@@ -6,7 +6,7 @@ use mathlib.Core.Option.{Option}
 use Prim.Native.Nat.{ℕ, zero, suc, ◌≤◌}
 use native.Mathlib.Omega.{arith}
 use Rattle.words.specs.Words.{words}
-use Rattle.model.specs.Base.{if◌then◌else◌}
+use Rattle.model.specs.Base.{if◌then◌otherwise◌}
 use Rattle.model.specs.Circuit.{circuit}
 use Rattle.model.specs.Questions.{Areas, question_1, question_2, question_3, question_4, question_5, question_19, question_6, question_7, question_8, question_9, question_10, circuit_refusal, script_refusal, or_else, refusal}
 
@@ -24,8 +24,8 @@ pub record Accepted (areas : Option Areas) (circuit_bytes script_bytes : List �
   pub stimuli : question_10 (words script_bytes) (circuit (words circuit_bytes)) ≡ true
 
 -- a question that did not refuse, and those after it
-yes : (b : Bool) (n : ℕ) {x : ℕ} → 1 ≤ n → (if not b then n else x) ≡ 0 → (b ≡ true) × (x ≡ 0)
-unfolding if◌then◌else◌
+yes : (b : Bool) (n : ℕ) {x : ℕ} → 1 ≤ n → (if not b then n otherwise x) ≡ 0 → (b ≡ true) × (x ≡ 0)
+unfolding if◌then◌otherwise◌
 yes true n l h = (refl, h)
 yes false n l h = absurd (omega arith)
 

@@ -9,7 +9,7 @@ use native.Mathlib.Omega.{arith}
 use lib.Dec.{leb, eqb}
 use lib.ListN.{length}
 use borrow.Author.Tests.{eqb-true, eq-eqb, ne_eqb, le-leb}
-use Rattle.model.specs.Base.{if◌then◌else◌}
+use Rattle.model.specs.Base.{if◌then◌otherwise◌}
 use Rattle.model.specs.Circuit.{Circuit}
 use Rattle.model.specs.State.{State, Act}
 use Rattle.model.specs.Chain.{Calls, no_calls, Popped, pop_fork, pop, Chained, chained, next, make_step, run_calls, runaway}
@@ -151,7 +151,7 @@ module _ (c : Circuit) (deep : ℕ) (inside : Bool) (under : ℕ) where
 
 -- no call is left where none is to be made, outside bodies
 pop_none : (q : Calls) → pop false 0 q.stack q.forks ≡ none → q ≡ no_calls
-unfolding pop pop_fork if◌then◌else◌
+unfolding pop pop_fork if◌then◌otherwise◌
 pop_none q h = go q.stack q.forks refl refl h
   where
     go : (st fs : List ℕ) → q.stack ≡ st → q.forks ≡ fs → pop false 0 st fs ≡ none → q ≡ no_calls
@@ -170,7 +170,7 @@ unit_ended c w a h = chain_ended c w.left _ _ h
 
 -- what follows a chain stops where the chain did
 pub finish_stop : (c : Circuit) (w : World) (r : Chained) → (finish_chain c w r).stop ≡ r.stop
-unfolding finish_chain if◌then◌else◌
+unfolding finish_chain if◌then◌otherwise◌
 finish_stop c w r = go (eqb r.stop 0) refl
   where
     go : (b : Bool) → eqb r.stop 0 ≡ b → (finish_chain c w r).stop ≡ r.stop

@@ -9,7 +9,7 @@ use lib.Dec.{leb}
 use lib.ListN.{length, length-map}
 use borrow.Author.Tests.{lt-leb, ne_eqb}
 use Rattle.words.specs.Words.{words}
-use Rattle.model.specs.Base.{if◌then◌else◌, all, among, from}
+use Rattle.model.specs.Base.{if◌then◌otherwise◌, all, among, from}
 use Rattle.model.specs.Circuit.{Circuit, circuit}
 use Rattle.model.specs.Questions.{Areas, within, circuit_refusal, script_refusal, or_else, refusal, questions_opened}
 use Rattle.model.specs.Answer.{refused, answer_to, answer, number}
@@ -21,12 +21,12 @@ use Rattle.model.proofs.Ends.{stop_as}
 
 -- no bytes are no script
 no_script : (c : Circuit) → script_refusal c [] ≡ 8
-unfolding questions_opened words if◌then◌else◌
+unfolding questions_opened words if◌then◌otherwise◌
 no_script c = refl
 
 -- a string that leaves its book has none
 pub entry_leaves : (book : List ℕ) (k : ℕ) → length book < start_of book k + length_of book k → entry book k ≡ []
-unfolding entry if◌then◌else◌
+unfolding entry if◌then◌otherwise◌
 entry_leaves book k h = rw (lt-leb (start_of book k + length_of book k) (length book) h)
 
 -- so a script that does is refused as 8, where the circuit is not refused
@@ -75,6 +75,6 @@ class_numbers areas room cb book = go (circuit_refusal (some areas) cb) refl (ci
         all_mapped [] h = refl
         all_mapped (sb ∷ sbs) h = rw (script_numbered areas (part_of (count book) room) cb sb h) (all_mapped sbs h)
 
-    go : (n : ℕ) → circuit_refusal (some areas) cb ≡ n → among n (0 ∷ 1 ∷ 2 ∷ 3 ∷ 4 ∷ 5 ∷ 6 ∷ 7 ∷ 19 ∷ no_book ∷ []) ≡ true → P (or_else n (if good_book most_scripts book then 0 else no_book))
+    go : (n : ℕ) → circuit_refusal (some areas) cb ≡ n → among n (0 ∷ 1 ∷ 2 ∷ 3 ∷ 4 ∷ 5 ∷ 6 ∷ 7 ∷ 19 ∷ no_book ∷ []) ≡ true → P (or_else n (if good_book most_scripts book then 0 otherwise no_book))
     go zero e h = if_by P (good_book most_scripts book) (few e) (λ g. is_turned_away refl)
     go (suc n) e h = is_turned_away (subst (λ (b : Bool). (b || among (suc n) (1 ∷ 2 ∷ 3 ∷ 4 ∷ 5 ∷ 6 ∷ 7 ∷ 19 ∷ no_book ∷ [])) ≡ true) (ne_eqb (suc n) 0 (λ z. omega (arith, z))) h)

@@ -18,7 +18,7 @@ use Rattle.schedule.proofs.Theorems.{erasure}
 use Rattle.schedule.proofs.Keeps.{tick_spends}
 use Rattle.schedule.proofs.Every.{each_given}
 use Rattle.schedule.proofs.Members.{all_map, all_append}
-use Rattle.model.specs.Base.{if◌then◌else◌, from}
+use Rattle.model.specs.Base.{if◌then◌otherwise◌, from}
 use Rattle.model.specs.Value.{bit, narrow_changes}
 use Rattle.model.specs.Kinds.{buffering}
 use Rattle.model.specs.Circuit.{Circuit, most_gates, circuit, gates_such, gate_at_input}
@@ -55,11 +55,11 @@ unfolding tally
 tally_grows n b = if_both (λ x. n ≤ x) _ (omega arith) (omega arith)
 
 pub tally_exact : (n : ℕ) (b : Bool) → tally n b < most_changed → tally n b ≡ n + bit b
-unfolding tally if◌then◌else◌ bit
+unfolding tally if◌then◌otherwise◌ bit
 tally_exact n false l = omega arith
 tally_exact n true l = go (ltb n most_changed) refl l
   where
-    go : (b : Bool) → ltb n most_changed ≡ b → (if b then suc n else n) < most_changed → (if b then suc n else n) ≡ n + 1
+    go : (b : Bool) → ltb n most_changed ≡ b → (if b then suc n otherwise n) < most_changed → (if b then suc n otherwise n) ≡ n + 1
     go true e l = omega arith
     go false e l = absurd (omega (arith, ltb-false n most_changed e))
 

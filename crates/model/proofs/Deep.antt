@@ -11,7 +11,7 @@ use lib.Dec.{ltb, eqb}
 use lib.IntN.{ℤ}
 use lib.ListN.{length}
 use borrow.Author.Tests.{eqb-true, le-leb, lt-leb, ltb-true}
-use Rattle.model.specs.Base.{if◌then◌else◌, keep, all}
+use Rattle.model.specs.Base.{if◌then◌otherwise◌, keep, all}
 use Rattle.model.specs.Kinds.{kind_at, kinds_opened}
 use Rattle.model.specs.Circuit.{Call, Circuit, circuit, kind_of_gate, body_of_gate, entry_of_loop, output, gate_at_input, gate_at_output, calls_of}
 use Rattle.model.specs.State.{State}
@@ -188,7 +188,7 @@ data Above (c : Circuit) (b : ℕ) (around : List ℕ) : List ℕ → Type 0 whe
   one_more : {i : ℕ} {st : List ℕ} → Inside c b i → Above c b around st → Above c b around (i ∷ st)
 
 pop_no_more : (st fs : List ℕ) → pop true (length st) st fs ≡ none
-unfolding pop pop_fork if◌then◌else◌
+unfolding pop pop_fork if◌then◌otherwise◌
 pop_no_more [] fs = refl
 pop_no_more (i ∷ st) fs = rw (lt-leb (suc (length st)) (length st) (omega arith), pop)
 
@@ -198,7 +198,7 @@ module _ (c : Circuit) (b : ℕ) (around : List ℕ) where
   above_most (one_more e a) = omega (arith, above_most a)
 
   pop_one_more : (i : ℕ) (st fs : List ℕ) → Above c b around st → pop true (length around) (i ∷ st) fs ≡ some (record { input = i; rest = record { stack = st; forks = fs } })
-  unfolding pop if◌then◌else◌
+  unfolding pop if◌then◌otherwise◌
   pop_one_more i st fs a = rw (le-leb (length around) (length st) (above_most a), pop)
 
   pop_above : (st fs : List ℕ) (t : Popped) → pop true (length around) st fs ≡ some t → Above c b around st → Inside c b t.input × Above c b around t.rest.stack

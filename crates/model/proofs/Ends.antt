@@ -11,7 +11,7 @@ use Rattle.words.specs.Words.{words}
 use Rattle.schedule.specs.Schedule.{list_full, log_full, most_units, Raise, When, Setup, plain, Took, empty, took, Filed, full, filed, Activation, push_all, activate_open, activate_late, activate_main, next_late, next_main, raise_on, raise_all, pass_on, pass, no_turn, turning, late_pass, main_pass, Tick, outcome, tick}
 use Rattle.schedule.specs.Promise.{All, ◌∷·◌}
 use Rattle.schedule.proofs.Every.{every}
-use Rattle.model.specs.Base.{if◌then◌else◌, among}
+use Rattle.model.specs.Base.{if◌then◌otherwise◌, among}
 use Rattle.model.specs.Circuit.{Circuit, circuit}
 use Rattle.model.specs.State.{State, Act}
 use Rattle.model.specs.Chain.{Calls, chained, fire_output, make_call, runaway}
@@ -27,7 +27,7 @@ use Rattle.model.proofs.Chains.{finish_stop}
 -- ---- a stop of the machine: one of 0, 11, 12, 13
 
 module _ (Q : ℕ → Type 0) (z : Q 0) (r : Q runaway) (f : Q list_full) where
-  by_fit : (b : Bool) → Q (if b then 0 else list_full)
+  by_fit : (b : Bool) → Q (if b then 0 otherwise list_full)
   by_fit b = if_both Q b z f
 
   stops : (c : Circuit) → RunKeeps c (λ r. Q r.stop)

@@ -13,7 +13,7 @@ use borrow.Author.Tests.{eqb-true, eqb-false}
 use Rattle.schedule.specs.Promise.{All, [·], ◌∷·◌}
 use Rattle.model.specs.declared.Value.{Value}
 use Rattle.model.specs.declared.Value.TheVariants.{Nothing, Float}
-use Rattle.model.specs.Base.{if◌then◌else◌}
+use Rattle.model.specs.Base.{if◌then◌otherwise◌}
 use Rattle.model.specs.Value.{same}
 use Rattle.model.specs.Circuit.{Circuit, input, output, source, stored_in, gate_at_output, watching, gates}
 use Rattle.model.specs.State.{Wires, outs≔, dirty≔, to_check≔, late_checks≔}
@@ -161,7 +161,7 @@ module _ (c : Circuit) where
     watch_fine w i q f = fine_as (watch_alike w i) refl (watch_sized c w i q f.sized) (watch_right c W t late w i [] f.right) f
 
     pub set_out_fine : (w : Wires) (o : ℕ) (v : Value) → Other c o → Real v → Fine t late w → Fine t late (set_out c w o v)
-    unfolding set_out show outs≔ shown if◌then◌else◌
+    unfolding set_out show outs≔ shown if◌then◌otherwise◌
     set_out_fine w o v u r f =
         let z = set_out_sized c w o v f.sized in
         let y = set_out_right c W t late w o v f.sized u f.right in
@@ -184,8 +184,8 @@ module _ (c : Circuit) where
         go = by_test (same (get_or w.outs o Nothing) v)
           where
             by_test :
-                (b : Bool) → SizedWires c (if b then w else mark_readers c (show w o v) o) → AllRight c t late [] (if b then w else mark_readers c (show w o v) o) →
-                Fine t late (if b then w else mark_readers c (show w o v) o)
+                (b : Bool) → SizedWires c (if b then w otherwise mark_readers c (show w o v) o) → AllRight c t late [] (if b then w otherwise mark_readers c (show w o v) o) →
+                Fine t late (if b then w otherwise mark_readers c (show w o v) o)
             by_test true z y = f
             by_test false z y = shown_fine z y
 

@@ -14,7 +14,7 @@ use Rattle.schedule.specs.Schedule.{Raise, Outcome, plain, Activation, Tick, tic
 use Rattle.schedule.specs.Promise.{All, [·]}
 use Rattle.schedule.specs.Keeping.{DidKeep}
 use Rattle.schedule.proofs.Keeps.{tick_closes}
-use Rattle.model.specs.Base.{if◌then◌else◌, joined}
+use Rattle.model.specs.Base.{if◌then◌otherwise◌, joined}
 use Rattle.model.specs.Circuit.{Circuit, circuit}
 use Rattle.model.specs.State.{State, Act}
 use Rattle.model.specs.Unit.{World, state≔, raises_in, finish_chain}
@@ -26,7 +26,7 @@ use Rattle.model.proofs.Lists.{if_both, map_all, all_of}
 
 -- a record takes its bytes from what is free
 write_room : (w : World) (r : List ℕ) → 8 * length (write w r).world.logged + (write w r).world.room ≡ w.room
-unfolding write if◌then◌else◌
+unfolding write if◌then◌otherwise◌
 write_room w r = go (leb (8 * length r) w.room) refl
   where
     go : (b : Bool) → leb (8 * length r) w.room ≡ b → 8 * length (write w r).world.logged + (write w r).world.room ≡ w.room

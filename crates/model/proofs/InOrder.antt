@@ -16,7 +16,7 @@ use Rattle.schedule.proofs.Theorems.{order, follows, erasure, ran_as_told}
 use Rattle.schedule.proofs.Whole.{comes_in}
 use Rattle.schedule.proofs.Every.{each_given}
 use Rattle.schedule.proofs.Members.{all_map}
-use Rattle.model.specs.Base.{if◌then◌else◌}
+use Rattle.model.specs.Base.{if◌then◌otherwise◌}
 use Rattle.model.specs.Circuit.{Circuit, circuit}
 use Rattle.model.specs.State.{Act}
 use Rattle.model.specs.Unit.{World, state≔, run_unit}
@@ -34,16 +34,16 @@ use Rattle.model.proofs.Chains.{unit_ended, finish_stop}
 -- ---- writing a record
 
 pub write_fits : (w : World) (r : List ℕ) → leb (8 * length r) w.room ≡ true → ((write w r).world.logged ≡ r) × ((write w r).fits ≡ true)
-unfolding write if◌then◌else◌
+unfolding write if◌then◌otherwise◌
 write_fits w r h = (rw h, rw h)
 
 pub write_over : (w : World) (r : List ℕ) → leb (8 * length r) w.room ≡ false → ((write w r).world.logged ≡ []) × ((write w r).fits ≡ false)
-unfolding write if◌then◌else◌
+unfolding write if◌then◌otherwise◌
 write_over w r h = (rw h, rw h)
 
 -- a record is the same after it was written
 written : (limit : ℕ) (w : World) (r : List ℕ) (o : Outcome Act) → log_record limit (write w r).world o ≡ log_record limit w o
-unfolding write if◌then◌else◌ log_record steps outputs_shown
+unfolding write if◌then◌otherwise◌ log_record steps outputs_shown
 written limit w r o = go (leb (8 * length r) w.room) refl
   where
     go : (b : Bool) → leb (8 * length r) w.room ≡ b → log_record limit (write w r).world o ≡ log_record limit w o
@@ -105,11 +105,11 @@ module _ (c : Circuit) where
   all_recorded is w = each_given S (Recorded c) tick_recorded is w
 
   -- it shows all outputs, or none, so it can be read back
-  shows_all : (limit : ℕ) (w : World) (o : Outcome Act) → WorldSized c w → length (log_record limit w o).outs ≡ (if eqb (log_record limit w o).stop 0 then length c.outputs else 0)
-  unfolding log_record outputs_shown if◌then◌else◌
+  shows_all : (limit : ℕ) (w : World) (o : Outcome Act) → WorldSized c w → length (log_record limit w o).outs ≡ (if eqb (log_record limit w o).stop 0 then length c.outputs otherwise 0)
+  unfolding log_record outputs_shown if◌then◌otherwise◌
   shows_all limit w o z = go (eqb o.stop 0)
     where
-      go : (b : Bool) → length (if b then w.state.wires.outs else []) ≡ (if b then length c.outputs else 0)
+      go : (b : Bool) → length (if b then w.state.wires.outs otherwise []) ≡ (if b then length c.outputs otherwise 0)
       go true = z.wires.outs
       go false = refl
 

@@ -10,26 +10,26 @@ use lib.Dec.{eqb}
 use lib.ListN.{length, get_or, set, replicate, length-append}
 use borrow.Author.Tests.{eqb-true, eqb-false, eq-eqb}
 use Rattle.schedule.specs.Promise.{All, [·], ◌∷·◌}
-use Rattle.model.specs.Base.{if◌then◌else◌, keep, all, each, snoc, among, both, from}
+use Rattle.model.specs.Base.{if◌then◌otherwise◌, keep, all, each, snoc, among, both, from}
 use Rattle.model.specs.Value.{bit}
 
 -- ---- choices
 
-pub if_both : {A : Type 0} (P : A → Type 0) (b : Bool) {x y : A} → P x → P y → P (if b then x else y)
-unfolding if◌then◌else◌
+pub if_both : {A : Type 0} (P : A → Type 0) (b : Bool) {x y : A} → P x → P y → P (if b then x otherwise y)
+unfolding if◌then◌otherwise◌
 if_both P true p q = p
 if_both P false p q = q
 
-pub if_by : {A : Type 0} (P : A → Type 0) (b : Bool) {x y : A} → (b ≡ true → P x) → (b ≡ false → P y) → P (if b then x else y)
-unfolding if◌then◌else◌
+pub if_by : {A : Type 0} (P : A → Type 0) (b : Bool) {x y : A} → (b ≡ true → P x) → (b ≡ false → P y) → P (if b then x otherwise y)
+unfolding if◌then◌otherwise◌
 if_by P true p q = p refl
 if_by P false p q = q refl
 
 -- two choices by tests that come out the same
 pub if_alike :
     {A : Type 0} (P : A → A → Type 0) (a b : Bool) {x y x' y' : A} → a ≡ b → (a ≡ true → P x x') → (a ≡ false → P y y') →
-    P (if a then x else y) (if b then x' else y')
-unfolding if◌then◌else◌
+    P (if a then x otherwise y) (if b then x' otherwise y')
+unfolding if◌then◌otherwise◌
 if_alike P true true e p q = p refl
 if_alike P true false e p q = absurd (true≢false e)
 if_alike P false true e p q = absurd (true≢false (sym e))
@@ -109,33 +109,33 @@ each_same P f g q e k b (x ∷ xs) h p =
 
 -- each of those that pass a test
 pub each_such :
-    {A B : Type 0} (p : A → Bool) (f : B → A → B) (b : B) (xs : List A) → each (λ b a. if p a then f b a else b) b xs ≡ each f b (keep p xs)
-unfolding each keep if◌then◌else◌
+    {A B : Type 0} (p : A → Bool) (f : B → A → B) (b : B) (xs : List A) → each (λ b a. if p a then f b a otherwise b) b xs ≡ each f b (keep p xs)
+unfolding each keep if◌then◌otherwise◌
 each_such p f b [] = refl
 each_such {A} {B} p f b (x ∷ xs) = go (p x) (λ d. each_such p f d xs)
   where
-    go : (t : Bool) → ((d : B) → each (λ b a. if p a then f b a else b) d xs ≡ each f d (keep p xs)) →
-        each (λ b a. if p a then f b a else b) (if t then f b x else b) xs ≡ each f b (if t then x ∷ keep p xs else keep p xs)
+    go : (t : Bool) → ((d : B) → each (λ b a. if p a then f b a otherwise b) d xs ≡ each f d (keep p xs)) →
+        each (λ b a. if p a then f b a otherwise b) (if t then f b x otherwise b) xs ≡ each f b (if t then x ∷ keep p xs otherwise keep p xs)
     go true rec = rec (f b x)
     go false rec = rec b
 
 -- ---- tests of every member
 
 pub all_keep : {A : Type 0} (p : A → Bool) (xs : List A) → all p (keep p xs) ≡ true
-unfolding all keep if◌then◌else◌
+unfolding all keep if◌then◌otherwise◌
 all_keep p [] = refl
 all_keep p (x ∷ xs) = go (p x) refl (all_keep p xs)
   where
-    go : (b : Bool) → p x ≡ b → all p (keep p xs) ≡ true → all p (if b then x ∷ keep p xs else keep p xs) ≡ true
+    go : (b : Bool) → p x ≡ b → all p (keep p xs) ≡ true → all p (if b then x ∷ keep p xs otherwise keep p xs) ≡ true
     go true e h = rw (e, h)
     go false e h = h
 
 pub keep_most : {A : Type 0} (p : A → Bool) (xs : List A) → length (keep p xs) ≤ length xs
-unfolding keep if◌then◌else◌
+unfolding keep if◌then◌otherwise◌
 keep_most p [] = omega arith
 keep_most p (x ∷ xs) = go (p x) (keep_most p xs)
   where
-    go : (b : Bool) → length (keep p xs) ≤ length xs → length (if b then x ∷ keep p xs else keep p xs) ≤ suc (length xs)
+    go : (b : Bool) → length (keep p xs) ≤ length xs → length (if b then x ∷ keep p xs otherwise keep p xs) ≤ suc (length xs)
     go true h = omega (arith, h)
     go false h = omega (arith, h)
 
@@ -370,20 +370,20 @@ neither_among o x os n e = not_so _ λ q. go (among_either o x os q)
     go (inr p) = clash p e
 
 pub keep_append : {A : Type 0} (p : A → Bool) (xs ys : List A) → keep p (xs ++ ys) ≡ keep p xs ++ keep p ys
-unfolding keep if◌then◌else◌
+unfolding keep if◌then◌otherwise◌
 keep_append p [] ys = refl
 keep_append {A} p (x ∷ xs) ys = go (p x) (keep_append p xs ys)
   where
-    go : (b : Bool) → keep p (xs ++ ys) ≡ keep p xs ++ keep p ys → (if b then x ∷ keep p (xs ++ ys) else keep p (xs ++ ys)) ≡ (if b then x ∷ keep p xs else keep p xs) ++ keep p ys
+    go : (b : Bool) → keep p (xs ++ ys) ≡ keep p xs ++ keep p ys → (if b then x ∷ keep p (xs ++ ys) otherwise keep p (xs ++ ys)) ≡ (if b then x ∷ keep p xs otherwise keep p xs) ++ keep p ys
     go true h = ap (λ (l : List A). x ∷ l) h
     go false h = h
 
 pub among_keep : (p : ℕ → Bool) (x : ℕ) (xs : List ℕ) → among x xs ≡ true → p x ≡ true → among x (keep p xs) ≡ true
-unfolding keep if◌then◌else◌
+unfolding keep if◌then◌otherwise◌
 among_keep p x [] e q = e
 among_keep p x (y ∷ xs) e q = go (p y) refl (among_either x y xs e) (λ h. among_keep p x xs h q)
   where
-    go : (b : Bool) → p y ≡ b → (x ≡ y) ⊎ (among x xs ≡ true) → (among x xs ≡ true → among x (keep p xs) ≡ true) → among x (if b then y ∷ keep p xs else keep p xs) ≡ true
+    go : (b : Bool) → p y ≡ b → (x ≡ y) ⊎ (among x xs ≡ true) → (among x xs ≡ true → among x (keep p xs) ≡ true) → among x (if b then y ∷ keep p xs otherwise keep p xs) ≡ true
     go true h (inl s) rec = subst (λ z. among x (z ∷ keep p xs) ≡ true) s (among_first x (keep p xs))
     go true h (inr s) rec = among_later x y (keep p xs) (rec s)
     go false h (inl s) rec = clash (ap p (sym s) ∙ q) h

@@ -10,7 +10,7 @@ use native.Mathlib.Omega.{arith}
 use lib.Dec.{eqb}
 use lib.ListN.{length, get_or}
 use borrow.Author.Tests.{eqb-true, ne_eqb}
-use Rattle.model.specs.Base.{if◌then◌else◌, all, keep, among, from}
+use Rattle.model.specs.Base.{if◌then◌otherwise◌, all, keep, among, from}
 use Rattle.model.specs.Circuit.{Call, Circuit, circuit, word_at, names, kind_of_gate, entry_of_loop, body_of_gate, gate_at_input, gate_at_output, calls_of, gates}
 use Rattle.model.specs.Questions.{calls_inside, in_a_body, entries_of, has_entry, comes_out, question_1, question_19}
 use Rattle.model.proofs.Lists.{both_true, all_keep, all_among, among_from, among_first, among_later, among_either, map_from}
@@ -19,7 +19,7 @@ use Rattle.model.proofs.Kept.{gate_in}
 
 -- a member that passed a test was a member before
 among_kept : (p : ℕ → Bool) (xs : List ℕ) (e : ℕ) → among e (keep p xs) ≡ true → among e xs ≡ true
-unfolding keep if◌then◌else◌
+unfolding keep if◌then◌otherwise◌
 among_kept p [] e h = h
 among_kept p (x ∷ xs) e h = go (p x) h (among_kept p xs e)
   where
@@ -27,7 +27,7 @@ among_kept p (x ∷ xs) e h = go (p x) h (among_kept p xs e)
     first (inl k) rec = rw k (among_first x xs)
     first (inr k) rec = among_later e x xs (rec k)
 
-    go : (b : Bool) → among e (if b then x ∷ keep p xs else keep p xs) ≡ true → (among e (keep p xs) ≡ true → among e xs ≡ true) → among e (x ∷ xs) ≡ true
+    go : (b : Bool) → among e (if b then x ∷ keep p xs otherwise keep p xs) ≡ true → (among e (keep p xs) ≡ true → among e xs ≡ true) → among e (x ∷ xs) ≡ true
     go true h rec = first (among_either e x (keep p xs) h) rec
     go false h rec = among_later e x xs (rec h)
 

@@ -19,7 +19,7 @@ use Rattle.schedule.proofs.Erase.{map_append}
 use Rattle.schedule.proofs.Theorems.{begins_pending}
 use Rattle.model.specs.declared.Value.{Value}
 use Rattle.model.specs.declared.Value.TheVariants.{Nothing}
-use Rattle.model.specs.Base.{if◌then◌else◌, each, keep, snoc, from}
+use Rattle.model.specs.Base.{if◌then◌otherwise◌, each, keep, snoc, from}
 use Rattle.model.specs.Circuit.{Circuit, circuit, kind_of_gate, input, gate_at_input, watching}
 use Rattle.model.specs.Script.{Given}
 use Rattle.model.specs.State.{Wires, State, Act, outs≔, dirty≔, to_check≔, late_checks≔, last≔, wires≔}
@@ -45,14 +45,14 @@ use Rattle.model.proofs.Visiting.{opening_waits, due, Visited, refreshed, settle
 module _ (c : Circuit) (f : Few c) where
   -- one that does not wait is queued last
   watch_new : (w : Wires) (j : ℕ) → SizedWires c w → get_or w.queued j true ≡ false → watch w j ≡ to_check≔ w (snoc w.to_check j) (set w.queued j true)
-  unfolding if◌then◌else◌
+  unfolding if◌then◌otherwise◌
   watch_new w j z e = (few_roomy c f).watching w j z ∙ rw e refl
 
   -- inputs from a on, none of which waits, are queued one behind the other
   watch_each :
       (k a : ℕ) (w : Wires) → SizedWires c w → ((j : ℕ) → a ≤ j → j < a + k → get_or w.queued j true ≡ false) →
       (each watch w (keep (watching c) (from a k))).to_check ≡ w.to_check ++ keep (watching c) (from a k)
-  unfolding each keep from if◌then◌else◌ to_check≔ snoc
+  unfolding each keep from if◌then◌otherwise◌ to_check≔ snoc
   watch_each zero a w z u = sym (append-nil w.to_check)
   watch_each (suc k) a w z u = go (watching c a) refl (watch_each k (suc a))
     where
@@ -60,8 +60,8 @@ module _ (c : Circuit) (f : Few c) where
           (b : Bool) → watching c a ≡ b →
           ((v : Wires) → SizedWires c v → ((j : ℕ) → suc a ≤ j → j < suc a + k → get_or v.queued j true ≡ false) →
           (each watch v (keep (watching c) (from (suc a) k))).to_check ≡ v.to_check ++ keep (watching c) (from (suc a) k)) →
-          (each watch w (if b then a ∷ keep (watching c) (from (suc a) k) else keep (watching c) (from (suc a) k))).to_check
-          ≡ w.to_check ++ (if b then a ∷ keep (watching c) (from (suc a) k) else keep (watching c) (from (suc a) k))
+          (each watch w (if b then a ∷ keep (watching c) (from (suc a) k) otherwise keep (watching c) (from (suc a) k))).to_check
+          ≡ w.to_check ++ (if b then a ∷ keep (watching c) (from (suc a) k) otherwise keep (watching c) (from (suc a) k))
       go true e rec =
           let q = watch_new w a z (u a (omega arith) (omega arith)) in
           rec (watch w a) (watch_sized c w a e z)
@@ -108,11 +108,11 @@ module _ (c : Circuit) (f : Few c) where
   below i = keep (watching c) (from 0 i)
 
   below_others : (k a i : ℕ) → a + k ≤ i → All (λ p. i ≢ p) (keep (watching c) (from a k))
-  unfolding keep from if◌then◌else◌
+  unfolding keep from if◌then◌otherwise◌
   below_others zero a i l = [·]
   below_others (suc k) a i l = go (watching c a) (below_others k (suc a) i (omega arith))
     where
-      go : (b : Bool) → All (λ p. i ≢ p) (keep (watching c) (from (suc a) k)) → All (λ p. i ≢ p) (if b then a ∷ keep (watching c) (from (suc a) k) else keep (watching c) (from (suc a) k))
+      go : (b : Bool) → All (λ p. i ≢ p) (keep (watching c) (from (suc a) k)) → All (λ p. i ≢ p) (if b then a ∷ keep (watching c) (from (suc a) k) otherwise keep (watching c) (from (suc a) k))
       go true r = ◌∷·◌ (λ (q : i ≡ a). omega (arith, q, l)) r
       go false r = r
 
@@ -127,7 +127,7 @@ module _ (c : Circuit) (f : Few c) where
       ∙ ap (λ k. keep (watching c) (from 0 k)) e
       ∙ ap (keep (watching c)) (from_append 0 i (suc (n - suc i)) ∙ ap (λ a. from 0 i ++ from a (suc (n - suc i))) (zero-add i))
       ∙ keep_append (watching c) (from 0 i) (from i (suc (n - suc i)))
-      ∙ ap (λ js. below i ++ js) (unfold from keep if◌then◌else◌ in (rw q refl))
+      ∙ ap (λ js. below i ++ js) (unfold from keep if◌then◌otherwise◌ in (rw q refl))
 
   start_visits :
       Laid c → (given : Given) (i : ℕ) → i < length c.pins → watching c i ≡ true →
@@ -194,12 +194,12 @@ module _ (c : Circuit) (when : When) (s : State) (i : ℕ) (e : get_or s.wires.l
   pub as_change :
       let g = gate_at_input c i in
       check c when s i ≡ detect c (kind_of_gate c g) when read_first g (i - input c g 0) Nothing (look c (ready c s.wires i) i)
-  unfolding check compared unchanged last_value wires≔ last≔ if◌then◌else◌
+  unfolding check compared unchanged last_value wires≔ last≔ if◌then◌otherwise◌
   as_change = rw e refl
 
   -- so a ChangeDetector fires, though it reads nothing
   detector_fires : kind_of_gate c (gate_at_input c i) ≡ 6 → map (λ (r : Raise State Act When). r.act) (check c when s i).raises ≡ fire 1 (gate_at_input c i)
-  unfolding detect raise fire if◌then◌else◌
+  unfolding detect raise fire if◌then◌otherwise◌
   detector_fires k = rw (as_change, k) refl
 
 -- ---- the theorems
@@ -243,7 +243,7 @@ pub begins_first :
     (areas : Option Areas) (circuit_bytes script_bytes : List ℕ) → refusal areas circuit_bytes script_bytes ≡ 0 →
     let c = circuit (words circuit_bytes) in
     (room : ℕ) (i : Allowed) (j : ℕ) → j < length c.pins → watching c j ≡ true → BeginsFirst c room i j
-unfolding fire_of fire if◌then◌else◌ wires≔ taken to_check≔ late_checks≔
+unfolding fire_of fire if◌then◌otherwise◌ wires≔ taken to_check≔ late_checks≔
 begins_first areas cb sb h room i j l q k e =
     let c = circuit (words cb) in
     let z = ((noticed areas cb sb h).in_tick_1 room i).each j l q in

@@ -7,7 +7,7 @@ use native.Mathlib.Omega.{arith}
 use lib.Dec.{eqb}
 use lib.ListN.{length}
 use borrow.Author.Tests.{eqb-true, eq-eqb}
-use Rattle.model.specs.Base.{if◌then◌else◌, keep, snoc, among}
+use Rattle.model.specs.Base.{if◌then◌otherwise◌, keep, snoc, among}
 use Rattle.model.proofs.Lists.{either_false, snoc_length}
 
 -- made by adding one at a time that is among `all` and was not there
@@ -30,34 +30,34 @@ unfoldable others : ℕ → List ℕ → List ℕ
 others x ys = keep (λ y. not (eqb x y)) ys
 
 others_most : (x : ℕ) (ys : List ℕ) → length (others x ys) ≤ length ys
-unfolding others keep if◌then◌else◌
+unfolding others keep if◌then◌otherwise◌
 others_most x [] = omega arith
 others_most x (y ∷ ys) = go (eqb x y) (others_most x ys)
   where
-    go : (b : Bool) → length (others x ys) ≤ length ys → length (if not b then y ∷ others x ys else others x ys) ≤ suc (length ys)
+    go : (b : Bool) → length (others x ys) ≤ length ys → length (if not b then y ∷ others x ys otherwise others x ys) ≤ suc (length ys)
     go true h = omega (arith, h)
     go false h = omega (arith, h)
 
 others_fewer : (x : ℕ) (ys : List ℕ) → among x ys ≡ true → length (others x ys) < length ys
-unfolding others keep among if◌then◌else◌
+unfolding others keep among if◌then◌otherwise◌
 others_fewer x [] e = absurd (true≢false (sym e))
 others_fewer x (y ∷ ys) e = go (eqb x y) e (λ h. others_fewer x ys h)
   where
     go :
         (b : Bool) → (b || among x ys) ≡ true → (among x ys ≡ true → length (others x ys) < length ys) →
-        length (if not b then y ∷ others x ys else others x ys) < suc (length ys)
+        length (if not b then y ∷ others x ys otherwise others x ys) < suc (length ys)
     go true e rec = omega (arith, others_most x ys)
     go false e rec = omega (arith, rec e)
 
 -- another one is still among them
 others_keep : (x z : ℕ) (ys : List ℕ) → eqb x z ≡ false → among z ys ≡ true → among z (others x ys) ≡ true
-unfolding others keep among if◌then◌else◌
+unfolding others keep among if◌then◌otherwise◌
 others_keep x z [] f e = e
 others_keep x z (y ∷ ys) f e = go (eqb x y) refl (eqb z y) refl e (λ h. others_keep x z ys f h)
   where
     go :
         (b : Bool) → eqb x y ≡ b → (a : Bool) → eqb z y ≡ a → (a || among z ys) ≡ true → (among z ys ≡ true → among z (others x ys) ≡ true) →
-        among z (if not b then y ∷ others x ys else others x ys) ≡ true
+        among z (if not b then y ∷ others x ys otherwise others x ys) ≡ true
     go true g true h e rec = absurd (true≢false (sym g ∙ sym (ap (λ (k : ℕ). eqb x k) (eqb-true z y h)) ∙ f))
     go true g false h e rec = rec e
     go false g true h e rec = rw h

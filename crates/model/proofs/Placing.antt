@@ -9,7 +9,7 @@ use native.Mathlib.Omega.{arith}
 use lib.Dec.{ltb}
 use lib.ListN.{length, get_or, length-map, get_or-map, get_or-eq_default}
 use borrow.Author.Tests.{ltb-true, ltb-false, lt-ltb, le-ltb}
-use Rattle.model.specs.Base.{if◌then◌else◌, all, among, from}
+use Rattle.model.specs.Base.{if◌then◌otherwise◌, all, among, from}
 use Rattle.model.specs.Value.{bit}
 use Rattle.model.specs.Kinds.{pure}
 use Rattle.model.specs.Circuit.{Circuit, kind_of_gate, inputs_of, source, gate_at_output, gates}
@@ -28,17 +28,17 @@ pub record Ordered (c : Circuit) : Type 0 where
 -- among those below n, or else n
 first : (ℕ → Bool) → ℕ → ℕ
 first p zero = 0
-first p (suc n) = if p 0 then 0 else suc (first (λ k. p (suc k)) n)
+first p (suc n) = if p 0 then 0 otherwise suc (first (λ k. p (suc k)) n)
 
 first_least : (p : ℕ → Bool) (n k : ℕ) → k ≤ n → p k ≡ true → (first p n ≤ k) × (p (first p n) ≡ true)
-unfolding first if◌then◌else◌
+unfolding first if◌then◌otherwise◌
 first_least p zero k h e = let z : k ≡ 0 = omega arith in (omega arith, ap p (sym z) ∙ e)
 first_least p (suc n) zero h e = rw e (omega arith, e)
 first_least p (suc n) (suc k) h e = go (p 0) refl (first_least (λ j. p (suc j)) n k (omega arith) e)
   where
     go :
         (b : Bool) → p 0 ≡ b → (first (λ j. p (suc j)) n ≤ k) × (p (suc (first (λ j. p (suc j)) n)) ≡ true) →
-        ((if b then 0 else suc (first (λ j. p (suc j)) n)) ≤ suc k) × (p (if b then 0 else suc (first (λ j. p (suc j)) n)) ≡ true)
+        ((if b then 0 otherwise suc (first (λ j. p (suc j)) n)) ≤ suc k) × (p (if b then 0 otherwise suc (first (λ j. p (suc j)) n)) ≡ true)
     go true q r = (omega arith, q)
     go false q r = (omega arith, r.1)
 

@@ -9,7 +9,7 @@ use lib.ListN.{length, take, drop, length-append, length-map}
 use lib.Seq.{take_at, drop_at, drop-drop, take-append_seam, drop-append_seam}
 use Rattle.model.specs.declared.Value.{Value}
 use Rattle.model.specs.declared.Value.TheVariants.{Nothing, Int, Float, Bool as Truth}
-use Rattle.model.specs.Base.{if◌then◌else◌, both}
+use Rattle.model.specs.Base.{if◌then◌otherwise◌, both}
 use Rattle.model.specs.Value.{bit, kind_of, content_of, value_of}
 use Rattle.model.specs.Circuit.{part, word_at}
 use Rattle.model.specs.Record.{Listed, LogRecord, head_size, head, gates_and_forms, kinds_and_contents, record_words, begun_count, carried_count, stop_in, shown_count, carried_at, shown_at, record_size, listed, units_at, outputs_at, record_at}
@@ -114,7 +114,7 @@ module _ (r : LogRecord) (s : List ℕ) where
       (omega (arith, length-append (head r) (gates_and_forms begun), length_units begun, carried_is)) refl
 
   -- where it shows all of n outputs, or none if it is stopped
-  module _ (n : ℕ) (shows : length r.outs ≡ (if eqb r.stop 0 then n else 0)) where
+  module _ (n : ℕ) (shows : length r.outs ≡ (if eqb r.stop 0 then n otherwise 0)) where
     count_is : shown_count n ws ≡ length r.outs
     unfolding shown_count stop_in word_at record_words head
     count_is = sym shows

@@ -13,7 +13,7 @@ use lib.Seq.{get_or-set_same, get_or-set_other}
 use borrow.Author.Tests.{eqb-true, eqb-false, not-false, not-true}
 use Rattle.model.specs.declared.Value.{Value}
 use Rattle.model.specs.declared.Value.TheVariants.{Nothing}
-use Rattle.model.specs.Base.{if◌then◌else◌, all, each, snoc, among}
+use Rattle.model.specs.Base.{if◌then◌otherwise◌, all, each, snoc, among}
 use Rattle.model.specs.Kinds.{kind_at, pure, time_source}
 use Rattle.model.specs.Circuit.{Circuit, kind_of_gate, input, output, inputs_of, gate_at_input, source, gate_at_output, readers_of, watching}
 use Rattle.model.specs.State.{Wires, outs≔, dirty≔, to_check≔, late_checks≔}
@@ -266,7 +266,7 @@ module _ (c : Circuit) where
     reader_now :
         (m : Marking) (i : ℕ) → SizedWires c m.wires → pure (kind_of_gate c (gate_at_input c i)) ≡ true →
         is_dirty (mark_reader c m i).wires (gate_at_input c i) ≡ true
-    unfolding mark_reader soil dirty≔ is_dirty is_clean if◌then◌else◌
+    unfolding mark_reader soil dirty≔ is_dirty is_clean if◌then◌otherwise◌
     reader_now m i z p =
         let g = gate_at_input c i in
         let l : g < length m.wires.dirty = omega (arith, pure_in c g p, z.dirty) in
@@ -298,7 +298,7 @@ module _ (c : Circuit) where
     reader_queued :
         (m : Marking) (i : ℕ) → SizedWires c m.wires → watching c i ≡ true → pure (kind_of_gate c (gate_at_input c i)) ≡ false →
         get_or (mark_reader c m i).wires.queued i true ≡ true
-    unfolding mark_reader watch_for if◌then◌else◌
+    unfolding mark_reader watch_for if◌then◌otherwise◌
     reader_queued m i z a b = rw (b, a) (watch_queued _ i (if_both (SizedWires c) m.late (late_sized c m.wires i z) z))
 
     -- a gate that reads is no time source

@@ -8,7 +8,7 @@ use native.Mathlib.Omega.{arith}
 use lib.Dec.{leb, eqb}
 use lib.ListN.{length, get_or, set, length-map, length-set, get_or-map}
 use borrow.Author.Tests.{leb-true, lt-leb}
-use Rattle.model.specs.Base.{if◌then◌else◌, all, snoc, among, sum}
+use Rattle.model.specs.Base.{if◌then◌otherwise◌, all, snoc, among, sum}
 use Rattle.model.specs.Kinds.{Kind, table, kind_at, kinds_opened}
 use Rattle.model.specs.Circuit.{Circuit, most_gates, most_inputs, circuit, word_at, kind_of_gate, gates}
 use Rattle.model.specs.State.{Wires, Send, State, to_check≔, written≔}
@@ -57,10 +57,10 @@ few bytes ws q r =
 pub record Roomy (c : Circuit) : Type 0 where
   pub watching :
       (w : Wires) (i : ℕ) → SizedWires c w →
-      watch w i ≡ (if get_or w.queued i true then w else to_check≔ w (snoc w.to_check i) (set w.queued i true))
+      watch w i ≡ (if get_or w.queued i true then w otherwise to_check≔ w (snoc w.to_check i) (set w.queued i true))
   pub writing :
       (w : Wires) (g : ℕ) → eqb (kind_of_gate c g) 0 ≡ false → SizedWires c w →
-      write_once c w (var c g) ≡ (if among (var c g) w.written then w else written≔ w (snoc w.written (var c g)))
+      write_once c w (var c g) ≡ (if among (var c g) w.written then w otherwise written≔ w (snoc w.written (var c g)))
   -- a gate that has not sent in this tick finds room in the outbox
   pub sending :
       (s : State) (g : ℕ) → eqb (kind_of_gate c g) 0 ≡ false → Sized c s → among g (map (λ (m : Send). m.gate) s.outbox) ≡ false →
@@ -69,14 +69,14 @@ pub record Roomy (c : Circuit) : Type 0 where
 module _ (c : Circuit) (f : Few c) where
   watch_room :
       (w : Wires) (i : ℕ) → SizedWires c w →
-      watch w i ≡ (if get_or w.queued i true then w else to_check≔ w (snoc w.to_check i) (set w.queued i true))
-  unfolding watch if◌then◌else◌ marks
+      watch w i ≡ (if get_or w.queued i true then w otherwise to_check≔ w (snoc w.to_check i) (set w.queued i true))
+  unfolding watch if◌then◌otherwise◌ marks
   watch_room w i z = go (get_or w.queued i true) refl
     where
       go :
           (b : Bool) → get_or w.queued i true ≡ b →
-          (if b || leb most_inputs (length w.to_check) then w else to_check≔ w (snoc w.to_check i) (set w.queued i true))
-          ≡ (if b then w else to_check≔ w (snoc w.to_check i) (set w.queued i true))
+          (if b || leb most_inputs (length w.to_check) then w otherwise to_check≔ w (snoc w.to_check i) (set w.queued i true))
+          ≡ (if b then w otherwise to_check≔ w (snoc w.to_check i) (set w.queued i true))
       go true e = refl
       go false e =
           let m = mark_more w.queued i e in
@@ -85,14 +85,14 @@ module _ (c : Circuit) (f : Few c) where
 
   write_room :
       (w : Wires) (g : ℕ) → eqb (kind_of_gate c g) 0 ≡ false → SizedWires c w →
-      write_once c w (var c g) ≡ (if among (var c g) w.written then w else written≔ w (snoc w.written (var c g)))
-  unfolding write_once if◌then◌else◌ gates
+      write_once c w (var c g) ≡ (if among (var c g) w.written then w otherwise written≔ w (snoc w.written (var c g)))
+  unfolding write_once if◌then◌otherwise◌ gates
   write_room w g h z = go (among (var c g) w.written) refl
     where
       go :
           (b : Bool) → among (var c g) w.written ≡ b →
-          (if b || leb most_gates (length w.written) then w else written≔ w (snoc w.written (var c g)))
-          ≡ (if b then w else written≔ w (snoc w.written (var c g)))
+          (if b || leb most_gates (length w.written) then w otherwise written≔ w (snoc w.written (var c g)))
+          ≡ (if b then w otherwise written≔ w (snoc w.written (var c g)))
       go true e = refl
       go false e =
           let r = once_room (var c g) z.memory.written (among_map (var c) g (gates c) (gate_in c g h)) e in

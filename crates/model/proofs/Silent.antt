@@ -9,7 +9,7 @@ use lib.Dec.{leb, eqb}
 use lib.ListN.{length, get_or, set}
 use lib.Seq.{get_or-set_other}
 use borrow.Author.Tests.{eqb-true, eqb-false}
-use Rattle.model.specs.Base.{if◌then◌else◌, each, snoc, among}
+use Rattle.model.specs.Base.{if◌then◌otherwise◌, each, snoc, among}
 use Rattle.model.specs.Kinds.{pure}
 use Rattle.model.specs.Circuit.{Circuit, most_inputs, kind_of_gate, output, gate_at_input, readers_of, watching}
 use Rattle.model.specs.State.{Wires, dirty≔, to_check≔, late_checks≔}
@@ -96,11 +96,11 @@ module _ (c : Circuit) (D : ℕ → Bool) where
       λ _. record { stale = b.stale; to_check = ap (λ (is : List ℕ). snoc is i) b.to_check; queued = ap (λ (bs : List Bool). set bs i true) b.queued }
 
   -- which inputs are marked for a late check is left open
-  late_first : (late : Bool) (w v : Wires) (i : ℕ) → Besides w v → Besides (if late then late_checks≔ w (set w.late_checks i true) else w) v
+  late_first : (late : Bool) (w v : Wires) (i : ℕ) → Besides w v → Besides (if late then late_checks≔ w (set w.late_checks i true) otherwise w) v
   unfolding late_checks≔
   late_first late w v i b = if_both (λ (u : Wires). Besides u v) late (record { stale = b.stale; to_check = b.to_check; queued = b.queued }) b
 
-  late_second : (late : Bool) (w v : Wires) (i : ℕ) → Besides w v → Besides w (if late then late_checks≔ v (set v.late_checks i true) else v)
+  late_second : (late : Bool) (w v : Wires) (i : ℕ) → Besides w v → Besides w (if late then late_checks≔ v (set v.late_checks i true) otherwise v)
   unfolding late_checks≔
   late_second late w v i b = if_both (Besides w) late (record { stale = b.stale; to_check = b.to_check; queued = b.queued }) b
 
@@ -110,7 +110,7 @@ module _ (c : Circuit) (D : ℕ → Bool) where
 
   -- an input that waits is not queued again
   waits_already : (w : Wires) (i : ℕ) → get_or w.queued i true ≡ true → watch w i ≡ w
-  unfolding watch if◌then◌else◌
+  unfolding watch if◌then◌otherwise◌
   waits_already w i e = rw e refl
 
   -- ---- marking without and with them
@@ -138,7 +138,7 @@ module _ (c : Circuit) (D : ℕ → Bool) where
 
   -- a pure gate that is reached
   abbrev found : Marking → ℕ → Marking
-  found m g = if is_clean m.wires g then record { wires = soil m.wires g; work = output c g 0 ∷ m.work; late = m.late } else m
+  found m g = if is_clean m.wires g then record { wires = soil m.wires g; work = output c g 0 ∷ m.work; late = m.late } otherwise m
 
   -- one of D, by the first alone
   found_known : (m n : Marking) (g : ℕ) → D g ≡ true → Beside m n → Beside (found m g) n
@@ -177,7 +177,7 @@ module _ (c : Circuit) (D : ℕ → Bool) where
       λ p. if_by Is (watching c i)
       (λ t.
       let s = if_both Silent m.late (late_silent m.wires i k.silent) k.silent in
-      let w = if m.late then late_checks≔ m.wires (set m.wires.late_checks i true) else m.wires in
+      let w = if m.late then late_checks≔ m.wires (set m.wires.late_checks i true) otherwise m.wires in
       subst (λ u. Is (record { wires = u; work = m.work; late = m.late })) (sym (waits_already w i (s.inputs g i d r p t)))
       (record { silent = s; wires = late_first m.late m.wires n.wires i k.wires; work = k.work })) λ _. k
     where

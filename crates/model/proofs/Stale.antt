@@ -17,7 +17,7 @@ use lib.ListN.{length, get_or, set}
 use lib.Seq.{get_or-set_other, set_comm}
 use borrow.Author.Tests.{eqb-true, eqb-false, eq-eqb}
 use Rattle.model.specs.declared.Value.TheVariants.{Nothing}
-use Rattle.model.specs.Base.{if◌then◌else◌, each, among}
+use Rattle.model.specs.Base.{if◌then◌otherwise◌, each, among}
 use Rattle.model.specs.Kinds.{kind_at, pure, kinds_opened}
 use Rattle.model.specs.Circuit.{Circuit, kind_of_gate, input, output, inputs_of, source, gate_at_output, gates}
 use Rattle.model.specs.State.{Wires, outs≔, dirty≔}
@@ -31,8 +31,8 @@ use Rattle.model.proofs.Placing.{Heights, heights}
 
 -- ---- choices and lists
 
-pub if_same : {A : Type 0} (b : Bool) {x y x' y' : A} → (b ≡ true → x ≡ x') → (b ≡ false → y ≡ y') → (if b then x else y) ≡ (if b then x' else y')
-unfolding if◌then◌else◌
+pub if_same : {A : Type 0} (b : Bool) {x y x' y' : A} → (b ≡ true → x ≡ x') → (b ≡ false → y ≡ y') → (if b then x otherwise y) ≡ (if b then x' otherwise y')
+unfolding if◌then◌otherwise◌
 if_same true p q = p refl
 if_same false p q = q refl
 

@@ -15,7 +15,7 @@ use Rattle.schedule.specs.Promise.{All, [·], ◌∷·◌}
 use Rattle.schedule.proofs.Members.{all_append}
 use Rattle.model.specs.declared.Value.{Value}
 use Rattle.model.specs.declared.Value.TheVariants.{Nothing, Bool as Truth}
-use Rattle.model.specs.Base.{if◌then◌else◌, each, keep, all, joined, from}
+use Rattle.model.specs.Base.{if◌then◌otherwise◌, each, keep, all, joined, from}
 use Rattle.model.specs.Value.{value_opened}
 use Rattle.model.specs.Kinds.{pure, time_source, receiving, kinds_opened}
 use Rattle.model.specs.Circuit.{Circuit, kind_of_gate, input, output, source, setting, watching, gates_of}
@@ -174,13 +174,13 @@ module _ (c : Circuit) (W : Wired c) where
     -- of those that pass another test too
     pub kept_all :
         {A : Type 0} (P : A → Type 0) (f : ℕ → A) (q p : ℕ → Bool) → ((x : ℕ) → q x ≡ true → P (f x)) → (xs : List ℕ) → all q xs ≡ true → All P (map f (keep p xs))
-    unfolding keep all if◌then◌else◌
+    unfolding keep all if◌then◌otherwise◌
     kept_all P f q p k [] h = [·]
     kept_all P f q p k (x ∷ xs) h =
         let t = both_true (q x) (all q xs) h in
         go (p x) (k x t.0) (kept_all P f q p k xs t.1)
       where
-        go : (b : Bool) → P (f x) → All P (map f (keep p xs)) → All P (map f (if b then x ∷ keep p xs else keep p xs))
+        go : (b : Bool) → P (f x) → All P (map f (keep p xs)) → All P (map f (if b then x ∷ keep p xs otherwise keep p xs))
         go true r a = ◌∷·◌ r a
         go false r a = a
 

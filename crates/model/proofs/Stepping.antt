@@ -10,7 +10,7 @@ use borrow.Author.Tests.{eqb-true}
 use Rattle.schedule.specs.Promise.{[·], ◌∷·◌}
 use Rattle.schedule.proofs.Members.{all_append}
 use Rattle.model.specs.declared.Value.{Value}
-use Rattle.model.specs.Base.{if◌then◌else◌, snoc, among}
+use Rattle.model.specs.Base.{if◌then◌otherwise◌, snoc, among}
 use Rattle.model.specs.Kinds.{kinds_opened}
 use Rattle.model.specs.Circuit.{Circuit, kind_of_gate, output, gate_at_output}
 use Rattle.model.specs.State.{Wires, State, outs≔, written≔, written_outside≔, unions_passed≔, breaking≔, runs_left≔, wires≔}
@@ -70,7 +70,7 @@ module _ (c : Circuit) (W : Wired c) where
     write_fine :
         (late : List ℕ) (w : Wires) (g : ℕ) (v : Value) → eqb (kind_of_gate c g) 19 ≡ true → Real v → Fine c t late w →
         (more : List ℕ) × Fine c t more (write_once c (show w (var c g) v) (var c g))
-    unfolding show outs≔ written≔ shown if◌then◌else◌
+    unfolding show outs≔ written≔ shown if◌then◌otherwise◌
     write_fine late w g v e r f = go (among o w.written) refl
       where
         o : ℕ
@@ -85,7 +85,7 @@ module _ (c : Circuit) (W : Wired c) where
         z : SizedWires c (show w (var c g) v)
         z = show_sized c w (var c g) v f.sized
 
-        is : write_once c (show w (var c g) v) (var c g) ≡ (if among (var c g) w.written then show w (var c g) v else written≔ (show w (var c g) v) (snoc w.written (var c g)))
+        is : write_once c (show w (var c g) v) (var c g) ≡ (if among (var c g) w.written then show w (var c g) v otherwise written≔ (show w (var c g) v) (snoc w.written (var c g)))
         is = (few_roomy c W.few).writing (show w (var c g) v) g h z
 
         go : (b : Bool) → among (var c g) w.written ≡ b → (more : List ℕ) × Fine c t more (write_once c (show w (var c g) v) (var c g))
@@ -116,7 +116,7 @@ module _ (c : Circuit) (W : Wired c) where
     recorded_fine :
         (inside : Bool) (late : List ℕ) (w : Wires) (g : ℕ) (v : Value) → eqb (kind_of_gate c g) 19 ≡ true → Real v → Fine c t late w →
         (more : List ℕ) × Fine c t more (record_write c inside (show w (var c g) v) (var c g))
-    unfolding record_write show outs≔ written_outside≔ if◌then◌else◌
+    unfolding record_write show outs≔ written_outside≔ if◌then◌otherwise◌
     recorded_fine true late w g v e r f = write_fine late w g v e r f
     recorded_fine false late w g v e r f = write_fine late _ g v e r (outside_fine late w (gate_at_output c (var c g)) f)
 

@@ -15,7 +15,7 @@ use Rattle.schedule.proofs.Theorems.{tick_alike}
 use Rattle.schedule.proofs.Members.{all_map, all_append}
 use Rattle.schedule.proofs.Told.{tick_opens}
 use Rattle.schedule.proofs.Begins.{Waits, tick_begins}
-use Rattle.model.specs.Base.{if◌then◌else◌, keep, joined}
+use Rattle.model.specs.Base.{if◌then◌otherwise◌, keep, joined}
 use Rattle.model.specs.Circuit.{Circuit, circuit}
 use Rattle.model.specs.State.{State, Act, wires≔}
 use Rattle.model.specs.Wires.{refresh_all}
@@ -102,14 +102,14 @@ module _ (c : Circuit) (W : Wired c) where
           record { fits = a.1 ∙ sym d.1; logged = a.0 ∙ sym d.0 }
 
   cut_record : (limit : ℕ) (x y : World) → SameRecord x y → record_words (log_record limit x (outcome S [] [] [] list_full)) ≡ record_words (log_record limit y (outcome S [] [] [] list_full))
-  unfolding record_opened closing_opened if◌then◌else◌
+  unfolding record_opened closing_opened if◌then◌otherwise◌
   cut_record limit x y e = λ j. e.tick j ∷ (limit - e.left j + 0) ∷ 0 ∷ 0 ∷ 0 ∷ list_full ∷ e.changed j ∷ []
 
   cut_closing :
       (i : Allowed) (x y : World) → SameRecord x y →
       let o = outcome S [] [] [] list_full in
       ((closing c x i o).fits ≡ (closing c y i o).fits) × ((closing c x i o).world.logged ≡ (closing c y i o).world.logged)
-  unfolding closing close read_outputs state≔ if◌then◌else◌
+  unfolding closing close read_outputs state≔ if◌then◌otherwise◌
   cut_closing i x y e = let a = wrote_alike _ _ x y (cut_record i.limit x y e) e.room in (a.fits, a.logged)
 
   alike_seen : (i : Allowed) {k k' : Tick S} → TicksAlike S SameRecord i k k' → SeenAlike k k'
@@ -129,7 +129,7 @@ module _ (c : Circuit) (W : Wired c) where
 
   -- the state that a tick without a stop hands on is the one that its last unit left, read
   closed_state : (w : World) (i : Allowed) (late main : List (Turn S)) (carried : List (Activation S)) → (closing c w i (outcome S late main carried 0)).world.state ≡ wires≔ w.state (refresh_all c w.state.wires)
-  unfolding closing close read_outputs state≔ if◌then◌else◌
+  unfolding closing close read_outputs state≔ if◌then◌otherwise◌
   closed_state w i late main carried = write_state _ _
 
   read_state_near : (s : State) → Sound c no_exception [] s → StateNear c W (wires≔ s (refresh_all c s.wires)) s
@@ -213,7 +213,7 @@ module _ (c : Circuit) (W : Wired c) where
   stops_alike : {ks us : List (Tick S)} → RunsAlike ks us → last_stop c ks ≡ last_stop c us
   unfolding last_stop
   stops_alike over = refl
-  stops_alike (on s r) = λ j. if eqb (s.stop j) 0 then stops_alike r j else s.stop j
+  stops_alike (on s r) = λ j. if eqb (s.stop j) 0 then stops_alike r j otherwise s.stop j
 
   kept_alike : {ks us : List (Tick S)} → RunsAlike ks us → length (keep (λ (t : Tick S). eqb t.stop 0) ks) ≡ length (keep (λ (t : Tick S). eqb t.stop 0) us)
   unfolding keep
@@ -222,8 +222,8 @@ module _ (c : Circuit) (W : Wired c) where
     where
       go :
           (b d : Bool) → b ≡ d → length (keep (λ (t : Tick S). eqb t.stop 0) ks) ≡ length (keep (λ (t : Tick S). eqb t.stop 0) us) →
-          length (if b then k ∷ keep (λ (t : Tick S). eqb t.stop 0) ks else keep (λ (t : Tick S). eqb t.stop 0) ks)
-          ≡ length (if d then k' ∷ keep (λ (t : Tick S). eqb t.stop 0) us else keep (λ (t : Tick S). eqb t.stop 0) us)
+          length (if b then k ∷ keep (λ (t : Tick S). eqb t.stop 0) ks otherwise keep (λ (t : Tick S). eqb t.stop 0) ks)
+          ≡ length (if d then k' ∷ keep (λ (t : Tick S). eqb t.stop 0) us otherwise keep (λ (t : Tick S). eqb t.stop 0) us)
       go b d e h = if_alike (λ (x y : List (Tick S)). length x ≡ length y) b d e (λ _. ap suc h) (λ _. h)
 
   seen_alike : {ks us : List (Tick S)} → RunsAlike ks us → seen c ks ≡ seen c us

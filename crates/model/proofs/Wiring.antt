@@ -18,7 +18,7 @@ use Rattle.words.specs.Words.{words}
 use Rattle.schedule.specs.Promise.{All}
 use Rattle.model.specs.declared.Value.{Value}
 use Rattle.model.specs.declared.Value.TheVariants.{Nothing, Int, Float, Bool as Truth}
-use Rattle.model.specs.Base.{if◌then◌else◌, keep, all, among, both, from, sum, starts, owners}
+use Rattle.model.specs.Base.{if◌then◌otherwise◌, keep, all, among, both, from, sum, starts, owners}
 use Rattle.model.specs.Value.{as_int, le64, value_of}
 use Rattle.model.specs.Kinds.{In, value, kind_at, pure, time_source, receiving, kinds_opened}
 use Rattle.model.specs.Circuit.{Circuit, circuit, part, word_at, minus_one, source_of, reads, kind_of_gate, entry_of_loop, input, output, inputs_of, gate_at_input, source, stored_in, setting, gate_at_output, readers_of, gates_such}
@@ -43,11 +43,11 @@ use Rattle.model.proofs.Starting.{AllowedFine}
 -- ---- lists
 
 keep_among : (p : ℕ → Bool) (x : ℕ) (xs : List ℕ) → among x (keep p xs) ≡ true → p x ≡ true
-unfolding keep if◌then◌else◌
+unfolding keep if◌then◌otherwise◌
 keep_among p x [] e = clash e (among_none x)
 keep_among p x (y ∷ xs) e = go (p y) refl e (λ h. keep_among p x xs h)
   where
-    go : (b : Bool) → p y ≡ b → among x (if b then y ∷ keep p xs else keep p xs) ≡ true → (among x (keep p xs) ≡ true → p x ≡ true) → p x ≡ true
+    go : (b : Bool) → p y ≡ b → among x (if b then y ∷ keep p xs otherwise keep p xs) ≡ true → (among x (keep p xs) ≡ true → p x ≡ true) → p x ≡ true
     go true h e rec = one_of (among_either x y (keep p xs) e)
       where
         one_of : (x ≡ y) ⊎ (among x (keep p xs) ≡ true) → p x ≡ true
@@ -136,7 +136,7 @@ timed_in c g e = kind_in c g (go (kind_of_gate c g) e)
 
 -- the constants that question 2 lets through
 good_real : (xs ys : List ℕ) → all (λ b. b) (both good_constant xs ys) ≡ true → (k : ℕ) → Real (get_or (both value_of xs ys) k Nothing)
-unfolding both all good_constant value_of if◌then◌else◌
+unfolding both all good_constant value_of if◌then◌otherwise◌
 good_real [] [] h k = nothing_real
 good_real [] (y ∷ ys) h k = nothing_real
 good_real (x ∷ xs) [] h k = nothing_real
@@ -151,18 +151,18 @@ good_real (x ∷ xs) (y ∷ ys) h (suc k) = good_real xs ys (both_true (good_con
 
 -- what question 4 says of an input: its source, and its setting
 good_input_source : (c : Circuit) (pin : In) (src k : ℕ) (v : Value) → good_input c pin src k v ≡ true → eqb src minus_one ≡ false → value_output c src ≡ true
-unfolding good_input if◌then◌else◌
+unfolding good_input if◌then◌otherwise◌
 good_input_source c pin src k v h e =
-    let a = (both_true (((if eqb src minus_one then true else value_output c src && pin.source && eqb k 0) && names_constant c k) && (eqb k 0 || pin.constant)) _ h).0 in
-    let b = (both_true ((if eqb src minus_one then true else value_output c src && pin.source && eqb k 0) && names_constant c k) _ a).0 in
-    let d = (both_true (if eqb src minus_one then true else value_output c src && pin.source && eqb k 0) _ b).0 in
+    let a = (both_true (((if eqb src minus_one then true otherwise value_output c src && pin.source && eqb k 0) && names_constant c k) && (eqb k 0 || pin.constant)) _ h).0 in
+    let b = (both_true ((if eqb src minus_one then true otherwise value_output c src && pin.source && eqb k 0) && names_constant c k) _ a).0 in
+    let d = (both_true (if eqb src minus_one then true otherwise value_output c src && pin.source && eqb k 0) _ b).0 in
     let f : (value_output c src && pin.source && eqb k 0) ≡ true = rw e at d in
     (both_true (value_output c src) _ (both_true (value_output c src && pin.source) _ f).0).0
 
 good_input_setting : (c : Circuit) (pin : In) (src k : ℕ) (v : Value) → good_input c pin src k v ≡ true → good_setting c pin.setting v ≡ true
 unfolding good_input
 good_input_setting c pin src k v h =
-    (both_true (((if eqb src minus_one then true else value_output c src && pin.source && eqb k 0) && names_constant c k) && (eqb k 0 || pin.constant)) _ h).1
+    (both_true (((if eqb src minus_one then true otherwise value_output c src && pin.source && eqb k 0) && names_constant c k) && (eqb k 0 || pin.constant)) _ h).1
 
 reads_as : (s : Option ℕ) (o : ℕ) → (elim s as (λ _. Bool) [ none ↦ false | some p ↦ eqb o p ]) ≡ true → s ≡ some o
 reads_as none o e = absurd (true≢false (sym e))
@@ -185,14 +185,14 @@ module _ (ws : List ℕ) where
   -- ---- what inputs read
 
   no_source : source_of minus_one ≡ none
-  unfolding source_of if◌then◌else◌
+  unfolding source_of if◌then◌otherwise◌
   no_source = refl
 
   some_source : (w o : ℕ) → source_of w ≡ some o → (eqb w minus_one ≡ false) × (w ≡ o)
-  unfolding source_of if◌then◌else◌
+  unfolding source_of if◌then◌otherwise◌
   some_source w o e = go (eqb w minus_one) refl e
     where
-      go : (b : Bool) → eqb w minus_one ≡ b → (if b then none else some w) ≡ some o → (eqb w minus_one ≡ false) × (w ≡ o)
+      go : (b : Bool) → eqb w minus_one ≡ b → (if b then none otherwise some w) ≡ some o → (eqb w minus_one ≡ false) × (w ≡ o)
       go true h e = let t : true ≡ false = cc in absurd (true≢false t)
       go false h e = (h, cc)
 

@@ -1,17 +1,17 @@
 -- Small things about lists that the definition is written with.
 use Rattle.std.specs.Prelude.{ℕ, zero, suc, ◌+◌, Bool, true, false, ◌&&◌, ◌||◌, List, [], ◌∷◌, ◌++◌, eqb, replicate}
 
-infix 4 if◌then◌else◌
+infix 4 if◌then◌otherwise◌
 -- a choice by a test
-unfoldable pub if◌then◌else◌ {ℓ} : {A : Type ℓ} → Bool → A → A → A
-if true then a else b = a
-if false then a else b = b
+unfoldable pub if◌then◌otherwise◌ {ℓ} : {A : Type ℓ} → Bool → A → A → A
+if true then a otherwise b = a
+if false then a otherwise b = b
 
 module _ {A : Type 0} where
   -- those that pass the test
   unfoldable pub keep : (A → Bool) → List A → List A
   keep p [] = []
-  keep p (x ∷ xs) = if p x then x ∷ keep p xs else keep p xs
+  keep p (x ∷ xs) = if p x then x ∷ keep p xs otherwise keep p xs
 
   -- whether each passes the test
   unfoldable pub all : (A → Bool) → List A → Bool
@@ -66,5 +66,5 @@ owners g (k ∷ ks) = replicate k g ++ owners (suc g) ks
 
 -- What a proof by computation opens: to name it on an `unfolding` line opens each name of its own.
 unfoldable pub base_opened : ℕ
-unfolding if◌then◌else◌ keep all each snoc joined both among from sum starts owners
+unfolding if◌then◌otherwise◌ keep all each snoc joined both among from sum starts owners
 base_opened = 0

@@ -1,7 +1,7 @@
 -- A book: several byte strings in one. Its count, then starts and lengths in bytes as two parallel arrays of words, then the strings (document 02, K1).
 use Rattle.std.specs.Prelude.{ℕ, ◌+◌, ◌*◌, ◌/◌, Bool, ◌&&◌, List, [], map, leb, length, take, drop}
 use Rattle.words.specs.Words.{words}
-use Rattle.model.specs.Base.{if◌then◌else◌, from}
+use Rattle.model.specs.Base.{if◌then◌otherwise◌, from}
 use Rattle.model.specs.Circuit.{word_at}
 use Rattle.model.specs.Questions.{within}
 
@@ -22,7 +22,7 @@ length_of book k = word_at (words book) (1 + count book + k)
 
 -- The bytes of string k. One that leaves the book has none, and so the first question about it refuses it: question 8 for a script (`leaves_refused`).
 unfoldable pub entry : List ℕ → ℕ → List ℕ
-entry book k = if leb (start_of book k + length_of book k) (length book) then take (length_of book k) (drop (start_of book k) book) else []
+entry book k = if leb (start_of book k + length_of book k) (length book) then take (length_of book k) (drop (start_of book k) book) otherwise []
 
 -- all of them, in order
 unfoldable pub entries : List ℕ → List (List ℕ)

@@ -3,7 +3,7 @@
 use Rattle.std.specs.Prelude.{ℕ, zero, suc, Bool, true, false, not, ◌&&◌, List, [], ◌∷◌, ◌++◌, map, leb, eqb, length}
 use Rattle.std.proofs.Math.Option.{Option, none, some}
 use Rattle.schedule.specs.Schedule.{list_full}
-use Rattle.model.specs.Base.{if◌then◌else◌, keep}
+use Rattle.model.specs.Base.{if◌then◌otherwise◌, keep}
 use Rattle.model.specs.Circuit.{Circuit, calls_of}
 use Rattle.model.specs.State.{State}
 use Rattle.model.specs.Exec.{exec_gate}
@@ -45,7 +45,7 @@ pop_fork false st (i ∷ fs) = some (record { input = i; rest = record { stack =
 -- from the stack, as long as more wait there than the `under` that waited when the run began, else from the forks
 unfoldable pub pop : Bool → ℕ → List ℕ → List ℕ → Option Popped
 pop inside under [] fs = pop_fork inside [] fs
-pop inside under (i ∷ st) fs = if leb under (length st) then some (record { input = i; rest = record { stack = st; forks = fs } }) else pop_fork inside (i ∷ st) fs
+pop inside under (i ∷ st) fs = if leb under (length st) then some (record { input = i; rest = record { stack = st; forks = fs } }) otherwise pop_fork inside (i ∷ st) fs
 
 -- ---- a run of calls
 
@@ -93,14 +93,14 @@ module _ (c : Circuit) where
 
   -- output o is fired: its calls wait, if they fit
   unfoldable pub fire_output : ℕ → Chained → Chained
-  fire_output o r = let q = push_calls (some o) r.calls in chained r.state r.left (if fit q then 0 else list_full) q
+  fire_output o r = let q = push_calls (some o) r.calls in chained r.state r.left (if fit q then 0 otherwise list_full) q
 
   -- the gate that has input i, which is no Loop, makes its step, and what it fires is called
   unfoldable pub make_call : Bool → ℕ → Chained → Chained
   make_call inside i r =
       let d = exec_gate c inside r.state i in
       let q = push_calls d.next r.calls in
-      chained d.state r.left (if fit q && not d.full then 0 else list_full) q
+      chained d.state r.left (if fit q && not d.full then 0 otherwise list_full) q
 
   unfoldable pub chain_opened : ℕ
   unfolding fit pop_fork pop chained unless_stopped next make_step run_calls push_calls fire_output make_call

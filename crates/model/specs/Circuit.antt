@@ -3,7 +3,7 @@ use Rattle.std.specs.Prelude.{ℕ, ◌+◌, ◌*◌, ◌/◌, ◌%◌, ◌^◌, 
 use Rattle.std.proofs.Math.Option.{Option, none, some}
 use Rattle.model.specs.declared.Value.{Value}
 use Rattle.model.specs.declared.Value.TheVariants.{Nothing, Int}
-use Rattle.model.specs.Base.{if◌then◌else◌, keep, joined, both, from, starts, owners}
+use Rattle.model.specs.Base.{if◌then◌otherwise◌, keep, joined, both, from, starts, owners}
 use Rattle.model.specs.Value.{value_of, same}
 use Rattle.model.specs.Kinds.{In, never, if_driven, always, Out, kind_at, Clock, Stopwatch, LoopEntry, time_source, buffering, receiving}
 
@@ -65,7 +65,7 @@ minus_one = 2 ^ 64 - 1
 
 -- -1 is no source
 unfoldable pub source_of : ℕ → Option ℕ
-source_of w = if eqb w minus_one then none else some w
+source_of w = if eqb w minus_one then none otherwise some w
 
 -- whether there is a source
 unfoldable pub has_source : Option ℕ → Bool

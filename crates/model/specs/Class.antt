@@ -1,7 +1,7 @@
 -- A whole class in one call: the scripts of a book over one circuit, each with its part of the log (document 02, K1).
 use Rattle.std.specs.Prelude.{ℕ, zero, suc, ◌≤◌, ◌≡◌, Bool, true, false, ◌||◌, List, [], ◌∷◌, map, length, replicate}
 use Rattle.std.proofs.Math.Option.{some}
-use Rattle.model.specs.Base.{if◌then◌else◌, all, among}
+use Rattle.model.specs.Base.{if◌then◌otherwise◌, all, among}
 use Rattle.model.specs.Questions.{Areas, circuit_refusal, or_else}
 use Rattle.model.specs.Answer.{Answer, refused, played, answer, number}
 use Rattle.model.specs.Book.{count, good_book, entries, part_of}
@@ -17,7 +17,7 @@ no_book = 15
 
 -- the number that the whole call is refused with, or 0: the questions about the circuit, 1 to 7 and 19 among them, then 15
 unfoldable pub class_refusal : Areas → List ℕ → List ℕ → ℕ
-class_refusal areas circuit_bytes book = or_else (circuit_refusal (some areas) circuit_bytes) (if good_book most_scripts book then 0 else no_book)
+class_refusal areas circuit_bytes book = or_else (circuit_refusal (some areas) circuit_bytes) (if good_book most_scripts book then 0 otherwise no_book)
 
 -- by that number; each script has the answer that it has alone, with its part as its log
 unfoldable pub class_to : ℕ → Areas → ℕ → List ℕ → List ℕ → Several
@@ -43,7 +43,7 @@ any_played (a ∷ rs) = was_played a || any_played rs
 -- an area afterwards: zero once a script has been played, else untouched
 unfoldable pub class_area : Several → List ℕ → List ℕ
 class_area (turned_away n) area = area
-class_area (answered rs) area = if any_played rs then replicate (length area) 0 else area
+class_area (answered rs) area = if any_played rs then replicate (length area) 0 otherwise area
 
 -- What a call can answer: it is refused as a whole with 1 to 7, 19 or 15, or has an answer for each of 1 to 16 scripts, which is refused with 8 to 10 or played, to its
 -- end, 0, or to a stop, 11 to 13.

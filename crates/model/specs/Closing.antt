@@ -2,7 +2,7 @@
 use Rattle.std.specs.Prelude.{ℕ, ◌+◌, ◌-◌, ◌*◌, true, false, List, [], map, leb, eqb, length}
 use Rattle.schedule.specs.Schedule.{Outcome, Closed}
 use Rattle.model.specs.declared.Value.{Value}
-use Rattle.model.specs.Base.{if◌then◌else◌}
+use Rattle.model.specs.Base.{if◌then◌otherwise◌}
 use Rattle.model.specs.Circuit.{Circuit}
 use Rattle.model.specs.State.{Act, State, wires≔}
 use Rattle.model.specs.Wires.{refresh_all}
@@ -12,15 +12,15 @@ use Rattle.model.specs.Record.{Listed, LogRecord, listed, record_words}
 
 -- A pure output and a Var's Value show what reading them gives, so where the tick ended without a stop the pure gates are refreshed.
 unfoldable pub read_outputs : Circuit → State → ℕ → State
-read_outputs c s stop = if eqb stop 0 then wires≔ s (refresh_all c s.wires) else s
+read_outputs c s stop = if eqb stop 0 then wires≔ s (refresh_all c s.wires) otherwise s
 
 -- the steps made of a tick that may make `limit`; those of one stopped by 11 include the one not made
 unfoldable pub steps : ℕ → World → ℕ → ℕ
-steps limit w stop = limit - w.left + (if eqb stop runaway then 1 else 0)
+steps limit w stop = limit - w.left + (if eqb stop runaway then 1 otherwise 0)
 
 -- what every output shows; a stopped tick shows none
 unfoldable pub outputs_shown : State → ℕ → List Value
-outputs_shown s stop = if eqb stop 0 then s.wires.outs else []
+outputs_shown s stop = if eqb stop 0 then s.wires.outs otherwise []
 
 -- what is to run, as a record lists it
 abbrev pub as_listed : Act → Listed
@@ -45,7 +45,7 @@ unfoldable pub write : World → List ℕ → Closed World
 write w r =
     if leb (8 * length r) w.room then
     record { world = record { state = w.state; left = w.left; room = w.room - 8 * length r; logged = r }; fits = true }
-    else record { world = record { state = w.state; left = w.left; room = w.room; logged = [] }; fits = false }
+    otherwise record { world = record { state = w.state; left = w.left; room = w.room; logged = [] }; fits = false }
 
 -- the record of a tick, made and written
 unfoldable pub close : ℕ → World → Outcome Act → Closed World

@@ -4,7 +4,7 @@ use Rattle.std.proofs.Math.Option.{Option, none, some}
 use Rattle.std.specs.Int.Signed.{le_z}
 use Rattle.model.specs.declared.Value.{Value}
 use Rattle.model.specs.declared.Value.TheVariants.{Float}
-use Rattle.model.specs.Base.{if◌then◌else◌, snoc}
+use Rattle.model.specs.Base.{if◌then◌otherwise◌, snoc}
 use Rattle.model.specs.Value.{as_int, as_float, plus64, le64, lt64, plus32, le32, narrow, narrow_changes, minus_one_point_zero}
 use Rattle.model.specs.State.{Countdown, ticks_left, seconds, Flight, Queued, Delay, flight≔, fires≔, elapsed≔, records≔}
 
@@ -42,12 +42,12 @@ due (seconds wait elapsed) = le32 wait elapsed
 -- wait of 0 and a zero wait of -1.
 unfoldable pub countdown_ticks : Bool → Value → Value → Started
 countdown_ticks rising wait zero_wait =
-    in_ticks (if not rising && le_z (pos 0) (as_int (negsuc 0) zero_wait) then as_int (negsuc 0) zero_wait else as_int (pos 0) wait)
+    in_ticks (if not rising && le_z (pos 0) (as_int (negsuc 0) zero_wait) then as_int (negsuc 0) zero_wait otherwise as_int (pos 0) wait)
 
 -- the same in seconds
 unfoldable pub countdown_seconds : Bool → Value → Value → Started
 countdown_seconds rising wait zero_wait =
-    in_seconds (if not rising && le64 0 (as_float minus_one_point_zero zero_wait) then as_float minus_one_point_zero zero_wait else as_float 0 wait)
+    in_seconds (if not rising && le64 0 (as_float minus_one_point_zero zero_wait) then as_float minus_one_point_zero zero_wait otherwise as_float 0 wait)
 
 -- What moving on by a tick comes to: the state, the row of values that it hands out, how often it fires, and whether narrowing changed a wait.
 pub record Moved : Type 0 where
@@ -80,7 +80,7 @@ landed start d v =
 
 -- it lands when its countdown is due
 unfoldable pub flown : (Value → Started) → Delay → Value → Countdown → Moved
-flown start d v k = if due k then landed start d v else moved (flight≔ d (launch v k) d.later) [] 0
+flown start d v k = if due k then landed start d v otherwise moved (flight≔ d (launch v k) d.later) [] 0
 
 -- a value buffer moves on by a tick of the length dt in f32
 unfoldable pub advance_flight : (Value → Started) → ℕ → Delay → Moved
@@ -105,12 +105,12 @@ most_records = 256
 
 -- a new record, with its countdown
 unfoldable pub queue_record : Delay → List Value → Countdown → Delay
-queue_record d row k = if ltb (length d.records) most_records then records≔ d (snoc d.records (record { row = row; left = k })) else d
+queue_record d row k = if ltb (length d.records) most_records then records≔ d (snoc d.records (record { row = row; left = k })) otherwise d
 
 -- the front record, if it is due
 unfoldable pub hand_out : Delay → List Queued → Moved
 hand_out d [] = moved (records≔ d []) [] 0
-hand_out d (q ∷ qs) = if due q.left then moved (records≔ d qs) q.row 1 else moved (records≔ d (q ∷ qs)) [] 0
+hand_out d (q ∷ qs) = if due q.left then moved (records≔ d qs) q.row 1 otherwise moved (records≔ d (q ∷ qs)) [] 0
 
 -- a Queue moves on: all its records count down
 unfoldable pub advance_records : ℕ → Delay → Moved
@@ -120,26 +120,26 @@ advance_records dt d = hand_out d (map (λ q. record { row = q.row; left = tick_
 
 -- at t seconds
 unfoldable pub clock_at : Delay → ℕ → ℕ → Moved
-clock_at d interval t = if le64 interval t then moved (elapsed≔ d 0 false) [] 1 else moved (elapsed≔ d t false) [] 0
+clock_at d interval t = if le64 interval t then moved (elapsed≔ d 0 false) [] 1 otherwise moved (elapsed≔ d t false) [] 0
 
 -- a Clock moves on by dt seconds in f64, if it is enabled
 unfoldable pub advance_elapsed : ℕ → ℕ → Bool → Delay → Moved
-advance_elapsed dt interval enabled d = if enabled then clock_at d interval (plus64 d.elapsed dt) else moved d [] 0
+advance_elapsed dt interval enabled d = if enabled then clock_at d interval (plus64 d.elapsed dt) otherwise moved d [] 0
 
 -- ---- a Stopwatch: it ends at its limit, if that is above zero, and shows its time
 
 -- at t seconds
 unfoldable pub stopwatch_at : Delay → ℕ → ℕ → Moved
 stopwatch_at d limit t =
-    if lt64 0 limit && le64 limit t then moved (elapsed≔ d limit false) (Float limit ∷ []) 1 else moved (elapsed≔ d t true) (Float t ∷ []) 0
+    if lt64 0 limit && le64 limit t then moved (elapsed≔ d limit false) (Float limit ∷ []) 1 otherwise moved (elapsed≔ d t true) (Float t ∷ []) 0
 
 -- a Stopwatch moves on by dt seconds in f64, if it runs
 unfoldable pub advance_time : ℕ → ℕ → Delay → Moved
-advance_time dt limit d = if d.running then stopwatch_at d limit (plus64 d.elapsed dt) else moved d [] 0
+advance_time dt limit d = if d.running then stopwatch_at d limit (plus64 d.elapsed dt) otherwise moved d [] 0
 
 -- by its pin: 0 Restart, 1 Pause, 2 Resume
 unfoldable pub pressed : ℕ → Delay → Delay
-pressed p d = if eqb p 0 then elapsed≔ d 0 true else elapsed≔ d d.elapsed (eqb p 2)
+pressed p d = if eqb p 0 then elapsed≔ d 0 true otherwise elapsed≔ d d.elapsed (eqb p 2)
 
 unfoldable pub delays_opened : ℕ
 unfolding nat in_ticks in_seconds tick_down due countdown_ticks countdown_seconds moved launch buffer_input landed flown advance_flight drop_due advance_fires queue_record hand_out advance_records clock_at advance_elapsed stopwatch_at advance_time pressed

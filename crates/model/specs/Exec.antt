@@ -4,7 +4,7 @@ use Rattle.std.proofs.Math.Option.{Option, none, some}
 use Rattle.std.proofs.Math.IntN.{suc_ℤ, pred_ℤ}
 use Rattle.model.specs.declared.Value.{Value}
 use Rattle.model.specs.declared.Value.TheVariants.{Int, Float, Bool as Truth}
-use Rattle.model.specs.Base.{if◌then◌else◌, each, snoc, among, from}
+use Rattle.model.specs.Base.{if◌then◌otherwise◌, each, snoc, among, from}
 use Rattle.model.specs.Value.{truthy, as_int, as_float}
 use Rattle.model.specs.Kinds.{Reroute, BufferTicksExec, BufferSeconds, BufferSecondsExec, Stopwatch, QueueInTicks, QueueInSeconds, VarGet, VarSet, Branch, Union, Toggle, Cycle, SendEvent, SendEventGlobal, Break}
 use Rattle.model.specs.Circuit.{Circuit, most_gates, kind_of_gate, input, output, gate_at_input, gate_at_output, setting}
@@ -36,7 +36,7 @@ most_changed = 2 ^ 63 - 1
 
 -- one narrowing more is counted, if it changed its number
 unfoldable pub tally : ℕ → Bool → ℕ
-tally n changed = if changed && ltb n most_changed then suc n else n
+tally n changed = if changed && ltb n most_changed then suc n otherwise n
 
 unfoldable pub count_changed : State → Bool → State
 count_changed s changed = changed≔ s (tally s.changed changed)
@@ -50,7 +50,7 @@ remainder (negsuc a) n = n - suc (a % n)
 unfoldable pub cycle_next : Bool → ℤ → ℤ → ℕ
 cycle_next down (negsuc n) now = 0
 cycle_next down (pos zero) now = 0
-cycle_next down (pos (suc n)) now = remainder (if down then pred_ℤ now else suc_ℤ now) (suc n)
+cycle_next down (pos (suc n)) now = remainder (if down then pred_ℤ now otherwise suc_ℤ now) (suc n)
 
 module _ (c : Circuit) where
   -- ---- small readings and changes
@@ -86,7 +86,7 @@ module _ (c : Circuit) where
   -- the countdown that a buffer starts
   unfoldable pub countdown : ℕ → Bool → Started
   countdown g rising =
-      if leb BufferSeconds (kind_of_gate c g) then countdown_seconds rising (setting c g 1) (setting c g 2) else countdown_ticks rising (setting c g 1) (setting c g 2)
+      if leb BufferSeconds (kind_of_gate c g) then countdown_seconds rising (setting c g 1) (setting c g 2) otherwise countdown_ticks rising (setting c g 1) (setting c g 2)
 
   -- the Value of the Var that setting 1 of gate g names
   unfoldable pub var : ℕ → ℕ
@@ -100,13 +100,13 @@ module _ (c : Circuit) where
       let k = countdown g true in
       let s = count_changed s₀ k.changed in
       if ltb (length (delay s g).fires) most_fires then ends (delay≔ s g (fires≔ (delay s g) (snoc (delay s g).fires k.left)))
-      else record { state = s; next = none; full = true }
+      otherwise record { state = s; next = none; full = true }
 
   -- Restart shows 0.0 at once
   unfoldable pub exec-Stopwatch : State → ℕ → ℕ → Stepped
   exec-Stopwatch s g p =
       let t = delay≔ s g (pressed p (delay s g)) in
-      ends (if eqb p 0 then set_output t (output c g 0) (Float 0) else t)
+      ends (if eqb p 0 then set_output t (output c g 0) (Float 0) otherwise t)
 
   -- all nine inputs are read, and the wait narrowed, also for a record that is dropped
   unfoldable pub exec-Queue : State → ℕ → (Value → Started) → Stepped
@@ -120,12 +120,12 @@ module _ (c : Circuit) where
 
   -- A Var written, once. A circuit has at most 64 gates, so a unit writes as many Vars at the most: that test is never met (`roomy`).
   unfoldable pub write_once : Wires → ℕ → Wires
-  write_once w o = if among o w.written || leb most_gates (length w.written) then w else written≔ w (snoc w.written o)
+  write_once w o = if among o w.written || leb most_gates (length w.written) then w otherwise written≔ w (snoc w.written o)
 
   -- a Var written, while a body is running (`inside`) or outside; what reads it is marked when its write is published
   unfoldable pub record_write : Bool → Wires → ℕ → Wires
   record_write inside w o =
-      write_once (if inside then w else written_outside≔ w (set w.written_outside (gate_at_output c o) true)) o
+      write_once (if inside then w otherwise written_outside≔ w (set w.written_outside (gate_at_output c o) true)) o
 
   -- Value, as it reads, to the Var, with no conversion; direct readers see it at once
   unfoldable pub exec-VarSet : Bool → State → ℕ → Stepped
@@ -135,13 +135,13 @@ module _ (c : Circuit) where
 
   -- a condition that is true to ExecOutA, else to ExecOutB
   unfoldable pub exec-Branch : State → ℕ → Stepped
-  exec-Branch s₀ g = let s = readied s₀ g 1 1 in fires_next s (output c g (if truthy (read s g 1) then 0 else 1))
+  exec-Branch s₀ g = let s = readied s₀ g 1 1 in fires_next s (output c g (if truthy (read s g 1) then 0 otherwise 1))
 
   -- a Union passes once a tick
   unfoldable pub exec-Union : State → ℕ → Stepped
   exec-Union s g =
       if get_or s.wires.unions_passed g false then ends s
-      else fires_next (wires≔ s (unions_passed≔ s.wires (set s.wires.unions_passed g true))) (output c g 0)
+      otherwise fires_next (wires≔ s (unions_passed≔ s.wires (set s.wires.unions_passed g true))) (output c g 0)
 
   -- what is true becomes false, anything else true
   unfoldable pub exec-Toggle : State → ℕ → Stepped
@@ -152,7 +152,7 @@ module _ (c : Circuit) where
   exec-Cycle s₀ g p =
       let s = readied s₀ g 2 1 in
       let now = as_int (pos 0) (shown s.wires (output c g 2)) in
-      fires_next (set_output s (output c g 2) (Int (cycle_next (eqb p 1) (as_int (pos 0) (read s g 2)) now))) (output c g (if eqb p 1 then 1 else 0))
+      fires_next (set_output s (output c g 2) (Int (cycle_next (eqb p 1) (as_int (pos 0) (read s g 2)) now))) (output c g (if eqb p 1 then 1 otherwise 0))
 
   -- The eight values are read, also for a second send of the gate in this tick, which is ignored. So at most 64 events are sent in a tick, one by each gate:
   -- the other test is never met (`roomy`).
@@ -160,7 +160,7 @@ module _ (c : Circuit) where
   exec-SendEvent s₀ g =
       let s = readied s₀ g 2 8 in
       fires_next
-      (if among g (map (λ m. m.gate) s.outbox) || leb most_gates (length s.outbox) then s else outbox≔ s (snoc s.outbox (record { gate = g; row = read_row s g 2 8 })))
+      (if among g (map (λ m. m.gate) s.outbox) || leb most_gates (length s.outbox) then s otherwise outbox≔ s (snoc s.outbox (record { gate = g; row = read_row s g 2 8 })))
       (output c g 0)
 
   -- the loop whose body is running ends after this run of it, which goes on
@@ -171,19 +171,19 @@ module _ (c : Circuit) where
   unfoldable pub exec_kind : Bool → ℕ → State → ℕ → ℕ → Stepped
   exec_kind inside k s g p =
       if eqb k Reroute then fires_next s (output c g 0)
-      else if eqb k BufferTicksExec || eqb k BufferSecondsExec then exec-Buffer s g
-      else if eqb k Stopwatch then exec-Stopwatch s g p
-      else if eqb k QueueInTicks then exec-Queue s g (λ v. in_ticks (as_int (pos 0) v))
-      else if eqb k QueueInSeconds then exec-Queue s g (λ v. in_seconds (as_float 0 v))
-      else if eqb k VarGet then exec-VarGet s g
-      else if eqb k VarSet then exec-VarSet inside s g
-      else if eqb k Branch then exec-Branch s g
-      else if eqb k Union then exec-Union s g
-      else if eqb k Toggle then exec-Toggle s g
-      else if eqb k Cycle then exec-Cycle s g p
-      else if eqb k SendEvent || eqb k SendEventGlobal then exec-SendEvent s g
-      else if eqb k Break then exec-Break s g
-      else ends s
+      otherwise if eqb k BufferTicksExec || eqb k BufferSecondsExec then exec-Buffer s g
+      otherwise if eqb k Stopwatch then exec-Stopwatch s g p
+      otherwise if eqb k QueueInTicks then exec-Queue s g (λ v. in_ticks (as_int (pos 0) v))
+      otherwise if eqb k QueueInSeconds then exec-Queue s g (λ v. in_seconds (as_float 0 v))
+      otherwise if eqb k VarGet then exec-VarGet s g
+      otherwise if eqb k VarSet then exec-VarSet inside s g
+      otherwise if eqb k Branch then exec-Branch s g
+      otherwise if eqb k Union then exec-Union s g
+      otherwise if eqb k Toggle then exec-Toggle s g
+      otherwise if eqb k Cycle then exec-Cycle s g p
+      otherwise if eqb k SendEvent || eqb k SendEventGlobal then exec-SendEvent s g
+      otherwise if eqb k Break then exec-Break s g
+      otherwise ends s
 
   -- the gate that has input i
   unfoldable pub exec_gate : Bool → State → ℕ → Stepped

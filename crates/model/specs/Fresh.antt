@@ -6,7 +6,7 @@ use Rattle.schedule.specs.Schedule.{numbered, Turn}
 use Rattle.schedule.specs.Promise.{All}
 use Rattle.model.specs.declared.Value.{Value}
 use Rattle.model.specs.declared.Value.TheVariants.{Nothing, Float}
-use Rattle.model.specs.Base.{if◌then◌else◌}
+use Rattle.model.specs.Base.{if◌then◌otherwise◌}
 use Rattle.model.specs.Value.{truthy, same}
 use Rattle.model.specs.Kinds.{Select, Reroute, DeltaTime, pure}
 use Rattle.model.specs.Circuit.{Circuit, circuit, kind_of_gate, input, source, stored_in, gate_at_output}
@@ -27,10 +27,10 @@ module _ (c : Circuit) where
   -- DeltaTime the tick's length, ServerUptime the uptime.
   unfoldable pub gives : Wires → ℕ → (ℕ → Value) → Value
   gives w k at =
-      if eqb k Select then (if truthy (at 0) then at 2 else at 1)
-      else if eqb k Reroute then at 0
-      else if eqb k DeltaTime then Float w.dt
-      else Float w.uptime
+      if eqb k Select then (if truthy (at 0) then at 2 otherwise at 1)
+      otherwise if eqb k Reroute then at 0
+      otherwise if eqb k DeltaTime then Float w.dt
+      otherwise Float w.uptime
 
   -- Output o worked out afresh: of a pure gate what it gives, where at each of its inputs stands what its source comes to, worked out afresh too, or else the value
   -- stored in it; of any other gate, Vars among them, what it shows. What pure gates show does not matter (`of_others`). The first argument bounds how deep

@@ -3,7 +3,7 @@
 use Rattle.std.specs.Prelude.{ℕ, zero, suc, ◌-◌, ◌%◌, ◌^◌, Bool, true, false, not, ◌&&◌, map, eqb, ℤ, pos, negsuc, ◌+ℤ◌, ◌*ℤ◌, length}
 use Rattle.schedule.specs.Schedule.{list_full}
 use Rattle.model.specs.declared.Value.TheVariants.{Int, Bool as Truth}
-use Rattle.model.specs.Base.{if◌then◌else◌}
+use Rattle.model.specs.Base.{if◌then◌otherwise◌}
 use Rattle.model.specs.Value.{as_int}
 use Rattle.model.specs.Kinds.{Loop}
 use Rattle.model.specs.Circuit.{Circuit, kind_of_gate, entry_of_loop, output, gate_at_input}
@@ -96,7 +96,7 @@ module _ (c : Circuit) where
   unfoldable pub operate : Body → Bool → ℕ → Chained → Chained
   operate body inside i r =
       let g = gate_at_input c i in
-      if eqb (kind_of_gate c g) Loop then unless_stopped (fire_output c (output c g 0)) (run_loop body g r) else make_call c inside i r
+      if eqb (kind_of_gate c g) Loop then unless_stopped (fire_output c (output c g 0)) (run_loop body g r) otherwise make_call c inside i r
 
   -- calls are made, inside a body or outside, all but the `under` that waited when this run began
   unfoldable pub run_nested : Body → Bool → ℕ → Chained → Chained

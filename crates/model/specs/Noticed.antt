@@ -5,7 +5,7 @@ use Rattle.std.proofs.Math.Option.{none, some}
 use Rattle.schedule.specs.Schedule.{Raise, Place, When, numbered, acts, tick}
 use Rattle.schedule.specs.Promise.{total}
 use Rattle.model.specs.declared.Value.{Value}
-use Rattle.model.specs.Base.{if◌then◌else◌, keep, from}
+use Rattle.model.specs.Base.{if◌then◌otherwise◌, keep, from}
 use Rattle.model.specs.Kinds.{ChangeDetector}
 use Rattle.model.specs.Circuit.{Circuit, kind_of_gate, gate_at_input, watching}
 use Rattle.model.specs.State.{form-Fire, State, Act, wires≔}
@@ -17,7 +17,7 @@ use Rattle.model.specs.Order.{NumberedTick}
 
 -- 1 for a Fire of gate g, 0 for any other act
 unfoldable pub fire_of : ℕ → Act → ℕ
-fire_of g a = if eqb a.gate g && eqb a.form form-Fire then 1 else 0
+fire_of g a = if eqb a.gate g && eqb a.form form-Fire then 1 otherwise 0
 
 module _ (c : Circuit) where
   -- At the start every watched input waits to be checked, in ascending gate and input, and none was read.

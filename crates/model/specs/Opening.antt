@@ -4,7 +4,7 @@ use Rattle.std.proofs.Math.Option.{none}
 use Rattle.schedule.specs.Schedule.{Raise, Place, When, to_late, to_delivered, to_pending}
 use Rattle.model.specs.declared.Value.{Value}
 use Rattle.model.specs.declared.Value.TheVariants.{Nothing, Int, Float, Bool as Truth}
-use Rattle.model.specs.Base.{if◌then◌else◌, each, keep, joined, from}
+use Rattle.model.specs.Base.{if◌then◌otherwise◌, each, keep, joined, from}
 use Rattle.model.specs.Value.{truthy, bit, as_float, same, narrow, narrow_changes, plus64, one_point_zero}
 use Rattle.model.specs.Kinds.{Var, BufferTicks, BufferTicksExec, BufferSeconds, BufferSecondsExec, QueueInTicks, QueueInSeconds, pure}
 use Rattle.model.specs.Circuit.{Circuit, kind_of_gate, output, setting, watching, gates_of}
@@ -102,7 +102,7 @@ module _ (c : Circuit) where
   unfoldable pub lower : Wires → ℕ → Wires
   lower w o =
       let at = get_or w.pulses o 0 in
-      if ltb 0 at && leb (at + 2) w.tick then set_out c (pulses≔ w (set w.pulses o 0)) o (Truth false) else w
+      if ltb 0 at && leb (at + 2) w.tick then set_out c (pulses≔ w (set w.pulses o 0)) o (Truth false) otherwise w
 
   -- gate g has moved on: its row goes to its outputs from p on, then its Fires are raised
   unfoldable pub advanced : Opened → State → Place → ℕ → ℕ → Moved → Opened
@@ -117,9 +117,9 @@ module _ (c : Circuit) where
       let k = kind_of_gate c g in
       let d = delay c s g in
       if eqb k BufferTicks || eqb k BufferSeconds then advanced z s to_late g 0 (advance_flight (λ v. countdown c g (truthy v)) dt d)
-      else if eqb k BufferTicksExec || eqb k BufferSecondsExec then advanced z s to_late g 0 (advance_fires dt d)
-      else if eqb k QueueInTicks || eqb k QueueInSeconds then advanced z s to_late g 1 (advance_records dt d)
-      else z
+      otherwise if eqb k BufferTicksExec || eqb k BufferSecondsExec then advanced z s to_late g 0 (advance_fires dt d)
+      otherwise if eqb k QueueInTicks || eqb k QueueInSeconds then advanced z s to_late g 1 (advance_records dt d)
+      otherwise z
 
   -- the input's interval, unless it reads nothing, then the setting, then 1.0; both inputs are read, also where it is not enabled
   unfoldable pub advance_clock : Opened → ℕ → Opened

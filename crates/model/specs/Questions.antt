@@ -6,7 +6,7 @@ use Rattle.std.specs.Float.Ieee.{of_bits}
 use Rattle.words.specs.Words.{words}
 use Rattle.model.specs.declared.Value.{Value}
 use Rattle.model.specs.declared.Value.TheVariants.{Nothing, Int, Float, Bool as Truth}
-use Rattle.model.specs.Base.{if◌then◌else◌, keep, all, both, from, sum}
+use Rattle.model.specs.Base.{if◌then◌otherwise◌, keep, all, both, from, sum}
 use Rattle.model.specs.Value.{le64, kind-Int, kind-Float, kind-Bool}
 use Rattle.model.specs.Kinds.{In, value, Setting, anything, ticks, seconds, variable, channel, loop, fires, shows, passes, kind_at, Var, QueueInTicks, QueueInSeconds, WorldEvent, Loop, pure}
 use Rattle.model.specs.Circuit.{Circuit, circuit, part, word_at, minus_one, names, kind_of_gate, body_of_gate, inputs_of, gate_at_input, source, stored_in, gate_at_output, calls_of, gates, gates_of}
@@ -33,7 +33,7 @@ question_1 bytes ws =
 
 -- 2. Is each constant of kind 1 to 3, a Float finite, a Bool 0 or 1?
 unfoldable pub good_constant : ℕ → ℕ → Bool
-good_constant k b = if eqb k kind-Int then true else if eqb k kind-Float then finite b else if eqb k kind-Bool then within 0 1 b else false
+good_constant k b = if eqb k kind-Int then true otherwise if eqb k kind-Float then finite b otherwise if eqb k kind-Bool then within 0 1 b otherwise false
 
 -- of all constants
 unfoldable pub question_2 : List ℕ → Bool
@@ -87,7 +87,7 @@ names_constant c k = ltb k (length c.constants)
 -- of an input, its words for source and stored, and the value stored
 unfoldable pub good_input : Circuit → In → ℕ → ℕ → Value → Bool
 good_input c pin src k v =
-    (if eqb src minus_one then true else value_output c src && pin.source && eqb k 0)
+    (if eqb src minus_one then true otherwise value_output c src && pin.source && eqb k 0)
     && names_constant c k && (eqb k 0 || pin.constant) && good_setting c pin.setting v
 
 -- of all inputs
@@ -201,20 +201,20 @@ circuit_refusal areas bytes =
     let ws = words bytes in
     let c = circuit ws in
     if not (question_1 bytes ws) then 1
-    else if not (question_2 ws) then 2
-    else if not (question_3 ws c) then 3
-    else if not (question_4 ws c) then 4
-    else if not (question_5 ws c) then 5
-    else if not (question_19 c) then 19
-    else if not (question_6 c) then 6
-    else if not (question_7 areas c) then 7
-    else 0
+    otherwise if not (question_2 ws) then 2
+    otherwise if not (question_3 ws c) then 3
+    otherwise if not (question_4 ws c) then 4
+    otherwise if not (question_5 ws c) then 5
+    otherwise if not (question_19 c) then 19
+    otherwise if not (question_6 c) then 6
+    otherwise if not (question_7 areas c) then 7
+    otherwise 0
 
 -- the same of the questions about a script for the circuit c
 unfoldable pub script_refusal : Circuit → List ℕ → ℕ
 script_refusal c bytes =
     let ws = words bytes in
-    if not (question_8 bytes ws) then 8 else if not (question_9 ws) then 9 else if not (question_10 ws c) then 10 else 0
+    if not (question_8 bytes ws) then 8 otherwise if not (question_9 ws) then 9 otherwise if not (question_10 ws c) then 10 otherwise 0
 
 -- a later question is asked only where the earlier ones were answered yes
 unfoldable pub or_else : ℕ → ℕ → ℕ

@@ -1,7 +1,7 @@
 -- A record of the log: its parts and its words, written from the parts and read back. Who writes records and who reads them go by this.
 use Rattle.std.specs.Prelude.{ℕ, ◌+◌, ◌*◌, List, [], ◌∷◌, ◌++◌, map, eqb, length, take, drop}
 use Rattle.model.specs.declared.Value.{Value}
-use Rattle.model.specs.Base.{if◌then◌else◌, both}
+use Rattle.model.specs.Base.{if◌then◌otherwise◌, both}
 use Rattle.model.specs.Value.{kind_of, content_of, value_of}
 use Rattle.model.specs.Circuit.{part, word_at}
 
@@ -60,7 +60,7 @@ stop_in ws = word_at ws 5
 
 -- how many outputs it shows
 unfoldable pub shown_count : ℕ → List ℕ → ℕ
-shown_count outputs ws = if eqb (stop_in ws) 0 then outputs else 0
+shown_count outputs ws = if eqb (stop_in ws) 0 then outputs otherwise 0
 
 -- where the carried units begin, and the outputs
 unfoldable pub carried_at : List ℕ → ℕ

@@ -1,7 +1,7 @@
 -- A run: the machine, as `schedule` schedules it, and what is seen of the list of its ticks.
 use Rattle.std.specs.Prelude.{ℕ, List, [], ◌∷◌, map, eqb, length}
 use Rattle.schedule.specs.Schedule.{Did, Outcome, Closed, Place, When, Machine, plain, Tick, run}
-use Rattle.model.specs.Base.{if◌then◌else◌, keep, joined}
+use Rattle.model.specs.Base.{if◌then◌otherwise◌, keep, joined}
 use Rattle.model.specs.Circuit.{Circuit, rank_of_gate}
 use Rattle.model.specs.Script.{Given, script}
 use Rattle.model.specs.State.{Act}
@@ -69,7 +69,7 @@ module _ (c : Circuit) where
   -- the stop of the last tick, or 0
   unfoldable pub last_stop : List (Tick (plain machine)) → ℕ
   last_stop [] = 0
-  last_stop (t ∷ ts) = if eqb t.stop 0 then last_stop ts else t.stop
+  last_stop (t ∷ ts) = if eqb t.stop 0 then last_stop ts otherwise t.stop
 
   -- the records of a run's ticks, one behind the other, its stop, and how many ticks had no stop
   unfoldable pub seen : List (Tick (plain machine)) → Played

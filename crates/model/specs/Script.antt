@@ -2,7 +2,7 @@
 use Rattle.std.specs.Prelude.{ℕ, ◌+◌, ◌*◌, List, [], ◌∷◌, eqb, get_or, take, drop}
 use Rattle.model.specs.declared.Value.{Value}
 use Rattle.model.specs.declared.Value.TheVariants.{Nothing}
-use Rattle.model.specs.Base.{if◌then◌else◌, both}
+use Rattle.model.specs.Base.{if◌then◌otherwise◌, both}
 use Rattle.model.specs.Circuit.{part, word_at}
 use Rattle.model.specs.State.{Act, form-World}
 
@@ -17,7 +17,7 @@ pub record Given : Type 0 where
 
 -- a WorldEvent fires, and brings its constant; constant 0 only fires
 unfoldable pub stimulus : List Value → ℕ → ℕ → Act
-stimulus constants g k = record { gate = g; form = form-World; row = if eqb k 0 then [] else get_or constants k Nothing ∷ [] }
+stimulus constants g k = record { gate = g; form = form-World; row = if eqb k 0 then [] otherwise get_or constants k Nothing ∷ [] }
 
 -- each tick takes the next so many stimuli
 unfoldable pub given : List ℕ → List ℕ → List Act → List Given

@@ -5,7 +5,7 @@ use Rattle.std.proofs.Math.Option.{Option, none, some}
 use Rattle.schedule.specs.Schedule.{Raise, When, by_rank, put_off}
 use Rattle.model.specs.declared.Value.{Value}
 use Rattle.model.specs.declared.Value.TheVariants.{Nothing, Bool as Truth}
-use Rattle.model.specs.Base.{if◌then◌else◌, each}
+use Rattle.model.specs.Base.{if◌then◌otherwise◌, each}
 use Rattle.model.specs.Value.{truthy, as_float, same, lt64}
 use Rattle.model.specs.Kinds.{ChangeDetector, Edge, Change, EdgeExec, BufferTicks, BufferSeconds}
 use Rattle.model.specs.Circuit.{Circuit, kind_of_gate, input, output, gate_at_input, gate_at_output}
@@ -43,7 +43,7 @@ taken w i is = late_checks≔ (to_check≔ w is (set w.queued i false)) (set w.l
 
 -- how a check of input i raises what may be put off: where the input is marked for a late check, it is
 unfoldable pub when_checked : Wires → ℕ → When
-when_checked w i = if get_or w.late_checks i false then put_off else by_rank
+when_checked w i = if get_or w.late_checks i false then put_off otherwise by_rank
 
 -- no Var is written
 unfoldable pub none_written : Wires → Wires
@@ -65,24 +65,24 @@ module _ (c : Circuit) where
   -- Edge and EdgeExec compare as Floats, nothing as 0.0: rising is output 0, falling output 1
   unfoldable pub edge : State → Value → Value → (State → ℕ → Settled) → Settled
   edge s was now hit =
-      if lt64 (as_float 0 was) (as_float 0 now) then hit s 0 else if lt64 (as_float 0 now) (as_float 0 was) then hit s 1 else calm s
+      if lt64 (as_float 0 was) (as_float 0 now) then hit s 0 otherwise if lt64 (as_float 0 now) (as_float 0 was) then hit s 1 otherwise calm s
 
   -- watched input p of gate g changed: a detector, a value buffer, or an exec pin, which raises where the value is true; only a ChangeDetector and a pin are put off
   unfoldable pub detect : ℕ → When → State → ℕ → ℕ → Value → Value → Settled
   detect k when s g p was now =
       if eqb k ChangeDetector then raise when s g form-Fire
-      else if eqb k Edge then edge s was now (λ t o. calm (wires≔ t (pulse t.wires (output c g o))))
-      else if eqb k Change then calm (wires≔ s (pulse s.wires (output c g 0)))
-      else if eqb k EdgeExec then edge s was now (λ t o. raise by_rank t g (form_output + o))
-      else if eqb k BufferTicks || eqb k BufferSeconds then calm (with_countdown c s g (λ d left. buffer_input d now left) (countdown c g (truthy now)))
-      else if truthy now then raise when s g (form_pin + p)
-      else calm s
+      otherwise if eqb k Edge then edge s was now (λ t o. calm (wires≔ t (pulse t.wires (output c g o))))
+      otherwise if eqb k Change then calm (wires≔ s (pulse s.wires (output c g 0)))
+      otherwise if eqb k EdgeExec then edge s was now (λ t o. raise by_rank t g (form_output + o))
+      otherwise if eqb k BufferTicks || eqb k BufferSeconds then calm (with_countdown c s g (λ d left. buffer_input d now left) (countdown c g (truthy now)))
+      otherwise if truthy now then raise when s g (form_pin + p)
+      otherwise calm s
 
   -- `last` is replaced at every check, and acted on is only a change
   unfoldable pub compared : When → State → ℕ → Option Value → Value → Settled
   compared when s i was now =
       let t = wires≔ s (last≔ s.wires (set s.wires.last i (some now))) in
-      if unchanged was now then calm t else detect (kind_of_gate c (gate_at_input c i)) when t (gate_at_input c i) (i - input c (gate_at_input c i) 0) (last_value was) now
+      if unchanged was now then calm t otherwise detect (kind_of_gate c (gate_at_input c i)) when t (gate_at_input c i) (i - input c (gate_at_input c i) 0) (last_value was) now
 
   -- a watched input is read
   unfoldable pub check : When → State → ℕ → Settled

@@ -2,7 +2,7 @@
 use Rattle.std.specs.Prelude.{ℕ, ◌-◌, ◌&&◌, List, [], ◌∷◌, map, leb, ltb, eqb}
 use Rattle.std.proofs.Math.Option.{some}
 use Rattle.schedule.specs.Schedule.{Raise, When, Did}
-use Rattle.model.specs.Base.{if◌then◌else◌}
+use Rattle.model.specs.Base.{if◌then◌otherwise◌}
 use Rattle.model.specs.Kinds.{Stopwatch}
 use Rattle.model.specs.Circuit.{Circuit, kind_of_gate, input, output}
 use Rattle.model.specs.State.{form_pin, form_output, Act, State, wires≔}
@@ -30,13 +30,13 @@ raises_in w left rs = map (λ r. record { at = state≔ w left r.at; act = r.act
 module _ (c : Circuit) where
   -- the output that a unit fires: form-output + output that output, a Stopwatch's Fire Expired, any other output 0
   unfoldable pub fired : ℕ → ℕ → ℕ
-  fired g form = if leb form_output form then output c g (form - form_output) else if eqb (kind_of_gate c g) Stopwatch then output c g 1 else output c g 0
+  fired g form = if leb form_output form then output c g (form - form_output) otherwise if eqb (kind_of_gate c g) Stopwatch then output c g 1 otherwise output c g 0
 
   -- form-pin + pin enters its gate, which is a step; any other fires an output; a circuit has at most 256 calls (question 1), so the first ones always find room
   unfoldable pub begin : Act → Calls
   begin a =
       if leb form_pin a.form && ltb a.form form_output then record { stack = input c a.gate (a.form - form_pin) ∷ []; forks = [] }
-      else push_calls c (some (fired a.gate a.form)) no_calls
+      otherwise push_calls c (some (fired a.gate a.form)) no_calls
 
   -- the values that it brings are put on its outputs from 1 on
   unfoldable pub enter : State → Act → State
@@ -52,7 +52,7 @@ module _ (c : Circuit) where
       if eqb r.stop 0 then
       (let z = settle c (wires≔ r.state (publish_writes c r.state.wires)) in
       record { world = state≔ w r.left z.state; raises = raises_in w r.left z.raises; stop = 0 })
-      else record { world = state≔ w r.left r.state; raises = []; stop = r.stop }
+      otherwise record { world = state≔ w r.left r.state; raises = []; stop = r.stop }
 
   unfoldable pub unit_opened : ℕ
   unfolding state≔ raises_in fired begin enter run_unit finish_chain

@@ -3,7 +3,7 @@ use Rattle.std.specs.Prelude.{ℕ, zero, suc, Bool, true, false, not, ◌||◌, 
 use Rattle.std.proofs.Math.Option.{none, some}
 use Rattle.model.specs.declared.Value.{Value}
 use Rattle.model.specs.declared.Value.TheVariants.{Nothing, Float}
-use Rattle.model.specs.Base.{if◌then◌else◌, each, snoc}
+use Rattle.model.specs.Base.{if◌then◌otherwise◌, each, snoc}
 use Rattle.model.specs.Value.{truthy, same}
 use Rattle.model.specs.Kinds.{Select, Reroute, DeltaTime, pure}
 use Rattle.model.specs.Circuit.{Circuit, most_inputs, kind_of_gate, input, output, inputs_of, gate_at_input, source, stored_in, gate_at_output, readers_of, watching, gates}
@@ -39,11 +39,11 @@ clean w g = dirty≔ w (set w.dirty g false)
 -- never met (`roomy`).
 unfoldable pub watch : Wires → ℕ → Wires
 watch w i =
-    if get_or w.queued i true || leb most_inputs (length w.to_check) then w else to_check≔ w (snoc w.to_check i) (set w.queued i true)
+    if get_or w.queued i true || leb most_inputs (length w.to_check) then w otherwise to_check≔ w (snoc w.to_check i) (set w.queued i true)
 
 -- an input that is reached from a Var written only inside bodies is marked for a late check, also where it waits already
 unfoldable pub watch_for : Bool → Wires → ℕ → Wires
-watch_for late w i = watch (if late then late_checks≔ w (set w.late_checks i true) else w) i
+watch_for late w i = watch (if late then late_checks≔ w (set w.late_checks i true) otherwise w) i
 
 -- marking under way: the wires, the outputs whose readers are still to be marked, the newest first, and whether it is for a Var written only inside bodies
 pub record Marking : Type 0 where
@@ -61,10 +61,10 @@ module _ (c : Circuit) where
   -- what a pure gate gives
   unfoldable pub compute : Wires → ℕ → Value
   compute w g =
-      if eqb (kind_of_gate c g) Select then (if truthy (look w (input c g 0)) then look w (input c g 2) else look w (input c g 1))
-      else if eqb (kind_of_gate c g) Reroute then look w (input c g 0)
-      else if eqb (kind_of_gate c g) DeltaTime then Float w.dt
-      else Float w.uptime
+      if eqb (kind_of_gate c g) Select then (if truthy (look w (input c g 0)) then look w (input c g 2) otherwise look w (input c g 1))
+      otherwise if eqb (kind_of_gate c g) Reroute then look w (input c g 0)
+      otherwise if eqb (kind_of_gate c g) DeltaTime then Float w.dt
+      otherwise Float w.uptime
 
   -- a pure gate shows what it gives, and is fresh
   unfoldable pub recompute : Wires → ℕ → Wires
@@ -98,9 +98,9 @@ module _ (c : Circuit) where
   unfoldable pub mark_reader : Marking → ℕ → Marking
   mark_reader m i =
       if pure (kind_of_gate c (gate_at_input c i)) then
-      (if is_clean m.wires (gate_at_input c i) then record { wires = soil m.wires (gate_at_input c i); work = output c (gate_at_input c i) 0 ∷ m.work; late = m.late } else m)
-      else if watching c i then record { wires = watch_for m.late m.wires i; work = m.work; late = m.late }
-      else m
+      (if is_clean m.wires (gate_at_input c i) then record { wires = soil m.wires (gate_at_input c i); work = output c (gate_at_input c i) 0 ∷ m.work; late = m.late } otherwise m)
+      otherwise if watching c i then record { wires = watch_for m.late m.wires i; work = m.work; late = m.late }
+      otherwise m
 
   -- The last one found first. Each pure gate is found at most once, so one more than there are gates suffice.
   unfoldable pub mark_on : ℕ → Marking → Wires
@@ -121,7 +121,7 @@ module _ (c : Circuit) where
 
   -- an output gets a value, which reaches its readers at once if it is not equal to the old one
   unfoldable pub set_out : Wires → ℕ → Value → Wires
-  set_out w o v = if same (shown w o) v then w else mark_readers (show w o v) o
+  set_out w o v = if same (shown w o) v then w otherwise mark_readers (show w o v) o
 
   -- a row of values, to the outputs from o on
   unfoldable pub set_outs : Wires → ℕ → List Value → Wires

@@ -11,7 +11,7 @@ use Rattle.schedule.specs.Schedule.{Place, to_late, to_delivered, to_pending, Fi
 use Rattle.lists.specs.declared.Filed.{Filed as Answer}
 use Rattle.lists.specs.declared.Filed.TheVariants.{Full, Done}
 use Rattle.model.specs.declared.Value.{Value}
-use Rattle.model.specs.Base.{if◌then◌else◌, keep, joined, both}
+use Rattle.model.specs.Base.{if◌then◌otherwise◌, keep, joined, both}
 use Rattle.model.specs.Value.{same}
 use Rattle.model.specs.Circuit.{Circuit, part, kind_of_gate, setting}
 use Rattle.model.specs.Script.{stimulus}
@@ -44,14 +44,14 @@ brings_in g form k = omega arith
 
 -- a Fire
 pub fire_in : (c : Circuit) (g x : ℕ) → x ≡ entry_of g 0 0 → g < 65536 → act_of c x ≡ record { gate = g; form = 0; row = [] }
-unfolding act_of row_of if◌then◌else◌
+unfolding act_of row_of if◌then◌otherwise◌
 fire_in c g x e h =
     let p : g % 2 ^ 16 ≡ g = omega arith in
     ap (act_of c) e ∙ rw (gate_in g 0 0, form_in g 0 0, p)
 
 -- a stimulus
 pub stimulus_in : (c : Circuit) (g k x : ℕ) → x ≡ entry_of g 2 k → act_of c x ≡ stimulus c.constants (g % 2 ^ 16) (k % 2 ^ 16)
-unfolding act_of row_of if◌then◌else◌ stimulus
+unfolding act_of row_of if◌then◌otherwise◌ stimulus
 stimulus_in c g k x e = ap (act_of c) e ∙ rw (gate_in g 2 k, form_in g 2 k, brings_in g 2 k)
 
 -- a delivered event
@@ -142,13 +142,13 @@ module _ (c : Circuit) (u v : Units) (b : Answer) (kind e r : ℕ) (channel : Va
   pub heard_one : t ≡ true → e < 65536 → r < 65536 →
       (b ≡ answer (deliver (event_of u.events (entry_of r 1 e)) u.lists)) × (v ≡ with_lists u (lists_after u.lists (deliver (event_of u.events (entry_of r 1 e)) u.lists))) →
       Puts c u v b to_delivered (heard_by c kind channel (event u e).row (r ∷ []))
-  unfolding heard_by keep if◌then◌else◌ put_to
+  unfolding heard_by keep if◌then◌otherwise◌ put_to
   heard_one i ke kr h =
       rw (sym et ∙ i) (subst (λ (a : Act). Puts c u v b to_delivered (a ∷ [])) (event_in u r e kr ke) (put_one c to_delivered u v b _ h.0 h.1))
 
 pub heard_none : (c : Circuit) (u : Units) (kind e r : ℕ) (channel : Value) (t : Bool) → t ≡ (eqb (kind_of_gate c r) (kind + 2) && same channel (setting c r 0)) → t ≡ false →
     Puts c u u Done to_delivered (heard_by c kind channel (event u e).row (r ∷ []))
-unfolding heard_by keep if◌then◌else◌
+unfolding heard_by keep if◌then◌otherwise◌
 heard_none c u kind e r channel t et i = rw (sym et ∙ i) (puts_none c to_delivered u)
 
 -- whether r receives
@@ -163,7 +163,7 @@ hears_by k kind m x channel v w e h d j i = let q : m ≡ kind + 2 = omega arith
 
 heard_append : (c : Circuit) (kind : ℕ) (channel : Value) (row : List Value) (g : ℕ) (gs : List ℕ) →
     heard_by c kind channel row (g ∷ gs) ≡ heard_by c kind channel row (g ∷ []) ++ heard_by c kind channel row gs
-unfolding heard_by keep if◌then◌else◌
+unfolding heard_by keep if◌then◌otherwise◌
 heard_append c kind channel row g gs = go (eqb (kind_of_gate c g) (kind + 2) && same channel (setting c g 0))
   where
     heard : List ℕ → List Act
@@ -172,7 +172,7 @@ heard_append c kind channel row g gs = go (eqb (kind_of_gate c g) (kind + 2) && 
     rest : List ℕ
     rest = keep (λ r. eqb (kind_of_gate c r) (kind + 2) && same channel (setting c r 0)) gs
 
-    go : (b : Bool) → heard (if b then g ∷ rest else rest) ≡ heard (if b then g ∷ [] else []) ++ heard rest
+    go : (b : Bool) → heard (if b then g ∷ rest otherwise rest) ≡ heard (if b then g ∷ [] otherwise []) ++ heard rest
     go true = refl
     go false = refl
 

@@ -15,7 +15,7 @@ use Rattle.lists.specs.declared.Filed.{Filed as Answer}
 use Rattle.lists.specs.declared.Filed.TheVariants.{Done}
 use Rattle.model.specs.declared.Value.{Value}
 use Rattle.model.specs.declared.Value.TheVariants.{Float}
-use Rattle.model.specs.Base.{if◌then◌else◌, both, each, from}
+use Rattle.model.specs.Base.{if◌then◌otherwise◌, both, each, from}
 use Rattle.model.specs.Value.{value_of, truthy, as_float, bit, one_point_zero}
 use Rattle.model.specs.Circuit.{Circuit, kind_of_gate, input, output, setting}
 use Rattle.model.specs.Questions.{within}
@@ -92,18 +92,18 @@ lands_not c v d d₁ g dt (Some x) m k u = absurd (miss (0 ∷ []) 1 tt k)
 module _ (c : Circuit) (v v₁ : Values) (d d₁ : Delays) (g o dt : ℕ) where
   pub releases : (r : Released) → Moves d d₁ g (advance_records dt (delay_in d g)) (released r []).row (released r []).fires → r.due ≡ true → o ≡ output c g 1 →
       v₁ ≡ with_wires v (set_outs c v.wires o (both value_of r.front.kinds r.front.contents)) → MovesOn v v₁ d d₁ (releasing c dt g) to_late g (bit true)
-  unfolding releasing delay released queued moved if◌then◌else◌
+  unfolding releasing delay released queued moved if◌then◌otherwise◌
   releases r k er eo e u =
       advanced_by c v v₁ u d d₁ to_late g 1 (bit true) _ (queued r.front).row
-      (subst (λ (b : Bool). Moves d d₁ g (advance_records dt (delay_in d g)) (if b then (queued r.front).row else []) (bit b)) er k)
+      (subst (λ (b : Bool). Moves d d₁ g (advance_records dt (delay_in d g)) (if b then (queued r.front).row otherwise []) (bit b)) er k)
       (e ∙ ap (λ (i : ℕ). with_wires v (set_outs c v.wires i (queued r.front).row)) eo)
 
 pub releases_not : (c : Circuit) (v : Values) (d d₁ : Delays) (g dt : ℕ) (r : Released) → Moves d d₁ g (advance_records dt (delay_in d g)) (released r []).row (released r []).fires →
     r.due ≡ false → MovesOn v v d d₁ (releasing c dt g) to_late g (bit false)
-unfolding releasing delay released moved if◌then◌else◌ set_outs
+unfolding releasing delay released moved if◌then◌otherwise◌ set_outs
 releases_not c v d d₁ g dt r k er u =
     advanced_by c v v u d d₁ to_late g 1 (bit false) _ []
-    (subst (λ (b : Bool). Moves d d₁ g (advance_records dt (delay_in d g)) (if b then (queued r.front).row else []) (bit b)) er k)
+    (subst (λ (b : Bool). Moves d d₁ g (advance_records dt (delay_in d g)) (if b then (queued r.front).row otherwise []) (bit b)) er k)
     refl
 
 -- ---- its Fires, where it fires once or not
@@ -124,22 +124,22 @@ fires_not c v v₁ u d d₁ f p g t h i =
 
 module _ (c : Circuit) (dt g k : ℕ) (s : State) (ek : k ≡ kind_of_gate c g) where
   by_landing : OneOf (10 ∷ 12 ∷ []) k → advance_buffer c dt (unopened s) g ≡ landing c dt g s
-  unfolding advance_buffer if◌then◌else◌ landing unopened
+  unfolding advance_buffer if◌then◌otherwise◌ landing unopened
   by_landing (inl e) = rw (sym ek ∙ e)
   by_landing (inr e) = rw (sym ek ∙ e)
 
   by_firing : OneOf (11 ∷ 13 ∷ []) k → advance_buffer c dt (unopened s) g ≡ firing c dt g s
-  unfolding advance_buffer if◌then◌else◌ firing unopened
+  unfolding advance_buffer if◌then◌otherwise◌ firing unopened
   by_firing (inl e) = rw (sym ek ∙ e)
   by_firing (inr e) = rw (sym ek ∙ e)
 
   by_releasing : OneOf (16 ∷ 17 ∷ []) k → advance_buffer c dt (unopened s) g ≡ releasing c dt g s
-  unfolding advance_buffer if◌then◌else◌ releasing unopened
+  unfolding advance_buffer if◌then◌otherwise◌ releasing unopened
   by_releasing (inl e) = rw (sym ek ∙ e)
   by_releasing (inr e) = rw (sym ek ∙ e)
 
   by_none : (Unit {0} × (OneOf (10 ∷ 12 ∷ []) k → ⊥)) × (OneOf (11 ∷ 13 ∷ []) k → ⊥) → (OneOf (16 ∷ 17 ∷ []) k → ⊥) → advance_buffer c dt (unopened s) g ≡ unopened s
-  unfolding advance_buffer if◌then◌else◌ unopened
+  unfolding advance_buffer if◌then◌otherwise◌ unopened
   by_none h i =
       rw
       (sym ek, ne_eqb k 10 (λ e. h.0.1 (inl e)), ne_eqb k 12 (λ e. h.0.1 (inr e)), ne_eqb k 11 (λ e. h.1 (inl e)), ne_eqb k 13 (λ e. h.1 (inr e)), ne_eqb k 16 (λ e. i (inl e)), ne_eqb k 17 (λ e. i (inr e)))
@@ -261,19 +261,19 @@ module _ (c : Circuit) (v v₁ : Values) (u : Units) (d d₁ : Delays) (g : ℕ)
 
 module _ (c : Circuit) (v v₁ : Values) (g o : ℕ) (x : Value) (t : Bool) where
   pub shows : t ≡ true → o ≡ output c g 0 → v₁ ≡ with_wires v (set_out c v.wires o x) →
-      v₁ ≡ with_wires v (set_outs c v.wires (output c g 0) (if t then x ∷ [] else []))
-  unfolding if◌then◌else◌ set_outs
+      v₁ ≡ with_wires v (set_outs c v.wires (output c g 0) (if t then x ∷ [] otherwise []))
+  unfolding if◌then◌otherwise◌ set_outs
   shows i eo e = rw i (e ∙ ap (λ (k : ℕ). with_wires v (set_out c v.wires k x)) eo)
 
-pub shows_not : (c : Circuit) (v : Values) (g : ℕ) (x : Value) (t : Bool) → t ≡ false → v ≡ with_wires v (set_outs c v.wires (output c g 0) (if t then x ∷ [] else []))
-unfolding if◌then◌else◌ set_outs
+pub shows_not : (c : Circuit) (v : Values) (g : ℕ) (x : Value) (t : Bool) → t ≡ false → v ≡ with_wires v (set_outs c v.wires (output c g 0) (if t then x ∷ [] otherwise []))
+unfolding if◌then◌otherwise◌ set_outs
 shows_not c v g x t i = rw i
 
 module _
     (c : Circuit) (v v₁ v₂ : Values) (d d₁ : Delays) (g i l t : ℕ) (a : Value) (s : Stopwatch) (ei : i ≡ input c g 3) (e₁ : v₁ ≡ with_wires v (ready c v.wires i))
     (ea : a ≡ look c v₁.wires i) (el : l ≡ as_float 0 a) (et : t ≡ v₁.wires.dt)
     (m : Moves d d₁ g (advance_time t l (delay_in d g)) (stopwatch_moved s).row (stopwatch_moved s).fires)
-    (e₂ : v₂ ≡ with_wires v₁ (set_outs c v₁.wires (output c g 0) (if s.shows then Float s.time ∷ [] else [])))
+    (e₂ : v₂ ≡ with_wires v₁ (set_outs c v₁.wires (output c g 0) (if s.shows then Float s.time ∷ [] otherwise [])))
   where
     timer_values : v₁ ≡ with_wires v (each (ready c) v.wires (from (input c g 3) 1))
     unfolding each from
@@ -286,7 +286,7 @@ module _
         let q : v₁.wires ≡ w = ap (λ (x : Values). x.wires) timer_values in
         let pt : t ≡ w.dt = et ∙ ap (λ (x : Wires). x.dt) q in
         let pl : l ≡ as_float 0 (look c w (input c g 3)) = el ∙ ap (as_float 0) (ea ∙ (λ j. look c (q j) (ei j))) in
-        let row : List Value = if s.shows then Float s.time ∷ [] else [] in
+        let row : List Value = if s.shows then Float s.time ∷ [] otherwise [] in
         let k : Moves d d₁ g (advance_time w.dt (as_float 0 (look c w (input c g 3))) (delay_in d g)) row (bit s.expired) =
         subst (λ (x : Moved). Moves d d₁ g x row (bit s.expired)) (λ j. advance_time (pt j) (pl j) (delay_in d g)) m
         in

@@ -7,7 +7,7 @@ use lib.ListN.{get_or, drop}
 use Rattle.schedule.specs.Schedule.{Place}
 use Rattle.lists.specs.declared.Filed.{Filed as Answer}
 use Rattle.lists.specs.declared.Filed.TheVariants.{Full, Done}
-use Rattle.model.specs.Base.{if◌then◌else◌, each}
+use Rattle.model.specs.Base.{if◌then◌otherwise◌, each}
 use Rattle.model.specs.Circuit.{Circuit}
 use Rattle.model.specs.State.{Act, State}
 use Rattle.model.specs.Opening.{Opened, raised_to, fire, advanced, advance_buffer, advance_clock, advance_timer}
@@ -139,8 +139,8 @@ each_adds f h z (g ∷ gs) =
     ∙ ap (after z) (sym (each_adds f h y gs))
 
 -- a choice between two that do
-if_adds : (b : Bool) (z x y x' y' : Opened) → x ≡ after z x' → y ≡ after z y' → (if b then x else y) ≡ after z (if b then x' else y')
-unfolding if◌then◌else◌
+if_adds : (b : Bool) (z x y x' y' : Opened) → x ≡ after z x' → y ≡ after z y' → (if b then x otherwise y) ≡ after z (if b then x' otherwise y')
+unfolding if◌then◌otherwise◌
 if_adds true z x y x' y' e h = e
 if_adds false z x y x' y' e h = h
 

@@ -2,7 +2,7 @@
 ghost use Rattle.std.specs.Prelude.{◌≡◌, true, [], ◌∷◌, ◌+◌, ◌^◌, ◌<◌};
 ghost use Rattle.schedule.specs.Schedule.{to_late, to_pending};
 ghost use Rattle.model.specs.declared.Value.TheVariants.{Float};
-ghost use Rattle.model.specs.Base.{if◌then◌else◌, both, each};
+ghost use Rattle.model.specs.Base.{if◌then◌otherwise◌, both, each};
 ghost use Rattle.model.specs.Value.{value_of, as_float, bit, one_point_zero};
 ghost use Rattle.model.specs.Circuit.{output, setting};
 ghost use Rattle.model.specs.Wires.{look, set_outs};
@@ -224,7 +224,7 @@ pub fn advance_clocks(
 // Stopwatch g shows its time, if it shows it anew.
 fn show_time(links: &[usize], values: &mut [u8], g: usize, shows: bool, time: u64)
     requires { Linked links.now × Room values.old }
-    ensures { Turns links.now (values.old, values.new) (λ c w. set_outs c w (output c g 0) (if shows then Float time ∷ [] else [])) }
+    ensures { Turns links.now (values.old, values.new) (λ c w. set_outs c w (output c g 0) (if shows then Float time ∷ [] otherwise [])) }
 {
     if shows {
         set_out(links, values, output(links, g, 0), Value::Float(time));

@@ -7,7 +7,7 @@ use lib.Dec.{ltb, eqb}
 use lib.ListN.{length}
 use Rattle.schedule.specs.Schedule.{Raise, Filed, full, filed, most_waiting, most_delivered, Place, to_late, to_delivered, to_pending}
 use Rattle.lists.specs.declared.Filed.TheVariants.{Full}
-use Rattle.model.specs.Base.{if◌then◌else◌}
+use Rattle.model.specs.Base.{if◌then◌otherwise◌}
 use Rattle.model.specs.Circuit.{Circuit}
 use Rattle.model.specs.State.{Act, State}
 use Rattle.model.specs.Chain.{Chained}
@@ -70,7 +70,7 @@ module _ (c : Circuit) where
 
   -- a unit of the late pass leaves what waits for the main pass
   pub ran_later : (left : ℕ) (a : Act) (s : State) (l : Lists) → later (ran c Late left a s l).lists ≡ later l
-  unfolding ran finished_chain finished with_left filed_into place_for if◌then◌else◌
+  unfolding ran finished_chain finished with_left filed_into place_for if◌then◌otherwise◌
   ran_later left a s l = go (run_chain c left (begin c a) (enter c s a))
     where
       go : (r : Chained) → later (finished_chain c Late r l).lists ≡ later l

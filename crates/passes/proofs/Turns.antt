@@ -5,7 +5,7 @@ use mathlib.Core.Bool.{Bool, true, false}
 use mathlib.Core.List.{List, [], ◌∷◌, ◌++◌, append_assoc}
 use lib.Dec.{eqb}
 use Rattle.schedule.specs.Schedule.{When, Filed, Setup, Activation, list_full, Took, empty, took, Raising, raise_all, Passed, no_turn, pass, acts}
-use Rattle.model.specs.Base.{if◌then◌else◌}
+use Rattle.model.specs.Base.{if◌then◌otherwise◌}
 use Rattle.model.specs.Circuit.{Circuit}
 use Rattle.model.specs.State.{Act, wires≔}
 use Rattle.model.specs.Chain.{Chained}
@@ -39,7 +39,7 @@ module _ (c : Circuit) where
     pub chain_raises : (v : World) (r : Chained) (l : Lists) →
         let d = finish_chain c v r in
         Raises h (raise_all S there d.raises tt (h l) d.world d.stop) v (finished_chain c to r l)
-    unfolding finish_chain finished_chain finished if◌then◌else◌ with_left filed_into raise_all
+    unfolding finish_chain finished_chain finished if◌then◌otherwise◌ with_left filed_into raise_all
     chain_raises v r l = go (eqb r.stop 0) refl
       where
         go :

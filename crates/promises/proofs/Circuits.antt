@@ -18,7 +18,7 @@ use Rattle.words.proofs.Laws.{Below, words_below}
 use Rattle.schedule.specs.Promise.{All}
 use Rattle.model.specs.declared.Value.{Value}
 use Rattle.model.specs.declared.Value.TheVariants.{Nothing, Int, Float, Bool as Truth}
-use Rattle.model.specs.Base.{if◌then◌else◌, all, among, both, from, starts, owners}
+use Rattle.model.specs.Base.{if◌then◌otherwise◌, all, among, both, from, starts, owners}
 use Rattle.model.specs.Value.{as_int, value_of}
 use Rattle.model.specs.Kinds.{In, value, Watch, never, if_driven, always, Kind, table, kind_at, kinds_opened}
 use Rattle.model.specs.Circuit.{Circuit, circuit, part, word_at, is_watched, has_source, kind_of_gate, entry_of_loop, input, output, source, stored_in, setting, gate_at_input, watching, gates_such}
@@ -132,7 +132,7 @@ both_at f (x ∷ xs) (y ∷ ys) (suc i) a b e = let r = both_at f xs ys i a b e 
 
 -- the constants that question 2 lets through
 good_proper : (xs ys : List ℕ) → Below (2 ^ 64) ys → all (λ b. b) (both good_constant xs ys) ≡ true → (k : ℕ) → Proper (get_or (both value_of xs ys) k Nothing)
-unfolding both all good_constant value_of if◌then◌else◌
+unfolding both all good_constant value_of if◌then◌otherwise◌
 good_proper [] [] b h k = tt
 good_proper [] (y ∷ ys) b h k = tt
 good_proper (x ∷ xs) [] b h k = tt

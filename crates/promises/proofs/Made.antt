@@ -15,7 +15,7 @@ use Rattle.schedule.proofs.Erase.{map_append}
 use Rattle.schedule.proofs.Members.{all_append}
 use Rattle.model.specs.declared.Value.{Value}
 use Rattle.model.specs.declared.Value.TheVariants.{Nothing}
-use Rattle.model.specs.Base.{if◌then◌else◌, all, both}
+use Rattle.model.specs.Base.{if◌then◌otherwise◌, all, both}
 use Rattle.model.specs.Value.{kind_of, content_of}
 use Rattle.model.specs.Kinds.{Out, fires}
 use Rattle.model.specs.Circuit.{Circuit, most_gates}
@@ -46,19 +46,19 @@ Stop s = (s ≡ 0) ⊎ ((s ≡ runaway) ⊎ (s ≡ list_full))
 -- ---- clauses
 
 -- `limit - left` steps, and one more with stop 11
-good_steps_made : (limit left stop : ℕ) → limit ≤ most_steps → good_steps (limit - left + (if eqb stop runaway then 1 else 0)) stop ≡ true
-unfolding good_steps if◌then◌else◌
+good_steps_made : (limit left stop : ℕ) → limit ≤ most_steps → good_steps (limit - left + (if eqb stop runaway then 1 otherwise 0)) stop ≡ true
+unfolding good_steps if◌then◌otherwise◌
 good_steps_made limit left stop l = go (eqb stop runaway)
   where
-    most : (n : ℕ) (x : Bool) → n ≤ most_steps + (if x then 1 else 0) → (leb n most_steps || (eqb n (suc most_steps) && x)) ≡ true
+    most : (n : ℕ) (x : Bool) → n ≤ most_steps + (if x then 1 otherwise 0) → (leb n most_steps || (eqb n (suc most_steps) && x)) ≡ true
     most n x h = by (leb n most_steps) refl x h
       where
-        by : (b : Bool) → leb n most_steps ≡ b → (x : Bool) → n ≤ most_steps + (if x then 1 else 0) → (b || (eqb n (suc most_steps) && x)) ≡ true
+        by : (b : Bool) → leb n most_steps ≡ b → (x : Bool) → n ≤ most_steps + (if x then 1 otherwise 0) → (b || (eqb n (suc most_steps) && x)) ≡ true
         by true e x h = refl
         by false e true h = rw (eq-eqb n (suc most_steps) (omega (arith, h, leb-false n most_steps e)))
         by false e false h = absurd (omega (arith, h, leb-false n most_steps e))
 
-    go : (x : Bool) → (leb (limit - left + (if x then 1 else 0)) most_steps || (eqb (limit - left + (if x then 1 else 0)) (suc most_steps) && x)) ≡ true
+    go : (x : Bool) → (leb (limit - left + (if x then 1 otherwise 0)) most_steps || (eqb (limit - left + (if x then 1 otherwise 0)) (suc most_steps) && x)) ≡ true
     go true = most (limit - left + 1) true (omega (arith, l))
     go false = most (limit - left + 0) false (omega (arith, l))
 
@@ -114,11 +114,11 @@ module _ (c : Circuit) where
   each_proper [] k = [·]
   each_proper (v ∷ vs) k = ◌∷·◌ (k 0) (each_proper vs (λ n. k (suc n)))
 
-  shown : (s : State) (stop : ℕ) → (stop ≡ 0 → Holds c s) → Shows (if eqb stop 0 then length c.outputs else 0) (outputs_shown s stop)
-  unfolding outputs_shown if◌then◌else◌ good_output kind_of content_of
+  shown : (s : State) (stop : ℕ) → (stop ≡ 0 → Holds c s) → Shows (if eqb stop 0 then length c.outputs otherwise 0) (outputs_shown s stop)
+  unfolding outputs_shown if◌then◌otherwise◌ good_output kind_of content_of
   shown s stop h = go (eqb stop 0) (λ e. (h (eqb-true stop 0 e)).wires)
     where
-      go : (b : Bool) → (b ≡ true → Tells c s.wires) → Shows (if b then length c.outputs else 0) (if b then s.wires.outs else [])
+      go : (b : Bool) → (b ≡ true → Tells c s.wires) → Shows (if b then length c.outputs otherwise 0) (if b then s.wires.outs otherwise [])
       go true k =
           let f = k refl in
           let vs = s.wires.outs in
@@ -157,7 +157,7 @@ words_same (◌∷·◌ l a) = λ j. mod-eq_of_lt l j ∷ words_same a j
 
 -- no gate has a form above 33
 form_small : (c : Circuit) (g f : ℕ) → can_have c g f ≡ true → f < 2 ^ 64
-unfolding can_have if◌then◌else◌
+unfolding can_have if◌then◌otherwise◌
 form_small c g f h = go (leb f 33) refl
   where
     go : (b : Bool) → leb f 33 ≡ b → f < 2 ^ 64
@@ -193,7 +193,7 @@ module _ (c : Circuit) (gates : length c.kinds ≤ most_gates) where
   stop_small s (inr (inl e)) = omega (arith, e)
   stop_small s (inr (inr e)) = omega (arith, e)
 
-  steps_small : (limit left : ℕ) (b : Bool) → limit ≤ most_steps → limit - left + (if b then 1 else 0) < 2 ^ 64
+  steps_small : (limit left : ℕ) (b : Bool) → limit ≤ most_steps → limit - left + (if b then 1 otherwise 0) < 2 ^ 64
   steps_small limit left b k = if_both (λ (n : ℕ). limit - left + n < 2 ^ 64) b (omega (arith, k)) (omega (arith, k))
 
   pub made_words :

@@ -13,7 +13,7 @@ use Rattle.schedule.specs.Schedule.{Raise, When, by_rank}
 use Rattle.schedule.specs.Promise.{All, [·], ◌∷·◌}
 use Rattle.schedule.proofs.Members.{all_append}
 use Rattle.model.specs.declared.Value.{Value}
-use Rattle.model.specs.Base.{if◌then◌else◌, among}
+use Rattle.model.specs.Base.{if◌then◌otherwise◌, among}
 use Rattle.model.specs.Kinds.{never, if_driven, always, value, kind_at, receiving, kinds_opened}
 use Rattle.model.specs.Circuit.{Circuit, kind_of_gate, input, output, source, has_source, gate_at_input, watching}
 use Rattle.model.specs.State.{Act, State, wires≔}
@@ -58,19 +58,19 @@ module _ (c : Circuit) (g : ℕ) where
       go (suc k) h = omega arith
 
   pub fire_good : firing (kind_of_gate c g) ≡ true → good_unit c (listed g 0) ≡ true
-  unfolding can_have if◌then◌else◌ firing within
+  unfolding can_have if◌then◌otherwise◌ firing within
   fire_good h = entered 0 (some_kind firing refl h) h
 
   pub event_good : receiving (kind_of_gate c g) ≡ true → good_unit c (listed g 1) ≡ true
-  unfolding can_have if◌then◌else◌ receiving
+  unfolding can_have if◌then◌otherwise◌ receiving
   event_good h = entered 1 (some_kind receiving refl h) h
 
   pub world_good : eqb (kind_of_gate c g) 28 ≡ true → good_unit c (listed g 2) ≡ true
-  unfolding can_have if◌then◌else◌
+  unfolding can_have if◌then◌otherwise◌
   world_good h = entered 2 (some_kind (λ k. eqb k 28) refl h) h
 
   pin_good : (p : ℕ) → p < 16 → driven c g p ≡ true → good_unit c (listed g (16 + p)) ≡ true
-  unfolding can_have if◌then◌else◌ driven kinds_opened
+  unfolding can_have if◌then◌otherwise◌ driven kinds_opened
   pin_good p l h =
       let e : 16 + p - 16 ≡ p = omega arith in
       let h' : driven c g (16 + p - 16) ≡ true = ap (driven c g) e ∙ h in
@@ -81,7 +81,7 @@ module _ (c : Circuit) (g : ℕ) where
       watched k = elim (get_or (kind_at k).ins p value).watch [ never ↦ false | if_driven ↦ has_source (source c (input c g p)) | always ↦ false ]
 
   edge_good : (o : ℕ) → o < 2 → eqb (kind_of_gate c g) 9 ≡ true → good_unit c (listed g (32 + o)) ≡ true
-  unfolding can_have if◌then◌else◌
+  unfolding can_have if◌then◌otherwise◌
   edge_good zero l h = entered 32 (some_kind (λ k. eqb k 9) refl h) h
   edge_good (suc zero) l h = entered 33 (some_kind (λ k. eqb k 9) refl h) h
   edge_good (suc (suc o)) l h = absurd (omega arith)

@@ -11,7 +11,7 @@ use lib.ListN.{length}
 use borrow.Author.Tests.{eq-eqb}
 use Rattle.words.specs.Words.{word, words, bytes}
 use Rattle.words.proofs.Laws.{length_bytes}
-use Rattle.model.specs.Base.{if◌then◌else◌}
+use Rattle.model.specs.Base.{if◌then◌otherwise◌}
 use Rattle.model.specs.Circuit.{circuit}
 use Rattle.model.specs.Script.{most_ticks}
 use Rattle.model.specs.Run.{Played, most_steps, gets, ticks_of, seen}
@@ -73,7 +73,7 @@ limited_whole areas room limit cb sb lc ls k h =
 
 -- a circuit that is not refused with areas is not refused without
 circuit_asked : (areas : Areas) (cb sb : List ℕ) → refusal (some areas) cb sb ≡ 0 → circuit_refusal none cb ≡ 0
-unfolding circuit_refusal if◌then◌else◌ question_7
+unfolding circuit_refusal if◌then◌otherwise◌ question_7
 circuit_asked areas cb sb h =
     let a = accepted (some areas) cb sb h in
     let k = leb (queues (circuit (words cb))) 8 in
@@ -83,7 +83,7 @@ circuit_asked areas cb sb h =
     rw (a.sizes, a.constants, a.gates, a.inputs, a.calls, a.bodies, a.order, q₃)
 
 pub every_log_whole : EveryLogWhole
-unfolding answer answer_to play log_refusal or_else if◌then◌else◌
+unfolding answer answer_to play log_refusal or_else if◌then◌otherwise◌
 every_log_whole areas room cb sb p lc ls e = go (refusal (some areas) cb sb) refl e
   where
     go : (n : ℕ) → refusal (some areas) cb sb ≡ n → answer_to n room cb sb ≡ played p → (log_refusal cb (bytes p.log) ≡ 0) × WholeRecords (circuit (words cb)) (bytes p.log)

@@ -9,7 +9,7 @@ use lib.Dec.{ltb, eqb}
 use lib.ListN.{length, get_or}
 use Rattle.model.specs.declared.Value.{Value}
 use Rattle.model.specs.declared.Value.TheVariants.{Nothing, Int, Float, Bool as Truth}
-use Rattle.model.specs.Base.{if◌then◌else◌}
+use Rattle.model.specs.Base.{if◌then◌otherwise◌}
 use Rattle.model.specs.Value.{bit, kind_of, content_of, as_float}
 use Rattle.model.specs.Kinds.{Out, fires, shows, passes}
 use Rattle.model.specs.Circuit.{Circuit}
@@ -77,7 +77,7 @@ at_proper c o v (inr p) = p.1
 
 -- its kind and content are those of a constant, or 0 0
 proper_constant : (v : Value) → Proper v → let u = in_words v in ((eqb (kind_of u) 0 && eqb (content_of u) 0) || good_constant (kind_of u) (content_of u)) ≡ true
-unfolding kind_of content_of good_constant if◌then◌else◌ bit within
+unfolding kind_of content_of good_constant if◌then◌otherwise◌ bit within
 proper_constant Nothing p = refl
 proper_constant (Int b) p = refl
 proper_constant (Float b) p = p.0

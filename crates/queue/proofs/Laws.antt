@@ -9,7 +9,7 @@ use borrow.Author.Tests.{lt-ltb, le-ltb, not-true, not-false}
 use lib.Dec.{ltb}
 use lib.ListN.{length, get_or, set, length-set}
 use lib.Seq.{append_snoc, get_or-set_same, get_or-set_other}
-use Rattle.model.specs.Base.{if◌then◌else◌, snoc}
+use Rattle.model.specs.Base.{if◌then◌otherwise◌, snoc}
 use Rattle.model.specs.Value.{bit}
 use Rattle.model.specs.declared.Value.{Value}
 use Rattle.model.specs.State.{Countdown, Queued, Delay, idle, records≔}
@@ -112,7 +112,7 @@ records_behind seconds w n h l b =
 -- there is no front record
 pub take_none : (seconds : Bool) (w : List ℕ) (n : ℕ) (r : Released) → n ≡ min (get_or w 1 0) 256 → n ≡ 0 → (r.due ≡ false) × (queued r.front ≡ blank)
     → (released r (records seconds w) ≡ hand_out idle (records seconds w)) × (queued r.front ≡ front_if_due (records seconds w))
-unfolding released hand_out front_if_due if◌then◌else◌ bit
+unfolding released hand_out front_if_due if◌then◌otherwise◌ bit
 take_none seconds w n r en z e = let c : get_or w 1 0 ≡ 0 = omega arith in rw (records_none seconds w c, e.0) (refl, e.1)
 
 -- the front record's countdown, as it is read for itself
@@ -125,7 +125,7 @@ front_due seconds w h x k d ex ek ed = sym (ed ∙ ap due (ek ∙ ap (of_word se
 pub take_later : (seconds : Bool) (w : List ℕ) (n h x : ℕ) (k : Counting) (d : Bool) (r : Released) → n ≡ min (get_or w 1 0) 256 → (n ≡ 0 → ⊥) → h ≡ get_or w 0 0 % 256
     → x ≡ get_or w (2 + h) 0 → counted k ≡ of_word seconds x → d ≡ due (counted k) → not d ≡ true → (r.due ≡ false) × (queued r.front ≡ blank)
     → (released r (records seconds w) ≡ hand_out idle (records seconds w)) × (queued r.front ≡ front_if_due (records seconds w))
-unfolding released hand_out front_if_due if◌then◌else◌ bit
+unfolding released hand_out front_if_due if◌then◌otherwise◌ bit
 take_later seconds w n h x k d r en z eh ex ek ed f e =
     rw (records_front seconds w n h en z eh, front_due seconds w h x k d ex ek ed, not-true d f, e.0) (refl, e.1)
 
@@ -133,7 +133,7 @@ take_later seconds w n h x k d r en z eh ex ek ed f e =
 pub take_due : (seconds : Bool) (w u v : List ℕ) (n h x : ℕ) (k : Counting) (d : Bool) (q : Record) → 2 ≤ length w → n ≡ min (get_or w 1 0) 256 → (n ≡ 0 → ⊥) → h ≡ get_or w 0 0 % 256
     → x ≡ get_or w (2 + h) 0 → counted k ≡ of_word seconds x → d ≡ due (counted k) → not d ≡ false → queued q ≡ slot seconds w h → u ≡ set w 0 (h + 1) → v ≡ set u 1 (n - 1)
     → (released (record { due = true; front = q }) (records seconds v) ≡ hand_out idle (records seconds w)) × (queued q ≡ front_if_due (records seconds w))
-unfolding released hand_out front_if_due if◌then◌else◌ bit
+unfolding released hand_out front_if_due if◌then◌otherwise◌ bit
 take_due seconds w u v n h x k d q l en z eh ex ek ed f eq eu ev =
     let g : due (slot seconds w h).left ≡ true = front_due seconds w h x k d ex ek ed ∙ not-false d f in
     let b : records seconds v ≡ ring (slot seconds w) (h + 1) (n - 1) = rw (ev, eu) (records_behind seconds w n h l (omega arith)) in
@@ -162,7 +162,7 @@ records_more seconds w u v n h q l en m eh k ev =
 -- there is room for it
 pub push_room : (seconds : Bool) (w u v : List ℕ) (n h : ℕ) (q : Queued) → 2 ≤ length u → n ≡ min (get_or w 1 0) 256 → n < 256 → h ≡ get_or w 0 0 % 256
     → Placed seconds w u ((h + n) % 256) q → v ≡ set u 1 (n + 1) → records seconds v ≡ (queue_record (records≔ idle (records seconds w)) q.row q.left).records
-unfolding queue_record records≔ if◌then◌else◌
+unfolding queue_record records≔ if◌then◌otherwise◌
 push_room seconds w u v n h q l en m eh k ev =
     let f : ltb (length (records seconds w)) 256 ≡ true = lt-ltb (length (records seconds w)) 256 (omega (arith, records_length seconds w)) in
     rw f (records_more seconds w u v n h q l en m eh k ev)
@@ -170,7 +170,7 @@ push_room seconds w u v n h q l en m eh k ev =
 -- there is none
 pub push_full : (seconds : Bool) (w : List ℕ) (n : ℕ) (q : Queued) → n ≡ min (get_or w 1 0) 256 → 256 ≤ n
     → records seconds w ≡ (queue_record (records≔ idle (records seconds w)) q.row q.left).records
-unfolding queue_record records≔ if◌then◌else◌
+unfolding queue_record records≔ if◌then◌otherwise◌
 push_full seconds w n q en m =
     let f : ltb (length (records seconds w)) 256 ≡ false = le-ltb (length (records seconds w)) 256 (omega (arith, records_length seconds w)) in
     rw f
@@ -199,12 +199,12 @@ moved_in d m = moved (records≔ d m.state.records) m.row m.fires
 
 -- handing out
 hand_out_in : (d : Delay) (qs : List Queued) → hand_out d qs ≡ moved_in d (hand_out idle qs)
-unfolding hand_out records≔ moved if◌then◌else◌
+unfolding hand_out records≔ moved if◌then◌otherwise◌
 hand_out_in d [] = refl
 hand_out_in d (q ∷ qs) = by_due (due q.left)
   where
-    by_due : (b : Bool) → (if b then moved (records≔ d qs) q.row 1 else moved (records≔ d (q ∷ qs)) [] 0)
-        ≡ moved_in d (if b then moved (records≔ idle qs) q.row 1 else moved (records≔ idle (q ∷ qs)) [] 0)
+    by_due : (b : Bool) → (if b then moved (records≔ d qs) q.row 1 otherwise moved (records≔ d (q ∷ qs)) [] 0)
+        ≡ moved_in d (if b then moved (records≔ idle qs) q.row 1 otherwise moved (records≔ idle (q ∷ qs)) [] 0)
     by_due true = refl
     by_due false = refl
 
@@ -217,24 +217,24 @@ advance_in dt d =
 -- a tick that hands out the front record
 pub advance_due : (dt : ℕ) (d : Delay) (r : Released) (qs : List Queued) → released r qs ≡ advance_records dt (records≔ idle d.records) → r.due ≡ true
     → advance_records dt d ≡ moved (records≔ d qs) (queued r.front).row 1
-unfolding released moved records≔ if◌then◌else◌ bit
+unfolding released moved records≔ if◌then◌otherwise◌ bit
 advance_due dt d r qs e f = advance_in dt d ∙ ap (moved_in d) (sym e) ∙ rw f
 
 -- a tick that hands out nothing
 pub advance_none : (dt : ℕ) (d : Delay) (r : Released) (qs : List Queued) → released r qs ≡ advance_records dt (records≔ idle d.records) → r.due ≡ false
     → advance_records dt d ≡ moved (records≔ d qs) [] 0
-unfolding released moved records≔ if◌then◌else◌ bit
+unfolding released moved records≔ if◌then◌otherwise◌ bit
 advance_none dt d r qs e f = advance_in dt d ∙ ap (moved_in d) (sym e) ∙ rw f
 
 -- a new record
 pub queue_record_in : (d : Delay) (row : List Value) (k : Countdown) → queue_record d row k ≡ records≔ d (queue_record (records≔ idle d.records) row k).records
-unfolding queue_record records≔ if◌then◌else◌
+unfolding queue_record records≔ if◌then◌otherwise◌
 queue_record_in d row k = by_room (ltb (length d.records) 256)
   where
     q : Queued
     q = record { row = row; left = k }
 
-    by_room : (b : Bool) → (if b then records≔ d (snoc d.records q) else d)
-        ≡ records≔ d (if b then records≔ idle (snoc d.records q) else records≔ idle d.records).records
+    by_room : (b : Bool) → (if b then records≔ d (snoc d.records q) otherwise d)
+        ≡ records≔ d (if b then records≔ idle (snoc d.records q) otherwise records≔ idle d.records).records
     by_room true = refl
     by_room false = refl

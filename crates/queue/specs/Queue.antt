@@ -1,7 +1,7 @@
 -- The records of one Queue as its part of the area holds them. In words: where the front record stands, how many records there are, 256 countdowns, and 256 rows
 -- of eight kinds and eight contents. The records go round a ring of 256 slots.
 use Rattle.std.specs.Prelude.{ℕ, zero, suc, ◌+◌, ◌*◌, ◌%◌, ◌<◌, min, ◌≡◌, Bool, List, [], ◌∷◌, get_or, take, drop, replicate}
-use Rattle.model.specs.Base.{if◌then◌else◌, both}
+use Rattle.model.specs.Base.{if◌then◌otherwise◌, both}
 use Rattle.model.specs.Value.{bit, value_of}
 use Rattle.model.specs.declared.Value.TheVariants.{Nothing}
 use Rattle.model.specs.State.{ticks_left, Queued, idle, records≔}
@@ -16,7 +16,7 @@ queued r = record { row = both value_of r.kinds r.contents; left = counted r.lef
 
 -- what a tick comes to: the records that are left, and the row of the one that is handed out
 unfoldable pub released : Released → List Queued → Moved
-released r qs = moved (records≔ idle qs) (if r.due then (queued r.front).row else []) (bit r.due)
+released r qs = moved (records≔ idle qs) (if r.due then (queued r.front).row otherwise []) (bit r.due)
 
 -- the record that stands beside a `due` that is false
 unfoldable pub blank : Queued
@@ -25,7 +25,7 @@ blank = record { row = replicate 8 Nothing; left = ticks_left 0 }
 -- the front record, if it is due
 unfoldable pub front_if_due : List Queued → Queued
 front_if_due [] = blank
-front_if_due (q ∷ qs) = if due q.left then q else blank
+front_if_due (q ∷ qs) = if due q.left then q otherwise blank
 
 -- a record counts down
 unfoldable pub ticked : ℕ → Queued → Queued

@@ -16,7 +16,7 @@ use mir.Facts.{to_z-of_z}
 use Rattle.words.specs.Words.{words, tail}
 use Rattle.words.proofs.Laws.{words_put, tail_put, words_mid, length_words, words_long}
 use Rattle.model.specs.declared.Value.{Value}
-use Rattle.model.specs.Base.{if◌then◌else◌, both}
+use Rattle.model.specs.Base.{if◌then◌otherwise◌, both}
 use Rattle.model.specs.Value.{value_of, as_int, as_float}
 use Rattle.model.specs.Circuit.{Circuit, part, kind_of_gate}
 use Rattle.model.specs.Questions.{queues}
@@ -77,12 +77,12 @@ module _ (c : Circuit) (bs p : List ℕ) (g : ℕ) (l : Lent c bs) (iq : is_queu
           part_behind (queue_at (number c g) + 4354) (queue_at (number c h)) 4354 (words bs) (words to) (omega (arith, number_rises c g h (leb-false h g q) iq)) part_back.behind
 
   other_records : (h : ℕ) → h < 64 → (h ≡ g → ⊥) → records_at c (words to) h ≡ records_at c (words bs) h
-  unfolding records_at if◌then◌else◌
+  unfolding records_at if◌then◌otherwise◌
   other_records h u d = go (is_queue c h) refl
     where
       go : (b : Bool) → is_queue c h ≡ b
-          → (if b then records (eqb (kind_of_gate c h) 17) (part (words to) (queue_at (get_or (words to) h 0)) 4354) else [])
-          ≡ (if b then records (eqb (kind_of_gate c h) 17) (part (words bs) (queue_at (get_or (words bs) h 0)) 4354) else [])
+          → (if b then records (eqb (kind_of_gate c h) 17) (part (words to) (queue_at (get_or (words to) h 0)) 4354) otherwise [])
+          ≡ (if b then records (eqb (kind_of_gate c h) 17) (part (words bs) (queue_at (get_or (words bs) h 0)) 4354) otherwise [])
       go true ih =
           ap (records (eqb (kind_of_gate c h) 17))
           (ap (λ (i : ℕ). part (words to) (queue_at i) 4354) (same_word h (omega arith) ∙ part_number c bs h l m ih) ∙ other_part h ih d
@@ -91,7 +91,7 @@ module _ (c : Circuit) (bs p : List ℕ) (g : ℕ) (l : Lent c bs) (iq : is_queu
 
   -- its own records
   own_records : records_at c (words to) g ≡ records (eqb (kind_of_gate c g) 17) (words p)
-  unfolding records_at if◌then◌else◌
+  unfolding records_at if◌then◌otherwise◌
   own_records =
       rw iq
       (ap (records (eqb (kind_of_gate c g) 17))
@@ -115,16 +115,16 @@ module _ (c : Circuit) (bs p : List ℕ) (g : ℕ) (l : Lent c bs) (iq : is_queu
 -- ---- a new record's countdown
 
 pub countdown_seconds : (s : Bool) (v : Value) (w : ℕ) (k : Started) → s ≡ true → w ≡ as_float 0 v → k ≡ in_seconds w → k ≡ queue_countdown s v
-unfolding queue_countdown if◌then◌else◌
+unfolding queue_countdown if◌then◌otherwise◌
 countdown_seconds s v w k es ew ek = rw es (ek ∙ ap in_seconds ew)
 
 pub countdown_ticks : (s : Bool) (v : Value) (x : ℤ) (k : Started) → SFits w64 x → s ≡ false → x ≡ as_int (pos 0) v → k ≡ in_ticks (to_z w64 (of_z w64 x)) → k ≡ queue_countdown s v
-unfolding queue_countdown if◌then◌else◌
+unfolding queue_countdown if◌then◌otherwise◌
 countdown_ticks s v x k f es ex ek = rw es (ek ∙ ap in_ticks (to_z-of_z f ∙ ex))
 
 -- it counts seconds or ticks
 countdown_kind : (s : Bool) (v : Value) → counts_seconds (queue_countdown s v).left ≡ s
-unfolding queue_countdown if◌then◌else◌ counts_seconds in_seconds in_ticks
+unfolding queue_countdown if◌then◌otherwise◌ counts_seconds in_seconds in_ticks
 countdown_kind true v = refl
 countdown_kind false v = refl
 
@@ -147,7 +147,7 @@ module _ (c : Circuit) (bs p : List ℕ) (g x a e : ℕ) (l : Lent c bs) (m : le
   lent_words = let q : e - a ≡ 34832 = omega arith in rw (q, ea) (words_mid (queue_at x) 4354 bs)
 
   own : (delay_in (delays c bs) g).records ≡ records (eqb (kind_of_gate c g) 17) (words (take (e - a) (drop a bs)))
-  unfolding delay_at delay_of records_at if◌then◌else◌
+  unfolding delay_at delay_of records_at if◌then◌otherwise◌
   own =
       ap (λ (d : Delay). d.records) (delay_here c bs g (queue_there c g iq))
       ∙ rw iq (ap (λ (i : ℕ). records (eqb (kind_of_gate c g) 17) (part (words bs) (queue_at i) 4354)) (sym ex) ∙ ap (records (eqb (kind_of_gate c g) 17)) (sym lent_words))

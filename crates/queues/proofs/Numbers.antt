@@ -8,7 +8,7 @@ use borrow.Author.Tests.{leb-true, leb-false}
 use lib.Dec.{T, leb}
 use lib.ListN.{length, get_or, take, length-take, get_or-eq_default}
 use lib.Seq.{get_or-take, take-take}
-use Rattle.model.specs.Base.{if◌then◌else◌, keep, from}
+use Rattle.model.specs.Base.{if◌then◌otherwise◌, keep, from}
 use Rattle.model.specs.Circuit.{Circuit, kind_of_gate, gates_of, gates_such}
 use Rattle.model.specs.Questions.{within, queues}
 use Rattle.links.specs.Links.{cell, net}
@@ -19,53 +19,53 @@ use Rattle.states.specs.View.{is_queue, number}
 
 -- numbers from a place on
 keep_later : (f : ℕ → Bool) (a n : ℕ) → length (keep f (from (suc a) n)) ≡ length (keep (λ g. f (suc g)) (from a n))
-unfolding keep from if◌then◌else◌
+unfolding keep from if◌then◌otherwise◌
 keep_later f a zero = refl
 keep_later f a (suc n) = go (f (suc a)) refl (keep_later f (suc a) n)
   where
     go : (b : Bool) → f (suc a) ≡ b → length (keep f (from (suc (suc a)) n)) ≡ length (keep (λ g. f (suc g)) (from (suc a) n))
-        → length (if b then suc a ∷ keep f (from (suc (suc a)) n) else keep f (from (suc (suc a)) n))
-        ≡ length (if b then a ∷ keep (λ g. f (suc g)) (from (suc a) n) else keep (λ g. f (suc g)) (from (suc a) n))
+        → length (if b then suc a ∷ keep f (from (suc (suc a)) n) otherwise keep f (from (suc (suc a)) n))
+        ≡ length (if b then a ∷ keep (λ g. f (suc g)) (from (suc a) n) otherwise keep (λ g. f (suc g)) (from (suc a) n))
     go true e h = ap suc h
     go false e h = h
 
 -- the numbers of those that pass are as many as those that pass
 keep_numbers : (p : ℕ → Bool) (ks : List ℕ) → length (keep (λ g. p (get_or ks g 0)) (from 0 (length ks))) ≡ length (keep p ks)
-unfolding keep from if◌then◌else◌
+unfolding keep from if◌then◌otherwise◌
 keep_numbers p [] = refl
 keep_numbers p (k ∷ ks) = go (p k) (keep_later (λ g. p (get_or (k ∷ ks) g 0)) 0 (length ks) ∙ keep_numbers p ks)
   where
     go : (b : Bool) → length (keep (λ g. p (get_or (k ∷ ks) g 0)) (from 1 (length ks))) ≡ length (keep p ks)
-        → length (if b then 0 ∷ keep (λ g. p (get_or (k ∷ ks) g 0)) (from 1 (length ks)) else keep (λ g. p (get_or (k ∷ ks) g 0)) (from 1 (length ks)))
-        ≡ length (if b then k ∷ keep p ks else keep p ks)
+        → length (if b then 0 ∷ keep (λ g. p (get_or (k ∷ ks) g 0)) (from 1 (length ks)) otherwise keep (λ g. p (get_or (k ∷ ks) g 0)) (from 1 (length ks)))
+        ≡ length (if b then k ∷ keep p ks otherwise keep p ks)
     go true h = ap suc h
     go false h = h
 
 -- before one that passes there are fewer
 keep_fewer : (p : ℕ → Bool) (ks : List ℕ) (g : ℕ) → p 0 ≡ false → p (get_or ks g 0) ≡ true → length (keep p (take g ks)) < length (keep p ks)
-unfolding keep if◌then◌else◌
+unfolding keep if◌then◌otherwise◌
 keep_fewer p [] g z e = absurd (subst T (sym e ∙ z) tt)
 keep_fewer p (k ∷ ks) zero z e = rw e (omega arith)
 keep_fewer p (k ∷ ks) (suc g) z e = go (p k) (keep_fewer p ks g z e)
   where
-    go : (b : Bool) → length (keep p (take g ks)) < length (keep p ks) → length (if b then k ∷ keep p (take g ks) else keep p (take g ks)) < length (if b then k ∷ keep p ks else keep p ks)
+    go : (b : Bool) → length (keep p (take g ks)) < length (keep p ks) → length (if b then k ∷ keep p (take g ks) otherwise keep p (take g ks)) < length (if b then k ∷ keep p ks otherwise keep p ks)
     go true h = omega arith
     go false h = h
 
 -- with one more there is one more, if it passes
-keep_next : (p : ℕ → Bool) (ks : List ℕ) (g : ℕ) → g < length ks → length (keep p (take (suc g) ks)) ≡ (if p (get_or ks g 0) then suc (length (keep p (take g ks))) else length (keep p (take g ks)))
-unfolding keep if◌then◌else◌
+keep_next : (p : ℕ → Bool) (ks : List ℕ) (g : ℕ) → g < length ks → length (keep p (take (suc g) ks)) ≡ (if p (get_or ks g 0) then suc (length (keep p (take g ks))) otherwise length (keep p (take g ks)))
+unfolding keep if◌then◌otherwise◌
 keep_next p [] g h = absurd (omega arith)
 keep_next p (k ∷ ks) zero h = go (p k)
   where
-    go : (b : Bool) → length (if b then k ∷ [] else []) ≡ (if b then 1 else 0)
+    go : (b : Bool) → length (if b then k ∷ [] otherwise []) ≡ (if b then 1 otherwise 0)
     go true = refl
     go false = refl
 keep_next p (k ∷ ks) (suc g) h = go (p k) (p (get_or ks g 0)) (keep_next p ks g (omega arith))
   where
-    go : (b d : Bool) → length (keep p (take (suc g) ks)) ≡ (if d then suc (length (keep p (take g ks))) else length (keep p (take g ks)))
-        → length (if b then k ∷ keep p (take (suc g) ks) else keep p (take (suc g) ks))
-        ≡ (if d then suc (length (if b then k ∷ keep p (take g ks) else keep p (take g ks))) else length (if b then k ∷ keep p (take g ks) else keep p (take g ks)))
+    go : (b d : Bool) → length (keep p (take (suc g) ks)) ≡ (if d then suc (length (keep p (take g ks))) otherwise length (keep p (take g ks)))
+        → length (if b then k ∷ keep p (take (suc g) ks) otherwise keep p (take (suc g) ks))
+        ≡ (if d then suc (length (if b then k ∷ keep p (take g ks) otherwise keep p (take g ks))) otherwise length (if b then k ∷ keep p (take g ks) otherwise keep p (take g ks)))
     go true true e = ap suc e
     go true false e = ap suc e
     go false true e = e
@@ -99,17 +99,17 @@ pub number_first : (c : Circuit) → number c 0 ≡ 0
 unfolding number keep
 number_first c = refl
 
-pub number_next : (c : Circuit) (g : ℕ) → g < length c.kinds → number c (suc g) ≡ (if is_queue c g then suc (number c g) else number c g)
+pub number_next : (c : Circuit) (g : ℕ) → g < length c.kinds → number c (suc g) ≡ (if is_queue c g then suc (number c g) otherwise number c g)
 unfolding is_queue number kind_of_gate
 number_next c g h = keep_next (within 16 17) c.kinds g h
 
 -- a number is at most the gate's
 keep_most : (p : ℕ → Bool) (xs : List ℕ) → length (keep p xs) ≤ length xs
-unfolding keep if◌then◌else◌
+unfolding keep if◌then◌otherwise◌
 keep_most p [] = omega arith
 keep_most p (x ∷ xs) = go (p x) (keep_most p xs)
   where
-    go : (b : Bool) → length (keep p xs) ≤ length xs → length (if b then x ∷ keep p xs else keep p xs) ≤ suc (length xs)
+    go : (b : Bool) → length (keep p xs) ≤ length xs → length (if b then x ∷ keep p xs otherwise keep p xs) ≤ suc (length xs)
     go true h = omega arith
     go false h = omega arith
 

@@ -11,7 +11,7 @@ use lib.ListN.{length, get_or, set, drop, replicate, length-set}
 use lib.Seq.{get_or-take, get_or-drop, get_or-set_same, get_or-set_other, drop-set-lt}
 use Rattle.words.specs.Words.{words, tail, Stored}
 use Rattle.words.proofs.Laws.{words_long}
-use Rattle.model.specs.Base.{if◌then◌else◌, from}
+use Rattle.model.specs.Base.{if◌then◌otherwise◌, from}
 use Rattle.model.specs.Circuit.{Circuit, part, kind_of_gate, gates}
 use Rattle.model.specs.Questions.{queues}
 use Rattle.model.specs.State.{Queued, idle}
@@ -65,7 +65,7 @@ abbrev pub Gave : Circuit → ℕ → ℕ → List ℕ → List ℕ → ℕ → 
 Gave c g n bs ds r = (words ds ≡ given c g n (words bs)) × (tail ds ≡ tail bs) × (r ≡ next_part c g n)
 
 none_given : (c : Circuit) (g n : ℕ) (bs : List ℕ) → is_queue c g ≡ false → Gave c g n bs bs n
-unfolding given next_part if◌then◌else◌
+unfolding given next_part if◌then◌otherwise◌
 none_given c g n bs e = rw e (refl, refl, refl)
 
 pub given_below : (c : Circuit) (g n k : ℕ) (bs : List ℕ) → k ≡ kind_of_gate c g → k < 16 → Gave c g n bs bs n
@@ -75,7 +75,7 @@ pub given_above : (c : Circuit) (g n k : ℕ) (bs : List ℕ) → k ≡ kind_of_
 given_above c g n k bs e h = none_given c g n bs (above_queues c g k e h)
 
 pub given_part : (c : Circuit) (g n k : ℕ) (bs ds es : List ℕ) → k ≡ kind_of_gate c g → 16 ≤ k → k ≤ 17 → Stored bs ds g n → Stored ds es (queue_at n + 1) 0 → Gave c g n bs es (n + 1)
-unfolding given next_part if◌then◌else◌
+unfolding given next_part if◌then◌otherwise◌
 given_part c g n k bs ds es e h u s t =
     rw (at_queue c g k e h u) (t.words ∙ ap (λ (w : List ℕ). set w (queue_at n + 1) 0) s.words, t.tail ∙ s.tail, refl)
 
@@ -137,7 +137,7 @@ module _ (c : Circuit) (g : ℕ) (bs ws : List ℕ) (l : queue_at (queues c) * 8
           ∙ get_or-set_other (words bs) g (queue_at (number c i) + 1) (number c g) 0 (λ z. omega arith) ∙ k.counts i v q
 
   pub numbered_next : (n : ℕ) (to : List ℕ) → n ≡ number c g → to ≡ given c g n (words bs) → Numbered c (g + 1) ws to
-  unfolding given if◌then◌else◌
+  unfolding given if◌then◌otherwise◌
   numbered_next n to en et = go (is_queue c g) refl
     where
       go : (b : Bool) → is_queue c g ≡ b → Numbered c (g + 1) ws to
@@ -153,7 +153,7 @@ running_first c = sym (number_first c)
 pub running_next : (c : Circuit) (g n r : ℕ) → g < length c.kinds → n ≡ number c g → r ≡ next_part c g n → r ≡ number c (g + 1)
 unfolding next_part
 running_next c g n r h en er =
-    er ∙ ap (λ (i : ℕ). if is_queue c g then i else n) (add-one n) ∙ ap (λ (i : ℕ). if is_queue c g then suc i else i) en ∙ sym (number_next c g h) ∙ ap (number c) (sym (add-one g))
+    er ∙ ap (λ (i : ℕ). if is_queue c g then i otherwise n) (add-one n) ∙ ap (λ (i : ℕ). if is_queue c g then suc i otherwise i) en ∙ sym (number_next c g h) ∙ ap (number c) (sym (add-one g))
 
 -- ---- what the area then holds
 
@@ -171,16 +171,16 @@ part_word ws k n i h = get_or-take n (drop k ws) i 0 h ∙ get_or-drop k ws i 0
 
 -- a slot of zeros
 idle_slot : (s : Bool) (ws : List ℕ) (qs : List Queued) → get_or ws 0 0 ≡ 0 → get_or ws 1 0 ≡ 0 → get_or ws 2 0 ≡ 0 → get_or ws 6 0 ≡ 0 → get_or ws 10 0 ≡ 0 → qs ≡ [] → delay_of s ws qs ≡ idle
-unfolding delay_of flight_in later_in fires_in under_way ring idle if◌then◌else◌
+unfolding delay_of flight_in later_in fires_in under_way ring idle if◌then◌otherwise◌
 idle_slot s ws qs e₀ e₁ e₂ e₆ e₁₀ eq = rw (e₀, e₁, e₂, e₆, e₁₀, eq)
 
 module _ (c : Circuit) (bs ds es : List ℕ) (l : queue_at (queues c) * 8 ≤ length bs) (e : length es ≡ length bs) (m : length c.kinds ≤ 64) (z : Cleared (queue_at 0) (words bs) (words ds))
     (k : Numbered c (length c.kinds) (words ds) (words es)) where
   no_records : (h : ℕ) → h < length c.kinds → records_at c (words es) h ≡ []
-  unfolding records_at if◌then◌else◌
+  unfolding records_at if◌then◌otherwise◌
   no_records h u = go (is_queue c h) refl
     where
-      go : (b : Bool) → is_queue c h ≡ b → (if b then records (eqb (kind_of_gate c h) 17) (part (words es) (queue_at (get_or (words es) h 0)) 4354) else []) ≡ []
+      go : (b : Bool) → is_queue c h ≡ b → (if b then records (eqb (kind_of_gate c h) 17) (part (words es) (queue_at (get_or (words es) h 0)) 4354) otherwise []) ≡ []
       go true q =
           ap (λ (i : ℕ). records (eqb (kind_of_gate c h) 17) (part (words es) (queue_at i) 4354)) (k.parts h u q)
           ∙ records_none (eqb (kind_of_gate c h) 17) (part (words es) (queue_at (number c h)) 4354) (part_word (words es) (queue_at (number c h)) 4354 1 (omega arith) ∙ k.counts h u q)

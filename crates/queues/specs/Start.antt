@@ -1,6 +1,6 @@
 -- What the steps of a start do to the words of the area.
 use Rattle.std.specs.Prelude.{ℕ, ◌+◌, ◌≤◌, ◌<◌, ◌≡◌, true, List, get_or, set, drop}
-use Rattle.model.specs.Base.{if◌then◌else◌}
+use Rattle.model.specs.Base.{if◌then◌otherwise◌}
 use Rattle.model.specs.Circuit.{Circuit}
 use Rattle.model.specs.Questions.{queues}
 use Rattle.states.specs.View.{queue_at, is_queue, number}
@@ -12,11 +12,11 @@ pub record Cleared (k : ℕ) (ws to : List ℕ) : Type 0 where
 
 -- Gate g, if it is a Queue, has part n, with no records.
 unfoldable pub given : Circuit → ℕ → ℕ → List ℕ → List ℕ
-given c g n ws = if is_queue c g then set (set ws g n) (queue_at n + 1) 0 else ws
+given c g n ws = if is_queue c g then set (set ws g n) (queue_at n + 1) 0 otherwise ws
 
 -- the part that the next Queue has
 unfoldable pub next_part : Circuit → ℕ → ℕ → ℕ
-next_part c g n = if is_queue c g then n + 1 else n
+next_part c g n = if is_queue c g then n + 1 otherwise n
 
 -- Each Queue below gate k has the part of its number, with no records; the slots, the count and what lies behind the parts are the same.
 pub record Numbered (c : Circuit) (k : ℕ) (ws to : List ℕ) : Type 0 where

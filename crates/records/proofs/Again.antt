@@ -9,7 +9,7 @@ use lib.ListN.{length, take, drop, take-append-drop, length-drop}
 use lib.Seq.{length-take-le, take-add, drop-drop}
 use borrow.Author.Tests.{eqb-true, leb-true}
 use Rattle.words.specs.Words.{words}
-use Rattle.model.specs.Base.{if◌then◌else◌, all, both, joined}
+use Rattle.model.specs.Base.{if◌then◌otherwise◌, all, both, joined}
 use Rattle.model.specs.Circuit.{Circuit, part, word_at}
 use Rattle.schedule.specs.Schedule.{most_units, most_waiting}
 use Rattle.model.specs.Record.{Listed, head_size, head, gates_and_forms, kinds_and_contents, record_words, begun_count, carried_count, stop_in, carried_at, shown_at, shown_count, record_size, listed, units_at, outputs_at, record_at}
@@ -73,10 +73,10 @@ first_seven (a ∷ b ∷ c ∷ d ∷ e ∷ f ∷ []) h = absurd (omega arith)
 first_seven (a ∷ b ∷ c ∷ d ∷ e ∷ f ∷ g ∷ r) h = refl
 
 shown_few : (n : ℕ) (ws : List ℕ) → shown_count n ws ≤ n
-unfolding shown_count if◌then◌else◌
+unfolding shown_count if◌then◌otherwise◌
 shown_few n ws = go (eqb (stop_in ws) 0)
   where
-    go : (b : Bool) → (if b then n else 0) ≤ n
+    go : (b : Bool) → (if b then n otherwise 0) ≤ n
     go true = omega arith
     go false = omega arith
 

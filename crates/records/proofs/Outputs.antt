@@ -7,7 +7,7 @@ use native.Mathlib.Omega.{arith}
 use lib.Dec.{leb, eqb}
 use lib.ListN.{length}
 use borrow.Author.Tests.{eqb-true, eqb-false, leb-true}
-use Rattle.model.specs.Base.{if◌then◌else◌, all, both}
+use Rattle.model.specs.Base.{if◌then◌otherwise◌, all, both}
 use Rattle.model.specs.Value.{bit, kind_of, content_of, value_of}
 use Rattle.model.specs.Kinds.{Out, fires, shows, passes}
 use Rattle.model.specs.Questions.{within, finite, yes_all, good_constant}
@@ -43,12 +43,12 @@ unfolding kind_of content_of value_of
 held_bool k b ek h = rw ek (refl, bit_of b h)
 
 held_constant : (k b : ℕ) → good_constant k b ≡ true → Held k b
-unfolding good_constant if◌then◌else◌ within
+unfolding good_constant if◌then◌otherwise◌ within
 held_constant k b = go (eqb k 1) refl (eqb k 2) refl (eqb k 3) refl
   where
     go :
         (x : Bool) → eqb k 1 ≡ x → (y : Bool) → eqb k 2 ≡ y → (z : Bool) → eqb k 3 ≡ z →
-        (if x then true else (if y then finite b else (if z then within 0 1 b else false))) ≡ true → Held k b
+        (if x then true otherwise (if y then finite b otherwise (if z then within 0 1 b otherwise false))) ≡ true → Held k b
     go true ex y ey z ez h = held_int k b (eqb-true k 1 ex)
     go false ex true ey z ez h = held_float k b (eqb-true k 2 ey)
     go false ex false ey true ez h = held_bool k b (eqb-true k 3 ez) (leb-true b 1 (both_true (leb 0 b) (leb b 1) h).1)

@@ -2,7 +2,7 @@
 use Rattle.std.specs.Prelude.{ℕ, suc, ◌^◌, ◌≤◌, ◌<◌, ◌≡◌, Bool, true, false, List, [], ◌∷◌, ◌++◌, eqb, length}
 use Rattle.schedule.specs.Schedule.{most_units, most_waiting}
 use Rattle.model.specs.declared.Value.{Value}
-use Rattle.model.specs.Base.{if◌then◌else◌, all, both}
+use Rattle.model.specs.Base.{if◌then◌otherwise◌, all, both}
 use Rattle.model.specs.Value.{kind_of, content_of}
 use Rattle.model.specs.Kinds.{Out}
 use Rattle.model.specs.Circuit.{Circuit}
@@ -24,7 +24,7 @@ pub record Good (c : Circuit) (t : ℕ) (last : Bool) (r : LogRecord) : Type 0 w
   pub changed : r.changed < 2 ^ 63
   pub units_begun : all (good_unit c) (r.late ++ r.main) ≡ true
   pub units_carried : all (good_unit c) r.carried ≡ true
-  pub shows : length r.outs ≡ (if eqb r.stop 0 then length c.outputs else 0)
+  pub shows : length r.outs ≡ (if eqb r.stop 0 then length c.outputs otherwise 0)
   pub outputs : good_values c.outputs r.outs ≡ true
 
 -- whether nothing follows

@@ -3,7 +3,7 @@ use Rattle.std.specs.Prelude.{ℕ, zero, suc, ◌+◌, ◌-◌, ◌%◌, ◌^◌
 use Rattle.std.proofs.Math.Option.{none}
 use Rattle.words.specs.Words.{words}
 use Rattle.schedule.specs.Schedule.{most_units, most_waiting, list_full}
-use Rattle.model.specs.Base.{if◌then◌else◌, all, both}
+use Rattle.model.specs.Base.{if◌then◌otherwise◌, all, both}
 use Rattle.model.specs.Kinds.{never, if_driven, always, value, Out, fires, shows, passes, kind_at, ChangeDetector, EdgeExec, BufferTicksExec, BufferSecondsExec, QueueInSeconds, WorldEvent, receiving}
 use Rattle.model.specs.Circuit.{Circuit, circuit, part, word_at, has_source, kind_of_gate, input, source}
 use Rattle.model.specs.State.{form-Fire, form-Event, form-World, form_pin, form_output}
@@ -44,12 +44,12 @@ module _ (c : Circuit) where
   unfoldable pub can_have : ℕ → ℕ → Bool
   can_have g form =
       if eqb form form-Fire then firing (kind_of_gate c g)
-      else if eqb form form-Event then receiving (kind_of_gate c g)
-      else if eqb form form-World then eqb (kind_of_gate c g) WorldEvent
-      else if ltb form form_pin then false
-      else if ltb form form_output then driven g (form - form_pin)
-      else if ltb form (form_output + 2) then eqb (kind_of_gate c g) EdgeExec
-      else false
+      otherwise if eqb form form-Event then receiving (kind_of_gate c g)
+      otherwise if eqb form form-World then eqb (kind_of_gate c g) WorldEvent
+      otherwise if ltb form form_pin then false
+      otherwise if ltb form form_output then driven g (form - form_pin)
+      otherwise if ltb form (form_output + 2) then eqb (kind_of_gate c g) EdgeExec
+      otherwise false
 
   -- a gate of the circuit, in a form that it can have
   unfoldable pub good_unit : Listed → Bool
@@ -94,7 +94,7 @@ abbrev pub not_whole : ℕ
 not_whole = 16
 
 unfoldable pub log_refusal : List ℕ → List ℕ → ℕ
-log_refusal circuit_bytes log = or_else (circuit_refusal none circuit_bytes) (if whole (circuit (words circuit_bytes)) log then 0 else not_whole)
+log_refusal circuit_bytes log = or_else (circuit_refusal none circuit_bytes) (if whole (circuit (words circuit_bytes)) log then 0 otherwise not_whole)
 
 unfoldable pub whole_opened : ℕ
 unfolding good_steps good_stop good_head firing driven can_have good_unit good_output good_outputs good_rows good_record whole_from whole log_refusal

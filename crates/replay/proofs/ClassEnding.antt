@@ -1,6 +1,6 @@
 -- Laws of what is due of a class.
 use Rattle.std.proofs.Common.{◌≡◌, ℕ, Bool, true, false, not, List, ap, ◌∙◌, eq-eqb, ne_eqb}
-use Rattle.model.specs.Base.{if◌then◌else◌}
+use Rattle.model.specs.Base.{if◌then◌otherwise◌}
 use Rattle.replay.specs.declared.class_due.ClassDue.{ClassDue}
 use Rattle.replay.specs.Bytes.{all_alike, answered}
 use Rattle.replay.specs.ClassDue.{area_byte, class_as_due}
@@ -10,12 +10,12 @@ use Rattle.packed.proofs.Comparing.{and_left, and_right}
 
 -- what they were filled with
 pub byte_filled : (d : ClassDue) → d.cleared ≡ 0 → 165 ≡ area_byte d
-unfolding area_byte if◌then◌else◌
+unfolding area_byte if◌then◌otherwise◌
 byte_filled d e = rw (eq-eqb d.cleared 0 e)
 
 -- zero
 pub byte_zero : (d : ClassDue) → (d.cleared ≡ 0 → ⊥) → 0 ≡ area_byte d
-unfolding area_byte if◌then◌else◌
+unfolding area_byte if◌then◌otherwise◌
 byte_zero d e = rw (ne_eqb d.cleared 0 e)
 
 -- ---- all of it

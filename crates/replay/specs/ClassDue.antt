@@ -1,6 +1,6 @@
 -- A class of the packed ones, and what is due of it.
 use Rattle.std.specs.Prelude.{ℕ, Bool, ◌&&◌, List, ◌==◌, slice_index}
-use Rattle.model.specs.Base.{if◌then◌else◌}
+use Rattle.model.specs.Base.{if◌then◌otherwise◌}
 use Rattle.replay.specs.declared.class_due.ClassDue.{ClassDue}
 use Rattle.replay.specs.Bytes.{all_alike, answered}
 
@@ -11,7 +11,7 @@ class_due_of ws =
 
 -- every byte of the areas afterwards: zero, or what they were filled with
 unfoldable pub area_byte : ClassDue → ℕ
-area_byte d = if d.cleared == 0 then 165 else 0
+area_byte d = if d.cleared == 0 then 165 otherwise 0
 
 -- all of it: the call's number, the log, the words told and the areas
 unfoldable pub class_as_due : ClassDue → ℕ → (records words log vs us ds told : List ℕ) → Bool

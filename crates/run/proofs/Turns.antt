@@ -9,7 +9,7 @@ use lib.ListN.{length, take, drop, length-append}
 use lib.Seq.{take_at, drop_at, drop-drop}
 use Rattle.words.specs.Words.{words, tail}
 use Rattle.schedule.specs.Schedule.{Setup, Activation, Tick, tick, go_on, run, run_on}
-use Rattle.model.specs.Base.{if◌then◌else◌, keep, joined}
+use Rattle.model.specs.Base.{if◌then◌otherwise◌, keep, joined}
 use Rattle.model.specs.Circuit.{Circuit}
 use Rattle.model.specs.Unit.{World}
 use Rattle.model.specs.Run.{Played, Allowed, last_stop, seen}
@@ -34,12 +34,12 @@ module _ (c : Circuit) where
 
   -- a tick without a stop
   seen_on : (t : Tick S) (ts : List (Tick S)) → t.stop ≡ 0 → seen c (t ∷ go_on S t.stop ts) ≡ more t.world.logged 1 (seen c ts)
-  unfolding seen last_stop joined keep if◌then◌else◌ more
+  unfolding seen last_stop joined keep if◌then◌otherwise◌ more
   seen_on t ts e = rw e (ap (λ (n : ℕ). record { log = t.world.logged ++ (seen c ts).log; stop = (seen c ts).stop; ticks = n }) (let x : suc (seen c ts).ticks ≡ 1 + (seen c ts).ticks = omega arith in x))
 
   -- a stop
   seen_stop : (t : Tick S) (ts : List (Tick S)) → (t.stop ≡ 0 → ⊥) → seen c (t ∷ go_on S t.stop ts) ≡ record { log = t.world.logged; stop = t.stop; ticks = 0 }
-  unfolding seen last_stop joined keep if◌then◌else◌
+  unfolding seen last_stop joined keep if◌then◌otherwise◌
   seen_stop t ts e = rw (none t.stop e, ne_eqb t.stop 0 e) (ap (λ (l : List ℕ). record { log = l; stop = t.stop; ticks = 0 }) (append-nil t.world.logged))
     where
       none : (s : ℕ) → (s ≡ 0 → ⊥) → go_on S s ts ≡ []

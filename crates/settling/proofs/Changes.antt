@@ -13,7 +13,7 @@ use lib.ListN.{get_or, set}
 use Rattle.schedule.specs.Schedule.{When, by_rank}
 use Rattle.model.specs.declared.Value.{Value}
 use Rattle.model.specs.declared.Value.TheVariants.{Nothing}
-use Rattle.model.specs.Base.{if◌then◌else◌}
+use Rattle.model.specs.Base.{if◌then◌otherwise◌}
 use Rattle.model.specs.Value.{value_of, as_float, truthy, same, lt64}
 use Rattle.model.specs.Circuit.{Circuit, minus_one, kind_of_gate, input, output, gate_at_input, source, stored_in}
 use Rattle.model.specs.State.{State, Wires, wires≔, delays≔, changed≔, last≔}
@@ -42,26 +42,26 @@ use Rattle.settling.specs.Rounds.{hit_by, acted, Acts}
 
 module _ (was now : Value) (a b : ℕ) (ea : a ≡ as_float 0 was) (eb : b ≡ as_float 0 now) (t : Bool) (et : t ≡ lt64 a b) where
   pub rises : t ≡ true → (c : Circuit) (s : State) (hit : State → ℕ → Settled) → hit_by Rising s hit ≡ edge c s was now hit
-  unfolding hit_by edge if◌then◌else◌
+  unfolding hit_by edge if◌then◌otherwise◌
   rises h c s hit = rw (← ea, ← eb, ← et, h)
 
   module _ (u : Bool) (h : t ≡ false) (eu : u ≡ lt64 b a) where
     pub falls : u ≡ true → (c : Circuit) (s : State) (hit : State → ℕ → Settled) → hit_by Falling s hit ≡ edge c s was now hit
-    unfolding hit_by edge if◌then◌else◌
+    unfolding hit_by edge if◌then◌otherwise◌
     falls k c s hit = rw (← ea, ← eb, ← et, h, ← eu, k)
 
     pub stays_level : u ≡ false → (c : Circuit) (s : State) (hit : State → ℕ → Settled) → hit_by Level s hit ≡ edge c s was now hit
-    unfolding hit_by edge if◌then◌else◌
+    unfolding hit_by edge if◌then◌otherwise◌
     stays_level k c s hit = rw (← ea, ← eb, ← et, h, ← eu, k)
 
 -- ---- entries
 
 -- with 0 nothing is brought
 brings_nothing : (c : Circuit) (form : ℕ) → row_of c form 0 ≡ []
-unfolding row_of if◌then◌else◌
+unfolding row_of if◌then◌otherwise◌
 brings_nothing c form = go (eqb form 2)
   where
-    go : (b : Bool) → ◌≡◌ {A = List Value} (if b then [] else []) []
+    go : (b : Bool) → ◌≡◌ {A = List Value} (if b then [] otherwise []) []
     go true = refl
     go false = refl
 
@@ -165,8 +165,8 @@ module _ (g : ℕ) (was now : Value) (e : Edge) (ee : MovesSo e was now) where
 module _ (c : Circuit) (g i : ℕ) (now : Value) (t : Bool) (et : t ≡ truthy now) where
   pub pin_true :
       (n p x : ℕ) → t ≡ true → (n ≡ input c g 0) × (n < 131072) → p ≡ i - n → x ≡ entry_of g (16 + p % 65536) 0 → g < 65536 → (truthy now ≡ true → i < 640) → (when : When) (s : State) →
-      settled c when s (MayWait x) ≡ (if truthy now then raise when s g (16 + (i - input c g 0)) else calm s)
-  unfolding if◌then◌else◌
+      settled c when s (MayWait x) ≡ (if truthy now then raise when s g (16 + (i - input c g 0)) otherwise calm s)
+  unfolding if◌then◌otherwise◌
   pin_true n p x h en ep ex hg hi when s =
       let k : truthy now ≡ true = sym et ∙ h in
       let small : i < 640 = hi k in
@@ -175,8 +175,8 @@ module _ (c : Circuit) (g i : ℕ) (now : Value) (t : Bool) (et : t ≡ truthy n
 
   pub pin_false :
       t ≡ false → g < 65536 → (truthy now ≡ true → i < 640) → (when : When) (s : State) →
-      settled c when s NoRaise ≡ (if truthy now then raise when s g (16 + (i - input c g 0)) else calm s)
-  unfolding if◌then◌else◌ settled calm
+      settled c when s NoRaise ≡ (if truthy now then raise when s g (16 + (i - input c g 0)) otherwise calm s)
+  unfolding if◌then◌otherwise◌ settled calm
   pin_false h hg hi when s = let k : truthy now ≡ false = sym et ∙ h in rw k
 
 -- ---- what a change leads to, by kind
@@ -198,28 +198,28 @@ gate_small l i = omega (arith, input_gate l i (get_or (entries l 2 640 inputs_at
 -- the definition at each kind
 module _ (c : Circuit) (when : When) (s : State) (g p : ℕ) (was now : Value) (k : ℕ) where
   kind_6 : k ≡ 6 → detect c k when s g p was now ≡ raise when s g 0
-  unfolding detect if◌then◌else◌
+  unfolding detect if◌then◌otherwise◌
   kind_6 e = rw e
 
   kind_7 : k ≡ 7 → edge c s was now (λ t o. calm (wires≔ t (pulse c t.wires (output c g o)))) ≡ detect c k when s g p was now
-  unfolding detect if◌then◌else◌
+  unfolding detect if◌then◌otherwise◌
   kind_7 e = rw e
 
   kind_8 : k ≡ 8 → detect c k when s g p was now ≡ calm (wires≔ s (pulse c s.wires (output c g 0)))
-  unfolding detect if◌then◌else◌
+  unfolding detect if◌then◌otherwise◌
   kind_8 e = rw e
 
   kind_9 : k ≡ 9 → detect c k when s g p was now ≡ edge c s was now (λ t o. raise by_rank t g (32 + o))
-  unfolding detect if◌then◌else◌
+  unfolding detect if◌then◌otherwise◌
   kind_9 e = rw e
 
   kind_buffer : OneOf (10 ∷ 12 ∷ []) k → detect c k when s g p was now ≡ calm (with_countdown c s g (λ d left. buffer_input d now left) (countdown c g (truthy now)))
-  unfolding detect if◌then◌else◌
+  unfolding detect if◌then◌otherwise◌
   kind_buffer h = ⊎_elim (λ e. rw e) (λ e. rw e) h
 
   kind_other :
-      ((((Unit {0} × (k ≡ 6 → ⊥)) × (k ≡ 7 → ⊥)) × (k ≡ 8 → ⊥)) × (k ≡ 9 → ⊥)) × (OneOf (10 ∷ 12 ∷ []) k → ⊥) → detect c k when s g p was now ≡ (if truthy now then raise when s g (16 + p) else calm s)
-  unfolding detect if◌then◌else◌
+      ((((Unit {0} × (k ≡ 6 → ⊥)) × (k ≡ 7 → ⊥)) × (k ≡ 8 → ⊥)) × (k ≡ 9 → ⊥)) × (OneOf (10 ∷ 12 ∷ []) k → ⊥) → detect c k when s g p was now ≡ (if truthy now then raise when s g (16 + p) otherwise calm s)
+  unfolding detect if◌then◌otherwise◌
   kind_other f =
       rw (
         ne_eqb k 6 f.0.0.0.0.1,
@@ -278,7 +278,7 @@ module _ (l : List ℕ) (v : Values) (d : Delays) (i g k : ℕ) (was now : Value
 
   pub change_pin :
       (r : Raised) → ((((Unit {0} × (k ≡ 6 → ⊥)) × (k ≡ 7 → ⊥)) × (k ≡ 8 → ⊥)) × (k ≡ 9 → ⊥)) × (OneOf (10 ∷ 12 ∷ []) k → ⊥) →
-      (g < 65536 → (truthy now ≡ true → i < 640) → (when : When) (s : State) → settled (net l) when s r ≡ (if truthy now then raise when s g (16 + (i - input (net l) g 0)) else calm s)) →
+      (g < 65536 → (truthy now ≡ true → i < 640) → (when : When) (s : State) → settled (net l) when s r ≡ (if truthy now then raise when s g (16 + (i - input (net l) g 0)) otherwise calm s)) →
       (truthy now ≡ true → i < 640) → Acts (net l) v d v d (acted (net l) i was now) r
   change_pin r f h hi =
       acts_by (net l) v v d d (acted (net l) i was now) r (λ u when.
@@ -326,7 +326,7 @@ module _ (l : List ℕ) (v v₁ v₂ : Values) (d : Delays) (i : ℕ) (m : Remem
 
   checked :
       (u : Units) (when : When) →
-      (if unchanged (remembered m) now then calm (together v₂ u d).state else acted (net l) i (last_value (remembered m)) now when (together v₂ u d).state)
+      (if unchanged (remembered m) now then calm (together v₂ u d).state otherwise acted (net l) i (last_value (remembered m)) now when (together v₂ u d).state)
       ≡ check (net l) when (together v u d).state i
   unfolding check compared acted wires≔
   checked u when = rw (es, eo, er, el)
@@ -334,30 +334,30 @@ module _ (l : List ℕ) (v v₁ v₂ : Values) (d : Delays) (i : ℕ) (m : Remem
   module _ (v₃ : Values) (e : Delays) (r : Raised) where
     pub check_first :
         m ≡ NoRead → ((truthy now ≡ true → i < 640) → Acts (net l) v₂ d v₃ e (acted (net l) i Nothing now) r) → Acts (net l) v d v₃ e (λ when s. check (net l) when s i) r
-    unfolding remembered unchanged last_value if◌then◌else◌
+    unfolding remembered unchanged last_value if◌then◌otherwise◌
     check_first em a =
         acts_after (net l) v v₂ v₃ d e (acted (net l) i Nothing now) (λ when s. check (net l) when s i) r _ noted
-        (λ u when. ap (λ (x : Remembered). if unchanged (remembered x) now then calm (together v₂ u d).state else acted (net l) i (last_value (remembered x)) now when (together v₂ u d).state) (sym em) ∙ checked u when)
+        (λ u when. ap (λ (x : Remembered). if unchanged (remembered x) now then calm (together v₂ u d).state otherwise acted (net l) i (last_value (remembered x)) now when (together v₂ u d).state) (sym em) ∙ checked u when)
         (a (look_true l v₁.wires i now eo))
 
     pub check_new :
         (was : Value) (t : Bool) → m ≡ Read was → t ≡ same was now → t ≡ false →
         ((truthy now ≡ true → i < 640) → Acts (net l) v₂ d v₃ e (acted (net l) i was now) r) → Acts (net l) v d v₃ e (λ when s. check (net l) when s i) r
-    unfolding remembered unchanged last_value if◌then◌else◌
+    unfolding remembered unchanged last_value if◌then◌otherwise◌
     check_new was t em et h a =
         acts_after (net l) v v₂ v₃ d e (acted (net l) i was now) (λ when s. check (net l) when s i) r _ noted
         (λ u when.
-        ap (λ (b : Bool). if b then calm (together v₂ u d).state else acted (net l) i was now when (together v₂ u d).state) (sym h ∙ et)
-        ∙ ap (λ (x : Remembered). if unchanged (remembered x) now then calm (together v₂ u d).state else acted (net l) i (last_value (remembered x)) now when (together v₂ u d).state) (sym em)
+        ap (λ (b : Bool). if b then calm (together v₂ u d).state otherwise acted (net l) i was now when (together v₂ u d).state) (sym h ∙ et)
+        ∙ ap (λ (x : Remembered). if unchanged (remembered x) now then calm (together v₂ u d).state otherwise acted (net l) i (last_value (remembered x)) now when (together v₂ u d).state) (sym em)
         ∙ checked u when)
         (a (look_true l v₁.wires i now eo))
 
   pub check_same : (was : Value) (t : Bool) → m ≡ Read was → t ≡ same was now → t ≡ true → Acts (net l) v d v₂ d (λ when s. check (net l) when s i) NoRaise
-  unfolding remembered unchanged last_value if◌then◌else◌ settled calm
+  unfolding remembered unchanged last_value if◌then◌otherwise◌ settled calm
   check_same was t em et h =
       acts_by (net l) v v₂ d d (λ when s. check (net l) when s i) NoRaise (λ u when. (
-        ap (λ (b : Bool). if b then calm (together v₂ u d).state else acted (net l) i was now when (together v₂ u d).state) (sym h ∙ et)
-            ∙ ap (λ (x : Remembered). if unchanged (remembered x) now then calm (together v₂ u d).state else acted (net l) i (last_value (remembered x)) now when (together v₂ u d).state) (sym em)
+        ap (λ (b : Bool). if b then calm (together v₂ u d).state otherwise acted (net l) i was now when (together v₂ u d).state) (sym h ∙ et)
+            ∙ ap (λ (x : Remembered). if unchanged (remembered x) now then calm (together v₂ u d).state otherwise acted (net l) i (last_value (remembered x)) now when (together v₂ u d).state) (sym em)
             ∙ checked u when,
         ap (λ (y : Values). with_state (together y u d) (together v₂ u d).state) noted,
       ))

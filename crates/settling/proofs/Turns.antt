@@ -11,7 +11,7 @@ use lib.ListN.{length, get_or, drop_of_length-le}
 use Rattle.schedule.specs.Schedule.{When, by_rank, put_off}
 use Rattle.lists.specs.declared.Filed.{Filed as Answer}
 use Rattle.lists.specs.declared.Filed.TheVariants.{Full as NoRoom, Done as Room}
-use Rattle.model.specs.Base.{if◌then◌else◌}
+use Rattle.model.specs.Base.{if◌then◌otherwise◌}
 use Rattle.model.specs.Circuit.{Circuit}
 use Rattle.model.specs.State.{State, Wires, wires≔}
 use Rattle.model.specs.Wires.{refresh_all}
@@ -111,13 +111,13 @@ none_taken w e = go w.to_check e
     go (i ∷ is) h = cc
 
 -- the input that waits longest raises what may wait by its mark
-marked_so : (w : Wires) (i : ℕ) (late : Bool) → some i ≡ oldest w → late ≡ oldest_late w → (if late then put_off else by_rank) ≡ when_checked w i
+marked_so : (w : Wires) (i : ℕ) (late : Bool) → some i ≡ oldest w → late ≡ oldest_late w → (if late then put_off otherwise by_rank) ≡ when_checked w i
 unfolding oldest oldest_late when_checked
 marked_so w i late e h = go w.to_check e h
   where
     go :
         (x : List ℕ) → some i ≡ first_on x none (λ j is. some j) → late ≡ first_on x false (λ j is. get_or w.late_checks j false) →
-        (if late then put_off else by_rank) ≡ (if get_or w.late_checks i false then put_off else by_rank)
+        (if late then put_off otherwise by_rank) ≡ (if get_or w.late_checks i false then put_off otherwise by_rank)
     go [] p q = cc
     go (j ∷ is) p q = let k : i ≡ j = cc in rw (q, k) refl
 
@@ -189,7 +189,7 @@ module _ (c : Circuit) (to : Place) (v v₁ : Values) (u : Units) (d : Delays) (
     next_entry x q u₂ er = filed_so x by_rank to q u₂ (ap (settled c (when_checked v.wires i) found.state) er) (ranked_for to)
 
     -- how it raises what may wait, by its mark
-    raises_so : for_late n ≡ oldest_late v.wires → (if late then put_off else by_rank) ≡ when_checked v.wires i
+    raises_so : for_late n ≡ oldest_late v.wires → (if late then put_off otherwise by_rank) ≡ when_checked v.wires i
     unfolding waiting for_late
     raises_so el = marked_so v.wires i late (ap waiting (sym ei) ∙ en.0) (ap for_late (sym ei) ∙ el)
 
@@ -197,18 +197,18 @@ module _ (c : Circuit) (to : Place) (v v₁ : Values) (u : Units) (d : Delays) (
         (x : ℕ) (y : Place) (q : Round) (u₂ : Units) → r ≡ MayWait x → for_late n ≡ oldest_late v.wires → late ≡ true → y ≡ place_for put_off to →
         (q ≡ answer_of (answer (activate c y (act_of c x) u.lists))) × (u₂ ≡ with_lists u (lists_after u.lists (activate c y (act_of c x) u.lists))) →
         (q ≡ round_answer (round_of c to (together v u d).state u.lists)) × (together v₂ u₂ e ≡ after_round (together v u d) (round_of c to (together v u d).state u.lists))
-    unfolding settled if◌then◌else◌
+    unfolding settled if◌then◌otherwise◌
     next_put_off x y q u₂ er el h ey =
-        let p : put_off ≡ when_checked v.wires i = ap (λ (b : Bool). if b then put_off else by_rank) (sym h) ∙ raises_so el in
+        let p : put_off ≡ when_checked v.wires i = ap (λ (b : Bool). if b then put_off otherwise by_rank) (sym h) ∙ raises_so el in
         filed_so x (when_checked v.wires i) y q u₂ (ap (settled c (when_checked v.wires i) found.state) er) (ap (λ (w : When). place_for w to) (sym p) ∙ sym ey)
 
     pub next_ranked :
         (x : ℕ) (q : Round) (u₂ : Units) → r ≡ MayWait x → for_late n ≡ oldest_late v.wires → late ≡ false →
         (q ≡ answer_of (answer (activate c to (act_of c x) u.lists))) × (u₂ ≡ with_lists u (lists_after u.lists (activate c to (act_of c x) u.lists))) →
         (q ≡ round_answer (round_of c to (together v u d).state u.lists)) × (together v₂ u₂ e ≡ after_round (together v u d) (round_of c to (together v u d).state u.lists))
-    unfolding settled if◌then◌else◌
+    unfolding settled if◌then◌otherwise◌
     next_ranked x q u₂ er el h =
-        let p : by_rank ≡ when_checked v.wires i = ap (λ (b : Bool). if b then put_off else by_rank) (sym h) ∙ raises_so el in
+        let p : by_rank ≡ when_checked v.wires i = ap (λ (b : Bool). if b then put_off otherwise by_rank) (sym h) ∙ raises_so el in
         filed_so x (when_checked v.wires i) to q u₂ (ap (settled c (when_checked v.wires i) found.state) er) (ap (λ (w : When). place_for w to) (sym p) ∙ ranked_for to)
 
 -- ---- one turn of the loop

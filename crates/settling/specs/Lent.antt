@@ -4,7 +4,7 @@ use Rattle.std.proofs.Math.Option.{Option}
 use Rattle.words.specs.Slices.{Slice, before, after}
 use Rattle.schedule.specs.Schedule.{When, Filed}
 use Rattle.model.specs.declared.Value.{Value}
-use Rattle.model.specs.Base.{if◌then◌else◌}
+use Rattle.model.specs.Base.{if◌then◌otherwise◌}
 use Rattle.model.specs.Value.{truthy}
 use Rattle.model.specs.Circuit.{Circuit, input}
 use Rattle.model.specs.State.{form_pin, State}
@@ -37,7 +37,7 @@ ActsInBoth links vs ds f r =
 
 -- r is what pin i of gate g raises by what it reads: the gate, where that is true
 abbrev pub PinRaises : Circuit → ℕ → ℕ → Value → Raised → Type 0
-PinRaises c g i v r = (when : When) (s : State) → settled c when s r ≡ (if truthy v then raise when s g (form_pin + (i - input c g 0)) else calm s)
+PinRaises c g i v r = (when : When) (s : State) → settled c when s r ≡ (if truthy v then raise when s g (form_pin + (i - input c g 0)) otherwise calm s)
 
 -- a became b, and r is what z raises, however what may wait is raised
 abbrev pub Settles : Circuit → Contents → Contents → Raised → (When → Settled) → Type 0

@@ -9,7 +9,7 @@ use lib.ListN.{set}
 use lib.Seq.{take-length}
 use borrow.Author.Tests.{not-true, not-false, le-leb, lt-leb}
 use Rattle.words.specs.Words.{words}
-use Rattle.model.specs.Base.{if◌then◌else◌, among}
+use Rattle.model.specs.Base.{if◌then◌otherwise◌, among}
 use Rattle.model.specs.Circuit.{Circuit, circuit}
 use Rattle.model.specs.Script.{most_ticks}
 use Rattle.model.specs.Questions.{circuit_refusal, or_else, within}
@@ -31,7 +31,7 @@ unfolding size size_by size_refusal circuit_refusal or_else size_number among
 numbered s T =
     let c = circuit (words s) in
     let P : ℕ → Type 0 = λ n. among (size_number (size_by n s T)) numbers ≡ true in
-    let Q : ℕ → Type 0 = λ n. P (or_else n (if not (no_ring c && no_loop c) then ring_or_loop else if not (within 0 most_ticks T) then wrong_ticks else 0)) in
+    let Q : ℕ → Type 0 = λ n. P (or_else n (if not (no_ring c && no_loop c) then ring_or_loop otherwise if not (within 0 most_ticks T) then wrong_ticks otherwise 0)) in
     let last : Q 0 = if_both P _ refl (if_both P _ refl refl) in
     if_both Q _ refl (if_both Q _ refl (if_both Q _ refl (if_both Q _ refl (if_both Q _ refl (if_both Q _ refl (if_both Q _ refl (if_both Q _ refl last)))))))
 
@@ -74,7 +74,7 @@ module _ (s : List ℕ) (T : ℕ) (told : List ℕ) where
 
     -- the number, once those questions are passed
     later : (m : ℕ) (r p : Bool) → r ≡ no_ring (net made) → p ≡ no_loop (net made) → (b : Bool) → within 0 most_ticks T ≡ b →
-        m ≡ (if not (r && p) then ring_or_loop else if not b then wrong_ticks else 0) → m ≡ size_refusal s T
+        m ≡ (if not (r && p) then ring_or_loop otherwise if not b then wrong_ticks otherwise 0) → m ≡ size_refusal s T
     unfolding size_refusal
     later m r p er ep b eb e =
         let x : r ≡ no_ring c = er ∙ ap no_ring shows in
@@ -83,25 +83,25 @@ module _ (s : List ℕ) (T : ℕ) (told : List ℕ) where
 
     -- by 23: a ring, or a Loop
     pub refused_ring : (r : Bool) → r ≡ no_ring (net made) → not r ≡ true → Right s T told told ring_or_loop
-    unfolding if◌then◌else◌
+    unfolding if◌then◌otherwise◌
     refused_ring r er h = right_refused ring_or_loop (later ring_or_loop r (no_loop (net made)) er refl (within 0 most_ticks T) refl (rw (not-true r h))) (λ e. omega (arith, e))
 
     module _ (r : Bool) (er : r ≡ no_ring (net made)) (h : not r ≡ false) (p : Bool) (ep : p ≡ no_loop (net made)) where
       pub refused_loop : not p ≡ true → Right s T told told ring_or_loop
-      unfolding if◌then◌else◌
+      unfolding if◌then◌otherwise◌
       refused_loop k = right_refused ring_or_loop (later ring_or_loop r p er ep (within 0 most_ticks T) refl (rw (not-false r h, not-true p k))) (λ e. omega (arith, e))
 
       module _ (k : not p ≡ false) where
         -- by 24
         pub refused_ticks : most_ticks < T → Right s T told told wrong_ticks
-        unfolding if◌then◌else◌ within
+        unfolding if◌then◌otherwise◌ within
         refused_ticks q =
             right_refused wrong_ticks (later wrong_ticks r p er ep false (rw (le-leb 0 T (omega arith), lt-leb T most_ticks q)) (rw (not-false r h, not-false p k))) (λ e. omega (arith, e))
 
         -- both figures are told
         pub figures_told :
             T ≤ most_ticks → (x y : ℕ) (t₁ t₂ : List ℕ) → x ≡ most_unit_steps (net made) → t₁ ≡ set told 0 x → y ≡ most_log_bytes (net made) T → t₂ ≡ set t₁ 1 y → Right s T told t₂ 0
-        unfolding if◌then◌else◌ within size size_by size_number size_told
+        unfolding if◌then◌otherwise◌ within size size_by size_number size_told
         figures_told q x y t₁ t₂ ex e₁ ey e₂ =
             let e : 0 ≡ size_refusal s T = later 0 r p er ep true (rw (le-leb 0 T (omega arith), le-leb T most_ticks q)) (rw (not-false r h, not-false p k)) in
             let o : size s T ≡ figures x y =

@@ -7,7 +7,7 @@ use native.Mathlib.Nat.{zero-add, mul-le-mul}
 use native.Mathlib.Omega.{arith}
 use lib.Dec.{eqb}
 use lib.ListN.{length, get_or}
-use Rattle.model.specs.Base.{if◌then◌else◌, keep, all, each, sum, from}
+use Rattle.model.specs.Base.{if◌then◌otherwise◌, keep, all, each, sum, from}
 use Rattle.model.specs.Kinds.{In, value, Out, fires, shows, Loop}
 use Rattle.model.specs.Circuit.{Circuit, kind_of_gate, gate_at_input}
 use Rattle.model.proofs.Lists.{each_such, all_map, all_pass, default_same}
@@ -20,14 +20,14 @@ use Rattle.size.proofs.Capped.{capped_sum, cap_greatest, cap_max}
 
 module _ (p : ℕ → Bool) (f : ℕ → ℕ) where
   unfoldable pub picked : ℕ → ℕ → ℕ
-  picked m i = if p i then max m (f i) else m
+  picked m i = if p i then max m (f i) otherwise m
 
   pub pick_yes : (m s x i : ℕ) → p i ≡ true → x ≡ f i → s ≡ max m x → s ≡ picked m (0 + i)
-  unfolding picked if◌then◌else◌
+  unfolding picked if◌then◌otherwise◌
   pick_yes m s x i y ex es = rw (zero-add i, y) (es ∙ ap (max m) ex)
 
   pub pick_no : (m i : ℕ) → p i ≡ false → m ≡ picked m (0 + i)
-  unfolding picked if◌then◌else◌
+  unfolding picked if◌then◌otherwise◌
   pick_no m i y = rw (zero-add i, y)
 
   each_max : (m : ℕ) (xs : List ℕ) → each (λ m i. max m (f i)) m xs ≡ max m (greatest (map f xs))

@@ -10,7 +10,7 @@ use lib.ListN.{length, get_or, set, take, drop}
 use lib.Seq.{take-set-le, drop-set-lt, get_or-take, get_or-set_same}
 use Rattle.words.specs.Words.{words, tail, Stored}
 use Rattle.words.proofs.Laws.{words_long}
-use Rattle.model.specs.Base.{if◌then◌else◌}
+use Rattle.model.specs.Base.{if◌then◌otherwise◌}
 use Rattle.model.specs.Value.{bit}
 use Rattle.model.specs.Circuit.{Circuit, kind_of_gate, gates}
 use Rattle.model.specs.Questions.{queues}
@@ -67,11 +67,11 @@ module _ (l bs : List ℕ) (fit : queue_at 0 * 8 ≤ length bs) where
 
   pub counts_one : (b : Bool) (n : ℕ) (ds : List ℕ) → not b ≡ false → n ≡ get_or (words bs) changed_at 0 → n < most_changed → Stored bs ds changed_at (n + 1)
       → delays (net l) ds ≡ counting (delays (net l) bs) b
-  unfolding tally delays if◌then◌else◌
+  unfolding tally delays if◌then◌otherwise◌
   counts_one b n ds e en h p =
       let one : n + 1 ≡ suc n = omega arith in
       rw (not-false b e, ← en, lt-ltb n most_changed h) (put_count ds (n + 1) p ∙ ap (with_changed (delays (net l) bs)) one)
 
   pub counts_most : (b : Bool) (n : ℕ) → not b ≡ false → n ≡ get_or (words bs) changed_at 0 → most_changed ≤ n → delays (net l) bs ≡ counting (delays (net l) bs) b
-  unfolding tally delays if◌then◌else◌
+  unfolding tally delays if◌then◌otherwise◌
   counts_most b n e en h = rw (not-false b e, ← en, le-ltb n most_changed h) refl

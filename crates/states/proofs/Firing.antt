@@ -13,7 +13,7 @@ use Rattle.words.proofs.Laws.{length_words}
 use Rattle.words.proofs.Putting.{put_here}
 use Rattle.lists.specs.declared.Filed.{Filed}
 use Rattle.lists.specs.declared.Filed.TheVariants.{Full, Done}
-use Rattle.model.specs.Base.{if◌then◌else◌}
+use Rattle.model.specs.Base.{if◌then◌otherwise◌}
 use Rattle.model.specs.Circuit.{Circuit, part, kind_of_gate}
 use Rattle.model.specs.State.{Countdown, Queued, Delay, idle, fires≔}
 use Rattle.model.specs.Delays.{Moved, moved, tick_down, due, drop_due, advance_fires}
@@ -108,7 +108,7 @@ stored_fires f bs w₁ w₂ w₃ l k e₁ e₂ e₃ qs =
 -- ---- one fire more
 
 pub add_full : (s : Bool) (ws : List ℕ) (n : ℕ) (k : Countdown) → n ≡ get_or ws 10 0 → 32 ≤ n → Added s ws ws k Full
-unfolding add_fire if◌then◌else◌
+unfolding add_fire if◌then◌otherwise◌
 add_full s ws n k e h qs =
     let f : ltb (length (delay_of s ws qs).fires) 32 ≡ false = le-ltb (length (delay_of s ws qs).fires) 32 (omega (arith, many s ws qs)) in
     rw f (refl, refl)

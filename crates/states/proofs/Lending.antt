@@ -12,7 +12,7 @@ use borrow.Rule.Slice.PartMut.{put_mid}
 use Rattle.words.specs.Words.{words, tail}
 use Rattle.words.proofs.Laws.{words_put, tail_put, words_mid, length_words, words_long}
 use Rattle.model.specs.declared.Value.{Value}
-use Rattle.model.specs.Base.{if◌then◌else◌, from}
+use Rattle.model.specs.Base.{if◌then◌otherwise◌, from}
 use Rattle.model.specs.Value.{truthy, bit}
 use Rattle.model.specs.Circuit.{Circuit, part, kind_of_gate, gates, setting}
 use Rattle.model.specs.Questions.{queues}
@@ -109,7 +109,7 @@ module _ (c : Circuit) (bs p : List ℕ) (g : ℕ) (l : Lent c bs) (k : g < leng
 
 -- what did not change its number is not counted
 pub still : (d : Delays) → d ≡ counting d false
-unfolding tally if◌then◌else◌
+unfolding tally if◌then◌otherwise◌
 still d = refl
 
 -- a countdown that a buffer starts is of its kind
@@ -198,7 +198,7 @@ module _ (c : Circuit) (bs : List ℕ) (n g : ℕ) (en : (n ≡ length c.kinds) 
 
   -- its countdown would be in ticks
   pub starts_past : (rising : Bool) (f : Delay → Countdown → Delay) → delays c bs ≡ starting (delays c bs) g f (countdown c g rising)
-  unfolding countdown countdown_ticks in_ticks kind_of_gate if◌then◌else◌
+  unfolding countdown countdown_ticks in_ticks kind_of_gate if◌then◌otherwise◌
   starts_past rising f =
       let z : kind_of_gate c g ≡ 0 = get_or-eq_default c.kinds 0 {n = g} (omega (arith, en.0)) in
       let n : false ≡ (countdown c g rising).changed = rw z in
@@ -230,7 +230,7 @@ module _ (c : Circuit) (bs : List ℕ) (n g : ℕ) (en : (n ≡ length c.kinds) 
 
   pub stopwatch_past : (dt limit : ℕ)
       → Moves (delays c bs) (delays c bs) g (advance_time dt limit (delay_in (delays c bs) g)) (stopwatch_moved (record { time = 0; running = false; shows = false; expired = false })).row (stopwatch_moved (record { time = 0; running = false; shows = false; expired = false })).fires
-  unfolding advance_time stopwatch_moved idle moved bit if◌then◌else◌
+  unfolding advance_time stopwatch_moved idle moved bit if◌then◌otherwise◌
   stopwatch_past dt limit = turns_past c bs n g en k (advance_time dt limit) [] 0 refl refl refl
 
 -- an area stays one that can hold the small states

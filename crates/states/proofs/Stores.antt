@@ -13,7 +13,7 @@ use Rattle.words.specs.Tables.{marked}
 use Rattle.words.proofs.Laws.{words_long}
 use Rattle.model.specs.declared.Value.{Value}
 use Rattle.model.specs.declared.Value.TheVariants.{Float}
-use Rattle.model.specs.Base.{if◌then◌else◌}
+use Rattle.model.specs.Base.{if◌then◌otherwise◌}
 use Rattle.model.specs.Value.{value_of, kind_of, content_of, truthy, bit}
 use Rattle.model.specs.Circuit.{Circuit, part, kind_of_gate, setting}
 use Rattle.model.specs.State.{Countdown, Flight, Queued, Delay, flight≔, elapsed≔}
@@ -54,7 +54,7 @@ eleven P q (a ∷ b ∷ c ∷ d ∷ e ∷ f ∷ g ∷ i ∷ j ∷ k ∷ l ∷ r)
 -- the value in flight
 launched : (s : Bool) (k b x : ℕ) (ws : List ℕ) → 11 ≤ length ws → (qs : List Queued)
     → delay_of s (set (set (set (set ws 2 1) 3 k) 4 b) 5 x) qs ≡ flight≔ (delay_of s ws qs) (launch (value_of k b) (of_word s x)) (delay_of s ws qs).later
-unfolding delay_of flight_in later_in fires_in flight≔ if◌then◌else◌ part
+unfolding delay_of flight_in later_in fires_in flight≔ if◌then◌otherwise◌ part
 launched s k b x ws h qs =
     eleven (λ t. delay_of s (set (set (set (set t 2 1) 3 k) 4 b) 5 x) qs ≡ flight≔ (delay_of s t qs) (launch (value_of k b) (of_word s x)) (delay_of s t qs).later)
     (λ a b c d e f g h i j k r. refl) ws h
@@ -62,43 +62,43 @@ launched s k b x ws h qs =
 -- the later input
 remembered : (s : Bool) (k b : ℕ) (ws : List ℕ) → 11 ≤ length ws → (qs : List Queued)
     → delay_of s (set (set (set ws 6 1) 7 k) 8 b) qs ≡ flight≔ (delay_of s ws qs) (delay_of s ws qs).flight (some (value_of k b))
-unfolding delay_of flight_in later_in fires_in flight≔ if◌then◌else◌ part
+unfolding delay_of flight_in later_in fires_in flight≔ if◌then◌otherwise◌ part
 remembered s k b ws h qs =
     eleven (λ t. delay_of s (set (set (set t 6 1) 7 k) 8 b) qs ≡ flight≔ (delay_of s t qs) (delay_of s t qs).flight (some (value_of k b)))
     (λ a b c d e f g h i j k r. refl) ws h
 
 -- no value in flight
 emptied : (s : Bool) (ws : List ℕ) → 11 ≤ length ws → (qs : List Queued) → delay_of s (set ws 2 0) qs ≡ flight≔ (delay_of s ws qs) none (delay_of s ws qs).later
-unfolding delay_of flight_in later_in fires_in flight≔ if◌then◌else◌ part
+unfolding delay_of flight_in later_in fires_in flight≔ if◌then◌otherwise◌ part
 emptied s ws h qs =
     eleven (λ t. delay_of s (set t 2 0) qs ≡ flight≔ (delay_of s t qs) none (delay_of s t qs).later) (λ a b c d e f g h i j k r. refl) ws h
 
 -- no later input
 forgotten : (s : Bool) (ws : List ℕ) → 11 ≤ length ws → (qs : List Queued) → delay_of s (set ws 6 0) qs ≡ flight≔ (delay_of s ws qs) (delay_of s ws qs).flight none
-unfolding delay_of flight_in later_in fires_in flight≔ if◌then◌else◌ part
+unfolding delay_of flight_in later_in fires_in flight≔ if◌then◌otherwise◌ part
 forgotten s ws h qs =
     eleven (λ t. delay_of s (set t 6 0) qs ≡ flight≔ (delay_of s t qs) (delay_of s t qs).flight none) (λ a b c d e f g h i j k r. refl) ws h
 
 -- ---- what is loaded
 
 pub loaded_empty : (s : Bool) (ws : List ℕ) (x : ℕ) → x ≡ get_or ws 2 0 → x ≡ 0 → flight_of Empty ≡ flight_in s ws
-unfolding flight_of flight_in if◌then◌else◌
+unfolding flight_of flight_in if◌then◌otherwise◌
 loaded_empty s ws x e z = let q : get_or ws 2 0 ≡ 0 = sym e ∙ z in rw q
 
 pub loaded_flight :
     (s : Bool) (ws : List ℕ) (x a b y : ℕ) (v : Value) (k : Counting) → x ≡ get_or ws 2 0 → (x ≡ 0 → ⊥) → a ≡ get_or ws 3 0 → b ≡ get_or ws 4 0 → v ≡ value_of a b →
     y ≡ get_or ws 5 0 → counted k ≡ of_word s y → flight_of (Of v k) ≡ flight_in s ws
-unfolding flight_of flight_in if◌then◌else◌
+unfolding flight_of flight_in if◌then◌otherwise◌
 loaded_flight s ws x a b y v k e n ea eb ev ey ek =
     rw (ne_eqb (get_or ws 2 0) 0 (λ z. n (e ∙ z))) (ap₂ launch (ev ∙ ap₂ value_of ea eb) (ek ∙ ap (of_word s) ey))
 
 pub loaded_none : (ws : List ℕ) (x : ℕ) → x ≡ get_or ws 6 0 → x ≡ 0 → later_of None ≡ later_in ws
-unfolding later_of later_in if◌then◌else◌
+unfolding later_of later_in if◌then◌otherwise◌
 loaded_none ws x e z = let q : get_or ws 6 0 ≡ 0 = sym e ∙ z in rw q
 
 pub loaded_later :
     (ws : List ℕ) (x a b : ℕ) (v : Value) → x ≡ get_or ws 6 0 → (x ≡ 0 → ⊥) → a ≡ get_or ws 7 0 → b ≡ get_or ws 8 0 → v ≡ value_of a b → later_of (Some v) ≡ later_in ws
-unfolding later_of later_in if◌then◌else◌
+unfolding later_of later_in if◌then◌otherwise◌
 loaded_later ws x a b v e n ea eb ev = rw (ne_eqb (get_or ws 6 0) 0 (λ z. n (e ∙ z))) (ap (λ (y : Value). some y) (ev ∙ ap₂ value_of ea eb))
 
 -- ---- the definition's functions, by what is there
@@ -183,7 +183,7 @@ stored_buffer f l ws w₁ w₂ b₁ b₂ s q qs = b₂ s qs ∙ ap (λ (d : Dela
 -- ---- what moves a value buffer on keeps the kind of its countdown
 
 in_kind : (s : Bool) (ws : List ℕ) → flies_by s (flight_in s ws) ≡ s
-unfolding flies_by flight_in launch if◌then◌else◌
+unfolding flies_by flight_in launch if◌then◌otherwise◌
 in_kind s ws = go (marked (get_or ws 2 0)) refl
   where
     go : (b : Bool) → marked (get_or ws 2 0) ≡ b → flies_by s (flight_in s ws) ≡ s
@@ -213,7 +213,7 @@ module _ (s : Bool) (start : Value → Started) (w : (v : Value) → counts_seco
       go (some u) = w u
 
   flown_kind : (d : Delay) (v : Value) (k : Countdown) → counts_seconds k ≡ s → flies_by s (flown start d v k).state.flight ≡ s
-  unfolding flies_by flown launch moved flight≔ if◌then◌else◌
+  unfolding flies_by flown launch moved flight≔ if◌then◌otherwise◌
   flown_kind d v k j = go (due k) refl
     where
       go : (b : Bool) → due k ≡ b → flies_by s (flown start d v k).state.flight ≡ s
@@ -272,32 +272,32 @@ slot_long s e = words_long 11 s (omega arith)
 
 -- the seconds so far, and whether it runs
 timed : (s : Bool) (x y : ℕ) (ws : List ℕ) → 11 ≤ length ws → (qs : List Queued) → delay_of s (set (set ws 0 x) 1 y) qs ≡ elapsed≔ (delay_of s ws qs) x (marked y)
-unfolding delay_of flight_in later_in fires_in elapsed≔ if◌then◌else◌ part
+unfolding delay_of flight_in later_in fires_in elapsed≔ if◌then◌otherwise◌ part
 timed s x y ws h qs =
     eleven (λ t. delay_of s (set (set t 0 x) 1 y) qs ≡ elapsed≔ (delay_of s t qs) x (marked y)) (λ a b c d e f g h i j k r. refl) ws h
 
 started : (s : Bool) (y : ℕ) (ws : List ℕ) → 11 ≤ length ws → (qs : List Queued) → delay_of s (set ws 1 y) qs ≡ elapsed≔ (delay_of s ws qs) (delay_of s ws qs).elapsed (marked y)
-unfolding delay_of flight_in later_in fires_in elapsed≔ if◌then◌else◌ part
+unfolding delay_of flight_in later_in fires_in elapsed≔ if◌then◌otherwise◌ part
 started s y ws h qs =
     eleven (λ t. delay_of s (set t 1 y) qs ≡ elapsed≔ (delay_of s t qs) (delay_of s t qs).elapsed (marked y)) (λ a b c d e f g h i j k r. refl) ws h
 
 -- a mark as a word
 pub bit_one : (b : Bool) → b ≡ true → 1 ≡ bit b
-unfolding bit if◌then◌else◌
+unfolding bit if◌then◌otherwise◌
 bit_one b e = rw e
 
 pub bit_zero : (b : Bool) → b ≡ false → 0 ≡ bit b
-unfolding bit if◌then◌else◌
+unfolding bit if◌then◌otherwise◌
 bit_zero b e = rw e
 
 marked_bit : (b : Bool) → marked (bit b) ≡ b
-unfolding bit if◌then◌else◌
+unfolding bit if◌then◌otherwise◌
 marked_bit true = refl
 marked_bit false = refl
 
 -- a Clock that is disabled
 pub clock_off : (ws : List ℕ) (dt interval : ℕ) (enabled : Bool) → not enabled ≡ true → TurnsAny ws ws (advance_elapsed dt interval enabled) [] (bit false)
-unfolding advance_elapsed if◌then◌else◌ bit
+unfolding advance_elapsed if◌then◌otherwise◌ bit
 clock_off ws dt interval enabled h s qs = rw (not-true enabled h)
 
 -- and one that moves on
@@ -305,18 +305,18 @@ pub clock_on :
     (ws w₁ w₂ : List ℕ) (dt interval x : ℕ) (enabled : Bool) (r : Clock) → 11 ≤ length ws → not enabled ≡ false → x ≡ get_or ws 0 0 →
     clock_moved r ≡ advance_elapsed dt interval enabled (clock (record { elapsed = x; fired = false })) → w₁ ≡ set ws 0 r.elapsed → w₂ ≡ set w₁ 1 0 →
     TurnsAny ws w₂ (advance_elapsed dt interval enabled) [] (bit r.fired)
-unfolding delay_of if◌then◌else◌
+unfolding delay_of if◌then◌otherwise◌
 clock_on ws w₁ w₂ dt interval x enabled r h t ex er e₁ e₂ s qs =
     let on : enabled ≡ true = not-false enabled t in
     sym (clock_stored (delay_of s ws qs) (record { elapsed = x; fired = false }) r ex dt interval enabled er)
-    ∙ ap (λ (b : Bool). moved (elapsed≔ (delay_of s ws qs) r.elapsed (if b then false else (delay_of s ws qs).running)) [] (bit r.fired)) on
+    ∙ ap (λ (b : Bool). moved (elapsed≔ (delay_of s ws qs) r.elapsed (if b then false otherwise (delay_of s ws qs).running)) [] (bit r.fired)) on
     ∙ ap (λ (d : Delay). moved d [] (bit r.fired)) (sym (ap (λ (t : List ℕ). delay_of s t qs) (e₂ ∙ ap (λ (t : List ℕ). set t 1 0) e₁) ∙ timed s r.elapsed 0 ws h qs))
 
 -- a Stopwatch that stands
 pub stopwatch_stands :
     (ws : List ℕ) (dt limit x y : ℕ) → x ≡ get_or ws 1 0 → not (not (eqb x 0)) ≡ true →
     TurnsAny ws ws (advance_time dt limit) (stopwatch_moved (record { time = y; running = not (eqb x 0); shows = false; expired = false })).row (stopwatch_moved (record { time = y; running = not (eqb x 0); shows = false; expired = false })).fires
-unfolding advance_time stopwatch_moved moved delay_of bit if◌then◌else◌
+unfolding advance_time stopwatch_moved moved delay_of bit if◌then◌otherwise◌
 stopwatch_stands ws dt limit x y ex t s qs =
     let z : not (eqb (get_or ws 1 0) 0) ≡ false = ap (λ (n : ℕ). not (eqb n 0)) (sym ex) ∙ not-true (not (eqb x 0)) t in
     rw z
@@ -330,16 +330,16 @@ unfolding stopwatch_moved moved delay_of
 stopwatch_runs ws w₁ w₂ dt limit x y z r h ey ex er e₁ ez e₂ s qs =
     let m : marked z ≡ r.running = ap marked ez ∙ marked_bit r.running in
     sym (stopwatch_stored (delay_of s ws qs) (record { time = y; running = not (eqb x 0); shows = false; expired = false }) r ey (ap marked ex) dt limit er)
-    ∙ ap (λ (d : Delay). moved d (if r.shows then Float r.time ∷ [] else []) (bit r.expired))
+    ∙ ap (λ (d : Delay). moved d (if r.shows then Float r.time ∷ [] otherwise []) (bit r.expired))
     (sym (ap (λ (t : List ℕ). delay_of s t qs) (e₂ ∙ ap (λ (t : List ℕ). set t 1 z) e₁) ∙ timed s r.time z ws h qs ∙ ap (elapsed≔ (delay_of s ws qs) r.time) m))
 
 -- its pins
 pub press_restart : (ws w₁ w₂ : List ℕ) (p : ℕ) → 11 ≤ length ws → p ≡ 0 → w₁ ≡ set ws 0 0 → w₂ ≡ set w₁ 1 1 → BecomesAny ws w₂ (pressed p)
-unfolding pressed if◌then◌else◌
+unfolding pressed if◌then◌otherwise◌
 press_restart ws w₁ w₂ p h z e₁ e₂ s qs = rw z (ap (λ (t : List ℕ). delay_of s t qs) (e₂ ∙ ap (λ (t : List ℕ). set t 1 1) e₁) ∙ timed s 0 1 ws h qs)
 
 pub press_other : (ws w₁ : List ℕ) (p x : ℕ) → 11 ≤ length ws → (p ≡ 0 → ⊥) → x ≡ bit (eqb p 2) → w₁ ≡ set ws 1 x → BecomesAny ws w₁ (pressed p)
-unfolding pressed if◌then◌else◌
+unfolding pressed if◌then◌otherwise◌
 press_other ws w₁ p x h n ex e₁ s qs =
     rw (ne_eqb p 0 n)
     (ap (λ (t : List ℕ). delay_of s t qs) e₁ ∙ started s x ws h qs ∙ ap (elapsed≔ (delay_of s ws qs) (delay_of s ws qs).elapsed) (ap marked ex ∙ marked_bit (eqb p 2)))

@@ -5,7 +5,7 @@ use Rattle.std.proofs.Math.Option.{Option, none, some}
 use Rattle.words.specs.Words.{words, tail}
 use Rattle.words.specs.Tables.{marked}
 use Rattle.model.specs.declared.Value.{Value}
-use Rattle.model.specs.Base.{if◌then◌else◌, keep}
+use Rattle.model.specs.Base.{if◌then◌otherwise◌, keep}
 use Rattle.model.specs.Value.{value_of, as_int, as_float}
 use Rattle.model.specs.Kinds.{QueueInSeconds}
 use Rattle.model.specs.Circuit.{Circuit, part, kind_of_gate, gates}
@@ -33,10 +33,10 @@ queue_at p = 2817 + 4354 * p
 
 unfoldable pub flight_in : Bool → List ℕ → Option Flight
 flight_in seconds ws =
-    if marked (get_or ws 2 0) then launch (value_of (get_or ws 3 0) (get_or ws 4 0)) (of_word seconds (get_or ws 5 0)) else none
+    if marked (get_or ws 2 0) then launch (value_of (get_or ws 3 0) (get_or ws 4 0)) (of_word seconds (get_or ws 5 0)) otherwise none
 
 unfoldable pub later_in : List ℕ → Option Value
-later_in ws = if marked (get_or ws 6 0) then some (value_of (get_or ws 7 0) (get_or ws 8 0)) else none
+later_in ws = if marked (get_or ws 6 0) then some (value_of (get_or ws 7 0) (get_or ws 8 0)) otherwise none
 
 unfoldable pub fires_in : Bool → List ℕ → List Countdown
 fires_in seconds ws = under_way seconds (min most_fires (get_or ws 10 0)) (get_or ws 9 0) (part ws 11 32)
@@ -65,12 +65,12 @@ number c g = length (keep (within 16 17) (take g c.kinds))
 
 -- the countdown that a record starts by its wait, in ticks or in seconds
 unfoldable pub queue_countdown : Bool → Value → Started
-queue_countdown seconds v = if seconds then in_seconds (as_float 0 v) else in_ticks (as_int (pos 0) v)
+queue_countdown seconds v = if seconds then in_seconds (as_float 0 v) otherwise in_ticks (as_int (pos 0) v)
 
 module _ (c : Circuit) (ws : List ℕ) where
   -- the records of gate g
   unfoldable pub records_at : ℕ → List Queued
-  records_at g = if is_queue c g then records (eqb (kind_of_gate c g) QueueInSeconds) (part ws (queue_at (get_or ws g 0)) 4354) else []
+  records_at g = if is_queue c g then records (eqb (kind_of_gate c g) QueueInSeconds) (part ws (queue_at (get_or ws g 0)) 4354) otherwise []
 
   -- the small state of gate g
   unfoldable pub delay_at : ℕ → Delay

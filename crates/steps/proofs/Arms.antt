@@ -9,7 +9,7 @@ use borrow.Author.Tests.{leb-true, leb-false, ne_eqb}
 use lib.Dec.{leb, eqb}
 use lib.ListN.{length, get_or}
 use types.Run.{OneOf}
-use Rattle.model.specs.Base.{if◌then◌else◌}
+use Rattle.model.specs.Base.{if◌then◌otherwise◌}
 use Rattle.model.specs.Circuit.{Circuit, kind_of_gate, input, output}
 use Rattle.model.specs.Questions.{within}
 use Rattle.model.specs.State.{State}
@@ -73,58 +73,58 @@ module _ (c : Circuit) (inside : Bool) (i g k : ℕ) (a b : Contents) (r : Step)
   by_kind d h m = makes_as a b r d _ (rw (← e.gate, ← e.kind) h) m
 
   pub on_buffer : OneOf (11 ∷ 13 ∷ []) k → Makes a b r (exec-Buffer c a.state g) → Makes a b r (exec_gate c inside a.state i)
-  unfolding exec_kind if◌then◌else◌
+  unfolding exec_kind if◌then◌otherwise◌
   on_buffer h m = by_kind _ (⊎_elim (λ (z : k ≡ 11). rw z) (λ (z : k ≡ 13). rw z) h) m
 
   pub on_stopwatch : (p : ℕ) → k ≡ 15 → p ≡ i - input c g 0 → Makes a b r (exec-Stopwatch c a.state g p) → Makes a b r (exec_gate c inside a.state i)
-  unfolding exec_kind if◌then◌else◌
+  unfolding exec_kind if◌then◌otherwise◌
   on_stopwatch p h ep m = by_kind _ (rw (h, ← ep)) m
 
   pub on_queue : OneOf (16 ∷ 17 ∷ []) k → Makes a b r (exec-Queue c a.state g (queue_countdown (eqb (kind_of_gate c g) 17))) → Makes a b r (exec_gate c inside a.state i)
-  unfolding exec_kind if◌then◌else◌ queue_countdown
+  unfolding exec_kind if◌then◌otherwise◌ queue_countdown
   on_queue h m = by_kind _ (rw (← e.kind) (⊎_elim (λ (z : k ≡ 16). rw z) (λ (z : k ≡ 17). rw z) h)) m
 
   pub on_var_get : k ≡ 18 → Makes a b r (exec-VarGet c a.state g) → Makes a b r (exec_gate c inside a.state i)
-  unfolding exec_kind if◌then◌else◌
+  unfolding exec_kind if◌then◌otherwise◌
   on_var_get h m = by_kind _ (rw h) m
 
   pub on_var_set : k ≡ 19 → Makes a b r (exec-VarSet c inside a.state g) → Makes a b r (exec_gate c inside a.state i)
-  unfolding exec_kind if◌then◌else◌
+  unfolding exec_kind if◌then◌otherwise◌
   on_var_set h m = by_kind _ (rw h) m
 
   pub on_branch : k ≡ 20 → Makes a b r (exec-Branch c a.state g) → Makes a b r (exec_gate c inside a.state i)
-  unfolding exec_kind if◌then◌else◌
+  unfolding exec_kind if◌then◌otherwise◌
   on_branch h m = by_kind _ (rw h) m
 
   pub on_union : k ≡ 21 → Makes a b r (exec-Union c a.state g) → Makes a b r (exec_gate c inside a.state i)
-  unfolding exec_kind if◌then◌else◌
+  unfolding exec_kind if◌then◌otherwise◌
   on_union h m = by_kind _ (rw h) m
 
   pub on_toggle : k ≡ 22 → Makes a b r (exec-Toggle c a.state g) → Makes a b r (exec_gate c inside a.state i)
-  unfolding exec_kind if◌then◌else◌
+  unfolding exec_kind if◌then◌otherwise◌
   on_toggle h m = by_kind _ (rw h) m
 
   pub on_cycle : (p : ℕ) → k ≡ 23 → p ≡ i - input c g 0 → Makes a b r (exec-Cycle c a.state g p) → Makes a b r (exec_gate c inside a.state i)
-  unfolding exec_kind if◌then◌else◌
+  unfolding exec_kind if◌then◌otherwise◌
   on_cycle p h ep m = by_kind _ (rw (h, ← ep)) m
 
   pub on_break : k ≡ 31 → Makes a b r (exec-Break c a.state g) → Makes a b r (exec_gate c inside a.state i)
-  unfolding exec_kind if◌then◌else◌
+  unfolding exec_kind if◌then◌otherwise◌
   on_break h m = by_kind _ (rw h) m
 
   pub on_send : OneOf (24 ∷ 25 ∷ []) k → Makes a b r (exec-SendEvent c a.state g) → Makes a b r (exec_gate c inside a.state i)
-  unfolding exec_kind if◌then◌else◌
+  unfolding exec_kind if◌then◌otherwise◌
   on_send h m = by_kind _ (⊎_elim (λ (z : k ≡ 24). rw z) (λ (z : k ≡ 25). rw z) h) m
 
 module _ (c : Circuit) (inside : Bool) (i g k : ℕ) (a : Contents) (e : Entered c i g k) where
   pub on_reroute : (o : ℕ) → k ≡ 2 → (o ≡ output c g 0) × (o < 131072) → Makes a a (Fires o) (exec_gate c inside a.state i)
-  unfolding exec_kind if◌then◌else◌
+  unfolding exec_kind if◌then◌otherwise◌
   on_reroute o h f = by_kind c inside i g k a a (Fires o) e _ (rw h) (makes_passes a o (output c g 0) f.0)
 
   on_others :
       (k ≡ 2 → ⊥) → (k ≡ 11 → ⊥) → (k ≡ 13 → ⊥) → (k ≡ 15 → ⊥) → (k ≡ 16 → ⊥) → (k ≡ 17 → ⊥) → (k ≡ 18 → ⊥) → (k ≡ 19 → ⊥) → (k ≡ 20 → ⊥) → (k ≡ 21 → ⊥) → (k ≡ 22 → ⊥) → (k ≡ 23 → ⊥) → (k ≡ 24 → ⊥) → (k ≡ 25 → ⊥) → (k ≡ 31 → ⊥) →
       Makes a a Ends (exec_gate c inside a.state i)
-  unfolding exec_kind if◌then◌else◌
+  unfolding exec_kind if◌then◌otherwise◌
   on_others h₂ h₁₁ h₁₃ h₁₅ h₁₆ h₁₇ h₁₈ h₁₉ h₂₀ h₂₁ h₂₂ h₂₃ h₂₄ h₂₅ h₃₁ =
       by_kind c inside i g k a a Ends e _
       (rw (

@@ -5,7 +5,7 @@ use mathlib.Core.Bool.{Bool, true, false}
 use mathlib.Core.List.{List, [], ◌∷◌}
 use mathlib.Core.Option.{none}
 use lib.ListN.{get_or, set}
-use Rattle.model.specs.Base.{if◌then◌else◌}
+use Rattle.model.specs.Base.{if◌then◌otherwise◌}
 use Rattle.model.specs.State.{Wires, Delay, Send, wires≔, changed≔}
 use Rattle.model.specs.Exec.{Stepped, fires_next, ends}
 use Rattle.wires.specs.View.{Values, with_wires}
@@ -19,12 +19,12 @@ use Rattle.steps.specs.Steps.{stepped, Makes}
 
 -- a choice whose test is known
 module _ {A : Type 0} (b : Bool) (x y : A) where
-  pub if_true : b ≡ true → (if b then x else y) ≡ x
-  unfolding if◌then◌else◌
+  pub if_true : b ≡ true → (if b then x otherwise y) ≡ x
+  unfolding if◌then◌otherwise◌
   if_true e = rw e
 
-  pub if_false : b ≡ false → (if b then x else y) ≡ y
-  unfolding if◌then◌else◌
+  pub if_false : b ≡ false → (if b then x otherwise y) ≡ y
+  unfolding if◌then◌otherwise◌
   if_false e = rw e
 
 -- the same step, by another name

@@ -14,7 +14,7 @@ use Rattle.lists.specs.declared.Filed.TheVariants.{Full as NoRoom, Done}
 use Rattle.lists.specs.contracts.Filed.{the_type as Filings}
 use Rattle.model.specs.declared.Value.{Value}
 use Rattle.model.specs.declared.Value.TheVariants.{Float}
-use Rattle.model.specs.Base.{if◌then◌else◌, both, each, from, among, snoc}
+use Rattle.model.specs.Base.{if◌then◌otherwise◌, both, each, from, among, snoc}
 use Rattle.model.specs.Value.{value_of}
 use Rattle.model.specs.Circuit.{Circuit, most_gates, kind_of_gate, input, output}
 use Rattle.model.specs.State.{Wires, Delay, Send, State, idle, fires≔, wires≔, delays≔, outbox≔, changed≔}
@@ -121,8 +121,8 @@ module _ (c : Circuit) (g : ℕ) where
 -- ---- events
 
 -- the outbox changes if a test is not passed
-if_outbox : (b : Bool) (s : State) (x : List Send) → (if b then s else outbox≔ s x) ≡ record { wires = s.wires; delays = s.delays; outbox = if b then s.outbox else x; changed = s.changed }
-unfolding if◌then◌else◌ outbox≔
+if_outbox : (b : Bool) (s : State) (x : List Send) → (if b then s otherwise outbox≔ s x) ≡ record { wires = s.wires; delays = s.delays; outbox = if b then s.outbox otherwise x; changed = s.changed }
+unfolding if◌then◌otherwise◌ outbox≔
 if_outbox true s x = refl
 if_outbox false s x = refl
 
@@ -148,5 +148,5 @@ module _ (c : Circuit) (g : ℕ) (v v₁ : Values) (u : Units) (i o : ℕ) (t : 
       let b : Bool = among g (map (λ m. m.gate) u.outbox) || leb most_gates (length u.outbox) in
       let x : List Send = snoc u.outbox (record { gate = g; row = map (look c w) (from (input c g 2) 8) }) in
       makes_as _ _ _ _ _ (ap (λ (s : State). fires_next s (output c g 0)) (if_outbox b (record { wires = w; delays = d.delays; outbox = u.outbox; changed = d.changed }) x))
-      (makes_sent v v₁ u u₁ w (if b then u.outbox else x) o (output c g 0) (rw (← ei.0) e₁)
-      (e ∙ (λ j. with_outbox u (if b then u.outbox else snoc u.outbox (record { gate = g; row = q j })))) eo.0 d)
+      (makes_sent v v₁ u u₁ w (if b then u.outbox otherwise x) o (output c g 0) (rw (← ei.0) e₁)
+      (e ∙ (λ j. with_outbox u (if b then u.outbox otherwise snoc u.outbox (record { gate = g; row = q j })))) eo.0 d)

@@ -13,7 +13,7 @@ use mir.Val.{to_z, of_z, Fits, SFits}
 use mir.Facts.{to_z-of_z}
 use Rattle.model.specs.declared.Value.{Value}
 use Rattle.model.specs.declared.Value.TheVariants.{Int, Bool as Truth}
-use Rattle.model.specs.Base.{if◌then◌else◌, each, from}
+use Rattle.model.specs.Base.{if◌then◌otherwise◌, each, from}
 use Rattle.model.specs.Value.{truthy, as_int}
 use Rattle.model.specs.Circuit.{Circuit, input, output, setting}
 use Rattle.model.specs.State.{Wires, wires≔, unions_passed≔, breaking≔}
@@ -81,13 +81,13 @@ module _ (c : Circuit) (g : ℕ) (v : Values) where
 
   module _ (i o : ℕ) (x : Value) (t : Bool) (v₁ : Values) (ei : (i ≡ input c g 1) × (i < 131072)) (e₁ : v₁ ≡ with_wires v (ready c v.wires i)) (ex : x ≡ look c v₁.wires i) (et : t ≡ truthy x) where
     branches :
-        (p : ℕ) → (if t then 0 else 1) ≡ p → o ≡ output c g p → (u : Units) (d : Delays) → Makes (together v u d) (together v₁ u d) (Fires o) (exec-Branch c (together v u d).state g)
+        (p : ℕ) → (if t then 0 otherwise 1) ≡ p → o ≡ output c g p → (u : Units) (d : Delays) → Makes (together v u d) (together v₁ u d) (Fires o) (exec-Branch c (together v u d).state g)
     unfolding exec-Branch readied read each from wires≔
     branches p h eo u d =
         let w : Wires = ready c v.wires (input c g 1) in
         let q : v₁ ≡ with_wires v w = rw (← ei.0) e₁ in
         let k : t ≡ truthy (look c w (input c g 1)) = rw (← ei.0) (et ∙ ap truthy (ex ∙ ap (λ (y : Values). look c y.wires i) e₁)) in
-        makes_fires v v₁ w o (output c g (if truthy (look c w (input c g 1)) then 0 else 1)) q (eo ∙ ap (output c g) (sym h ∙ ap (λ (b : Bool). if b then 0 else 1) k)) u d
+        makes_fires v v₁ w o (output c g (if truthy (look c w (input c g 1)) then 0 otherwise 1)) q (eo ∙ ap (output c g) (sym h ∙ ap (λ (b : Bool). if b then 0 otherwise 1) k)) u d
 
     pub branches_first : t ≡ true → (o ≡ output c g 0) × (o < 131072) → (u : Units) (d : Delays) → Makes (together v u d) (together v₁ u d) (Fires o) (exec-Branch c (together v u d).state g)
     branches_first h eo u d = branches 0 (if_true t 0 1 h) eo.0 u d
@@ -135,7 +135,7 @@ module _ (c : Circuit) (g : ℕ) (v : Values) where
   pub cycles :
       (p q i o o₀ n : ℕ) (x y : Value) (now count : ℤ) (v₁ v₂ : Values) → SFits w64 now → SFits w64 count → (i ≡ input c g 2) × (i < 131072) → (o ≡ output c g 2) × (o < 131072) →
       v₁ ≡ with_wires v (ready c v.wires i) → x ≡ shown v₁.wires o → now ≡ as_int (pos 0) x → y ≡ look c v₁.wires i → count ≡ as_int (pos 0) y →
-      n ≡ cycle_next (eqb p 1) (to_z w64 (of_z w64 count)) (to_z w64 (of_z w64 now)) → v₂ ≡ with_wires v₁ (set_out c v₁.wires o (Int n)) → q ≡ (if eqb p 1 then 1 else 0) →
+      n ≡ cycle_next (eqb p 1) (to_z w64 (of_z w64 count)) (to_z w64 (of_z w64 now)) → v₂ ≡ with_wires v₁ (set_out c v₁.wires o (Int n)) → q ≡ (if eqb p 1 then 1 otherwise 0) →
       (o₀ ≡ output c g q) × (o₀ < 131072) → (u : Units) (d : Delays) → Makes (together v u d) (together v₂ u d) (Fires o₀) (exec-Cycle c (together v u d).state g p)
   unfolding exec-Cycle set_output readied read each from wires≔
   cycles p q i o o₀ n x y now count v₁ v₂ fn fc ei eo e₁ ex en ey ec e₃ e₂ eq e₀ u d =
@@ -143,13 +143,13 @@ module _ (c : Circuit) (g : ℕ) (v : Values) where
       let w : Wires = set_out c w₁ (output c g 2) (Int (cycle_next (eqb p 1) (as_int (pos 0) (look c w₁ (input c g 2))) (as_int (pos 0) (shown w₁ (output c g 2))))) in
       let m : n ≡ cycle_next (eqb p 1) count now = rw (to_z-of_z fn, to_z-of_z fc) at e₃ in
       let r : v₂ ≡ with_wires v w = rw (← ei.0, ← eo.0, e₂, m, en, ec, ex, ey, e₁) in
-      makes_fires v v₂ w o₀ (output c g (if eqb p 1 then 1 else 0)) r (e₀.0 ∙ ap (output c g) eq) u d
+      makes_fires v v₂ w o₀ (output c g (if eqb p 1 then 1 otherwise 0)) r (e₀.0 ∙ ap (output c g) eq) u d
 
 -- the output that pin p fires
-pub fires_down : (p : ℕ) → p ≡ 1 → ◌≡◌ {A = ℕ} 1 (if eqb p 1 then 1 else 0)
-unfolding if◌then◌else◌
+pub fires_down : (p : ℕ) → p ≡ 1 → ◌≡◌ {A = ℕ} 1 (if eqb p 1 then 1 otherwise 0)
+unfolding if◌then◌otherwise◌
 fires_down p h = rw (eq-eqb p 1 h)
 
-pub fires_up : (p : ℕ) → (p ≡ 1 → ⊥) → ◌≡◌ {A = ℕ} 0 (if eqb p 1 then 1 else 0)
-unfolding if◌then◌else◌
+pub fires_up : (p : ℕ) → (p ≡ 1 → ⊥) → ◌≡◌ {A = ℕ} 0 (if eqb p 1 then 1 otherwise 0)
+unfolding if◌then◌otherwise◌
 fires_up p h = rw (ne_eqb p 1 h)

@@ -10,7 +10,7 @@ use lib.ListN.{length, take, drop, length-map, take-append-drop}
 use Rattle.words.specs.Words.{words, tail}
 use Rattle.words.proofs.Laws.{lengths}
 use Rattle.schedule.specs.Schedule.{Setup, Activation, LateQ, MainQ, OpenQ, log_full, Passed, main_pass, acts, outcome, tick, Closed}
-use Rattle.model.specs.Base.{if◌then◌else◌}
+use Rattle.model.specs.Base.{if◌then◌otherwise◌}
 use Rattle.model.specs.Circuit.{Circuit}
 use Rattle.model.specs.Script.{Given}
 use Rattle.model.specs.State.{State}
@@ -72,7 +72,7 @@ module _ (c : Circuit) where
     -- ---- the record
     module _ (same : w.state ≡ a.state) (late : Passes c (for_late c) a₁ a₂ r₁ v (late_from c q v s)) (e : a₂.lists.pending ≡ a₁.lists.pending) (f : a₂.lists.carried ≡ a₁.lists.carried)
         (main : Passes c (for_main c) a₂ a₃ r₂ (state≔ v r₁.left a₂.state) (main_pass S (units_left a₂) tt (for_main c a₂.lists) (state≔ v r₁.left a₂.state) r₁.stop))
-        (h : Head) (ended : State) (reads : ended ≡ read_outputs c a₃.state r₂.stop) (h₁ : h.tick ≡ ended.wires.tick) (h₂ : h.steps ≡ i.limit - r₂.left + (if eqb r₂.stop 11 then 1 else 0))
+        (h : Head) (ended : State) (reads : ended ≡ read_outputs c a₃.state r₂.stop) (h₁ : h.tick ≡ ended.wires.tick) (h₂ : h.steps ≡ i.limit - r₂.left + (if eqb r₂.stop 11 then 1 otherwise 0))
         (h₃ : h.late ≡ length a₂.kept.begun) (h₄ : h.stop ≡ r₂.stop) (h₅ : h.changed ≡ ended.changed) where
       abbrev l : Passed S (LateQ (Activation S))
       l = late_from c q v s
@@ -96,7 +96,7 @@ module _ (c : Circuit) where
       rs = record_words (record_of h a₃.kept.begun (map as_listed a₃.lists.carried) ended.wires.outs)
 
       closed_is : closed_from c i q v s ≡ write u rs
-      unfolding closing close state≔ steps if◌then◌else◌
+      unfolding closing close state≔ steps if◌then◌otherwise◌
       closed_is =
           ap (λ (x : Passed S (MainQ (Activation S))). closing c x.world i (outcome S l.turns x.turns x.queue.carried x.stop)) (main_is late e f)
           ∙ rw (main.world, main.queue, main.stop) (ap (λ (x : State). write (state≔ w r₂.left x) (record_words (log_record i.limit (state≔ w r₂.left x) (outcome S l.turns m.turns (map (waiting c) a₃.lists.carried) r₂.stop)))) (sym reads))
@@ -120,7 +120,7 @@ module _ (c : Circuit) where
         pub ticks_fit :
             fits before at rs ≡ true →
             Ticks c a b before after at (length rs) r₂.stop w (tick S w i (map (waiting c) a.lists.carried) tt)
-        unfolding write if◌then◌else◌ state≔
+        unfolding write if◌then◌otherwise◌ state≔
         ticks_fit y =
             let z = t_of in
             let n : leb (8 * length rs) u.room ≡ true = same_fit ∙ y in
@@ -140,7 +140,7 @@ module _ (c : Circuit) where
         pub ticks_full :
             fits before at rs ≡ false →
             Ticks c a b before after at 0 log_full w (tick S w i (map (waiting c) a.lists.carried) tt)
-        unfolding write if◌then◌else◌ state≔
+        unfolding write if◌then◌otherwise◌ state≔
         ticks_full y =
             let z = t_of in
             let n : leb (8 * length rs) u.room ≡ false = same_fit ∙ y in

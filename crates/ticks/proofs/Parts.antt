@@ -7,7 +7,7 @@ use lib.Dec.{eqb}
 use lib.ListN.{length, take, drop, length-map}
 use lib.Seq.{take-append_seam, drop-append_seam}
 use Rattle.schedule.specs.Schedule.{Setup, Activation, LateQ, MainQ, OpenQ, most_units, log_full, push_all, activate_open, Raising, raise_all, Turn, Passed, late_pass, main_pass, Tick, acts, outcome, tick, Closed}
-use Rattle.model.specs.Base.{if◌then◌else◌}
+use Rattle.model.specs.Base.{if◌then◌otherwise◌}
 use Rattle.model.specs.Circuit.{Circuit}
 use Rattle.model.specs.State.{Act, State}
 use Rattle.model.specs.Opening.{open_tick}
@@ -116,5 +116,5 @@ module _ (c : Circuit) where
         carried = map as_listed (acts_waiting carried j);
         stop = sym e₄ j;
         changed = sym e₆ j;
-        outs = if eqb (sym e₄ j) 0 then v.state.wires.outs else [];
+        outs = if eqb (sym e₄ j) 0 then v.state.wires.outs otherwise [];
       }

@@ -8,7 +8,7 @@ use borrow.Author.Tests.{ne_eqb}
 use Rattle.schedule.specs.Schedule.{log_full, no_turn, next_late, next_main, activate_late, activate_main, late_pass, main_pass}
 use Rattle.lists.specs.declared.Filed.{Filed as Answer}
 use Rattle.lists.specs.declared.Filed.TheVariants.{Full, Done}
-use Rattle.model.specs.Base.{if◌then◌else◌}
+use Rattle.model.specs.Base.{if◌then◌otherwise◌}
 use Rattle.model.specs.Circuit.{Circuit}
 use Rattle.model.specs.Wires.{refresh_all}
 use Rattle.model.specs.Unit.{World, state≔}
@@ -84,20 +84,20 @@ main_ran c a b l r z p = rw z (record { passes = p })
 
 -- the steps made
 pub steps_runaway : (limit left stop n : ℕ) → n ≡ limit - left → stop ≡ 11 → n + 1 ≡ steps_made limit left stop
-unfolding steps_made if◌then◌else◌
+unfolding steps_made if◌then◌otherwise◌
 steps_runaway limit left stop n e h = rw (h, e) refl
 
 pub steps_other : (limit left stop n : ℕ) → n ≡ limit - left → (stop ≡ 11 → ⊥) → n ≡ steps_made limit left stop
-unfolding steps_made if◌then◌else◌
+unfolding steps_made if◌then◌otherwise◌
 steps_other limit left stop n e h = rw (ne_eqb stop 11 h, e) (omega arith)
 
 -- the outputs of a stopped tick are not read
 pub unread : (c : Circuit) (v : Values) (stop : ℕ) → (stop ≡ 0 → ⊥) → v ≡ with_wires v (outputs_read c v.wires stop)
-unfolding outputs_read if◌then◌else◌
+unfolding outputs_read if◌then◌otherwise◌
 unread c v stop h = rw (ne_eqb stop 0 h) refl
 
 pub read_all : (c : Circuit) (v b : Values) (stop : ℕ) → stop ≡ 0 → b ≡ with_wires v (refresh_all c v.wires) → b ≡ with_wires v (outputs_read c v.wires stop)
-unfolding outputs_read if◌then◌else◌
+unfolding outputs_read if◌then◌otherwise◌
 read_all c v b stop h e = rw h e
 
 -- the head of the record

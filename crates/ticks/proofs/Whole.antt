@@ -8,7 +8,7 @@ use lib.Dec.{eqb}
 use lib.ListN.{length}
 use Rattle.schedule.specs.Schedule.{tick, most_units, late_pass, main_pass, log_full}
 use Rattle.lists.specs.declared.Filed.{Filed}
-use Rattle.model.specs.Base.{if◌then◌else◌}
+use Rattle.model.specs.Base.{if◌then◌otherwise◌}
 use Rattle.model.specs.Circuit.{Circuit}
 use Rattle.model.specs.Script.{Given}
 use Rattle.model.specs.State.{State, wires≔}
@@ -67,7 +67,7 @@ module _ (c : Circuit) (i : Allowed) (a a₁ a₂ : Contents) (v b : Values) (u 
 
     -- the outputs are read as the definition does
     reads : ended ≡ read_outputs c a₃.state r₂.stop
-    unfolding read_outputs outputs_read if◌then◌else◌ wires≔
+    unfolding read_outputs outputs_read if◌then◌otherwise◌ wires≔
     reads = ap (λ (x : Values). (together x u d).state) read ∙ go (eqb r₂.stop 0) refl
       where
         go : (t : Bool) → eqb r₂.stop 0 ≡ t → (together (with_wires v (outputs_read c v.wires r₂.stop)) u d).state ≡ read_outputs c a₃.state r₂.stop

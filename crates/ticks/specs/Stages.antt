@@ -1,7 +1,7 @@
 -- The stages of a tick after its opening: the late pass, the main pass, the record.
 use Rattle.std.specs.Prelude.{ℕ, ◌+◌, ◌-◌, ◌≡◌, Bool, true, false, List, map, eqb, length}
 use Rattle.schedule.specs.Schedule.{log_full, late_pass, main_pass}
-use Rattle.model.specs.Base.{if◌then◌else◌}
+use Rattle.model.specs.Base.{if◌then◌otherwise◌}
 use Rattle.model.specs.Circuit.{Circuit}
 use Rattle.model.specs.State.{Wires}
 use Rattle.model.specs.Wires.{refresh_all}
@@ -31,11 +31,11 @@ pub record RanMain (c : Circuit) (a b : Contents) (left stop : ℕ) (r : Ran) : 
 
 -- the steps made of a tick that may make `limit`; those of one stopped by 11 include the one not made
 unfoldable pub steps_made : ℕ → ℕ → ℕ → ℕ
-steps_made limit left stop = limit - left + (if eqb stop runaway then 1 else 0)
+steps_made limit left stop = limit - left + (if eqb stop runaway then 1 otherwise 0)
 
 -- the outputs as they are read at a tick's end
 unfoldable pub outputs_read : Circuit → Wires → ℕ → Wires
-outputs_read c w stop = if eqb stop 0 then refresh_all c w else w
+outputs_read c w stop = if eqb stop 0 then refresh_all c w otherwise w
 
 -- the head of a tick's record
 unfoldable pub head_of : ℕ → ℕ → ℕ → ℕ → ℕ → Values → Head

@@ -10,7 +10,7 @@ use lib.Dec.{leb, ltb}
 use lib.ListN.{length, length-append, length-map}
 use Rattle.lists.specs.declared.Filed.{Filed}
 use Rattle.model.specs.declared.Value.{Value}
-use Rattle.model.specs.Base.{if◌then◌else◌, keep}
+use Rattle.model.specs.Base.{if◌then◌otherwise◌, keep}
 use Rattle.model.specs.Circuit.{Circuit, Call, kind_of_gate, input, output, calls_of}
 use Rattle.model.specs.State.{Send}
 use Rattle.model.specs.Chain.{Calls, no_calls, fit, push_calls}
@@ -28,15 +28,15 @@ use Rattle.unit.specs.Unit.{FewCalls, act_in}
 
 module _ (c : Circuit) (g form r : ℕ) where
   pub fired_form : 32 ≤ form → (r ≡ output c g (form - 32)) × (r < 131072) → r ≡ fired c g form
-  unfolding fired if◌then◌else◌
+  unfolding fired if◌then◌otherwise◌
   fired_form h e = rw (le-leb 32 form h) e.0
 
   pub fired_expired : (k : ℕ) → form < 32 → k ≡ kind_of_gate c g → k ≡ 15 → (r ≡ output c g 1) × (r < 131072) → r ≡ fired c g form
-  unfolding fired if◌then◌else◌
+  unfolding fired if◌then◌otherwise◌
   fired_expired k h ek z e = rw (lt-leb 32 form h, eq-eqb (kind_of_gate c g) 15 (sym ek ∙ z)) e.0
 
   pub fired_first : (k : ℕ) → form < 32 → k ≡ kind_of_gate c g → (k ≡ 15 → ⊥) → (r ≡ output c g 0) × (r < 131072) → r ≡ fired c g form
-  unfolding fired if◌then◌else◌
+  unfolding fired if◌then◌otherwise◌
   fired_first k h ek z e = rw (lt-leb 32 form h, ne_eqb (kind_of_gate c g) 15 (λ q. z (ek ∙ q))) e.0
 
 -- ---- the form of a pin
@@ -53,11 +53,11 @@ pin_least form b e t = leb-true 16 form (both_true (leb 16 form) (ltb form 32) (
 -- ---- the calls
 
 keep_few : (p : Call → Bool) (ks : List Call) → length (keep p ks) ≤ length ks
-unfolding keep if◌then◌else◌
+unfolding keep if◌then◌otherwise◌
 keep_few p [] = omega arith
 keep_few p (k ∷ ks) = go (p k) (keep_few p ks)
   where
-    go : (b : Bool) → length (keep p ks) ≤ length ks → length (if b then k ∷ keep p ks else keep p ks) ≤ suc (length ks)
+    go : (b : Bool) → length (keep p ks) ≤ length ks → length (if b then k ∷ keep p ks otherwise keep p ks) ≤ suc (length ks)
     go true h = omega (arith, h)
     go false h = omega (arith, h)
 
@@ -75,7 +75,7 @@ module _ (c : Circuit) (us us₁ us₂ : List ℕ) (g form : ℕ) (b : Bool) (r 
   pub begin_pin :
       (i : ℕ) → b ≡ true → (i ≡ input c g (form - 16)) × (i < 131072) → (r ≡ fits_one (units c us₁).calls.stack) × (units c us₂ ≡ with_calls (units c us₁) (called i (units c us₁).calls)) →
       (row : List Value) → units c us₂ ≡ with_calls (units c us) (begin c (record { gate = g; form = form; row = row }))
-  unfolding begin if◌then◌else◌ called
+  unfolding begin if◌then◌otherwise◌ called
   begin_pin i t ei e₂ row =
       rw (sym eb ∙ t)
       (e₂.1
@@ -85,7 +85,7 @@ module _ (c : Circuit) (us us₁ us₂ : List ℕ) (g form : ℕ) (b : Bool) (r 
   pub begin_fires :
       (o : ℕ) → b ≡ false → o ≡ fired c g form → Pushes (units c us₁) (units c us₂) r (push_calls c (some o) (units c us₁).calls) → FewCalls c →
       (row : List Value) → units c us₂ ≡ with_calls (units c us) (begin c (record { gate = g; form = form; row = row }))
-  unfolding begin if◌then◌else◌
+  unfolding begin if◌then◌otherwise◌
   begin_fires o f eo p few row =
       let q : push_calls c (some o) (units c us₁).calls ≡ push_calls c (some o) no_calls = ap (λ (u : Units). push_calls c (some o) u.calls) e₁ in
       rw (sym eb ∙ f)

@@ -13,7 +13,7 @@ use Rattle.words.proofs.Laws.{words_long}
 use Rattle.words.proofs.Tables.{tables_length}
 use Rattle.model.specs.declared.Value.{Value}
 use Rattle.model.specs.declared.Value.TheVariants.{Nothing}
-use Rattle.model.specs.Base.{if◌then◌else◌, from}
+use Rattle.model.specs.Base.{if◌then◌otherwise◌, from}
 use Rattle.model.specs.Value.{value_of}
 use Rattle.model.specs.Circuit.{Circuit, part, output}
 use Rattle.model.specs.State.{Send}
@@ -29,18 +29,18 @@ use Rattle.unit.specs.Unit.{act_in}
 
 module _ (c : Circuit) (vs : List ℕ) (x o f : ℕ) (ef : (f ≡ form_of x) × (f < 65536)) where
   pub brings_none : (f ≡ 2 → ⊥) → values c vs ≡ with_wires (values c vs) (set_outs c (values c vs).wires o (row_of c (form_of x) (brings x)))
-  unfolding row_of if◌then◌else◌ set_outs
+  unfolding row_of if◌then◌otherwise◌ set_outs
   brings_none h = rw (ne_eqb (form_of x) 2 (λ q. h (ef.0 ∙ q)))
 
   pub brings_nothing : (k : ℕ) → f ≡ 2 → (k ≡ brings x) × (k < 65536) → k ≡ 0 → values c vs ≡ with_wires (values c vs) (set_outs c (values c vs).wires o (row_of c (form_of x) (brings x)))
-  unfolding row_of if◌then◌else◌ set_outs
+  unfolding row_of if◌then◌otherwise◌ set_outs
   brings_nothing k h ek z = rw (eq-eqb (form_of x) 2 (sym ef.0 ∙ h), eq-eqb (brings x) 0 (sym ek.0 ∙ z))
 
 pub brings_constant :
     (c : Circuit) (vs vs₁ : List ℕ) (x o f k g : ℕ) (v : Value) → (f ≡ form_of x) × (f < 65536) → f ≡ 2 → (k ≡ brings x) × (k < 65536) → (k ≡ 0 → ⊥) → v ≡ get_or c.constants k Nothing →
     (g ≡ gate_of x) × (g < 65536) → (o ≡ output c g 1) × (o < 131072) → values c vs₁ ≡ with_wires (values c vs) (set_out c (values c vs).wires o v) →
     values c vs₁ ≡ with_wires (values c vs) (set_outs c (values c vs).wires (output c (gate_of x) 1) (row_of c (form_of x) (brings x)))
-unfolding row_of if◌then◌else◌ set_outs
+unfolding row_of if◌then◌otherwise◌ set_outs
 brings_constant c vs vs₁ x o f k g v ef h ek z ev eg eo e =
     rw (eq-eqb (form_of x) 2 (sym ef.0 ∙ h), ne_eqb (brings x) 0 (λ q. z (ek.0 ∙ q)))
     (e ∙ ap₂ (λ (p : ℕ) (u : Value). with_wires (values c vs) (set_out c (values c vs).wires p u)) (eo.0 ∙ ap (λ (y : ℕ). output c y 1) eg.0) (ev ∙ ap (λ (y : ℕ). get_or c.constants y Nothing) ek.0))
@@ -71,7 +71,7 @@ unfolding cut
 rows_sized bs l = tables_length sizes (words bs) 10 (omega arith) (omega (arith, words_long 8192 bs (omega arith)))
 
 half_row : (b : Bool) (t : Tables) (e : ℕ) → length t.rows ≡ 2048 → e < length (events_of b t) → length (get_or (map (λ (m : Send). m.row) (events_of b t)) e []) ≡ 8
-unfolding events_of half_at if◌then◌else◌
+unfolding events_of half_at if◌then◌otherwise◌
 half_row true t e l h = rows_length t.senders t.rows 64 (min (get_or t.counts 1 0) 64) e l (omega arith) h
 half_row false t e l h = rows_length t.senders t.rows 0 (min (get_or t.counts 0 0) 64) e l (omega arith) h
 

@@ -7,7 +7,7 @@ use borrow.Author.Tests.{eq-eqb, ne_eqb}
 use lib.Dec.{eqb}
 use Rattle.lists.specs.declared.Filed.{Filed}
 use Rattle.lists.specs.declared.Filed.TheVariants.{Full, Done}
-use Rattle.model.specs.Base.{if◌then◌else◌}
+use Rattle.model.specs.Base.{if◌then◌otherwise◌}
 use Rattle.model.specs.Circuit.{Circuit, output}
 use Rattle.model.specs.State.{Act, State, wires≔}
 use Rattle.model.specs.Wires.{set_outs}
@@ -45,7 +45,7 @@ filed_of c to a = filed_into c to (settle c a.state) a.lists
 
 module _ (c : Circuit) (to : Place) (left stop : ℕ) where
   pub finish_stopped : (a : Contents) → (stop ≡ 0 → ⊥) → Finishes a a stop (finished c to a.state left stop a.lists)
-  unfolding finished if◌then◌else◌
+  unfolding finished if◌then◌otherwise◌
   finish_stopped a h = rw (ne_eqb stop 0 h) record { areas = refl; stop = refl }
 
   pub finish_settled :
@@ -53,7 +53,7 @@ module _ (c : Circuit) (to : Place) (left stop : ℕ) where
       (areas c vs₂ us₂ ds₂ ≡ with_went (areas c vs₁ us ds) (filed_into c to (settle c (areas c vs₁ us ds).state) (areas c vs₁ us ds).lists))
       × (r ≡ (filed_into c to (settle c (areas c vs₁ us ds).state) (areas c vs₁ us ds).lists).answer) →
       st ≡ stop_of r → Finishes (areas c vs us ds) (areas c vs₂ us₂ ds₂) st (finished c to (areas c vs us ds).state left stop (areas c vs us ds).lists)
-  unfolding finished if◌then◌else◌ with_left wires≔
+  unfolding finished if◌then◌otherwise◌ with_left wires≔
   finish_settled vs us ds vs₁ vs₂ us₂ ds₂ r st z ev e es =
       let p : areas c vs₁ us ds ≡ with_state (areas c vs us ds) (wires≔ (areas c vs us ds).state (publish_writes c (areas c vs us ds).state.wires)) =
       ap (λ (v : Values). together v (units c us) (delays c ds)) ev
@@ -70,9 +70,9 @@ finished_left : (c : Circuit) (to : Place) (s : State) (left stop : ℕ) (l : Li
 unfolding finished with_left
 finished_left c to s left stop l = go (eqb stop 0)
   where
-    go : (b : Bool) → left ≡ (if b then with_left left (filed_into c to (settle c (wires≔ s (publish_writes c s.wires))) l) else record { state = s; lists = l; left = left; stop = stop }).left
-    go true = unfold if◌then◌else◌ in refl
-    go false = unfold if◌then◌else◌ in refl
+    go : (b : Bool) → left ≡ (if b then with_left left (filed_into c to (settle c (wires≔ s (publish_writes c s.wires))) l) otherwise record { state = s; lists = l; left = left; stop = stop }).left
+    go true = unfold if◌then◌otherwise◌ in refl
+    go false = unfold if◌then◌otherwise◌ in refl
 
 module _ (c : Circuit) (to : Place) (left : ℕ) (α : Act) (a b d : Contents) (k : Ran) (st : ℕ) where
   chain_ran :

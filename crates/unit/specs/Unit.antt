@@ -3,7 +3,7 @@ use Rattle.std.specs.Prelude.{ℕ, ◌≤◌, ◌≡◌, List, eqb, length}
 use Rattle.lists.specs.declared.Filed.{Filed}
 use Rattle.lists.specs.declared.Filed.TheVariants.{Full, Done}
 use Rattle.schedule.specs.Schedule.{list_full}
-use Rattle.model.specs.Base.{if◌then◌else◌}
+use Rattle.model.specs.Base.{if◌then◌otherwise◌}
 use Rattle.model.specs.Circuit.{Circuit, calls_of}
 use Rattle.model.specs.State.{Act, Send, State, wires≔}
 use Rattle.model.specs.Chain.{no_calls, Chained}
@@ -49,7 +49,7 @@ module _ (c : Circuit) (to : Place) where
   unfoldable pub finished : State → ℕ → ℕ → Lists → Result
   finished s left stop l =
       if eqb stop 0 then with_left left (filed_into c to (settle c (wires≔ s (publish_writes c s.wires))) l)
-      else record { state = s; lists = l; left = left; stop = stop }
+      otherwise record { state = s; lists = l; left = left; stop = stop }
 
   -- after that chain
   unfoldable pub finished_chain : Chained → Lists → Result

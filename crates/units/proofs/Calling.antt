@@ -13,7 +13,7 @@ use Rattle.lists.specs.declared.Filed.{Filed}
 use Rattle.lists.specs.declared.Taken.{Taken}
 use Rattle.lists.specs.declared.Taken.TheVariants.{Empty}
 use Rattle.lists.specs.Lists.{stacked, queued, filed, if_room, taken, Emptied}
-use Rattle.model.specs.Base.{if◌then◌else◌, snoc}
+use Rattle.model.specs.Base.{if◌then◌otherwise◌, snoc}
 use Rattle.model.specs.Circuit.{Circuit}
 use Rattle.model.specs.Chain.{Calls, no_calls, pop_fork, pop}
 use Rattle.units.specs.View.{Units, events_of, second_half, units}
@@ -93,13 +93,13 @@ fork_pushed bs p i r l e q c = (
 -- above what waited before
 pop_above : (inside : Bool) (under : ℕ) (q : Calls) (st : List ℕ) → q.stack ≡ st → under < length st →
     (taken st ≡ popped (pop inside under st q.forks)) × (stack≔ q (drop 1 st) ≡ calls_left q (pop inside under st q.forks))
-unfolding pop popped calls_left taken if◌then◌else◌
+unfolding pop popped calls_left taken if◌then◌otherwise◌
 pop_above inside under q [] e l = absurd (omega (arith, l))
 pop_above inside under q (i ∷ st) e l = let z = le-leb under (length st) (omega (arith, l)) in rw (z, pop) (refl, refl)
 
 -- with nothing there, a fork
 pop_below : (inside : Bool) (under : ℕ) (st fs : List ℕ) → length st ≤ under → pop inside under st fs ≡ pop_fork inside st fs
-unfolding pop if◌then◌else◌
+unfolding pop if◌then◌otherwise◌
 pop_below inside under [] fs l = refl
 pop_below inside under (i ∷ st) fs l = let z = lt-leb under (length st) (omega (arith, l)) in rw (z, pop)
 

@@ -14,7 +14,7 @@ use Rattle.words.proofs.Putting.{put_here, put_apart}
 use Rattle.lists.specs.Lists.{queued}
 use Rattle.model.specs.declared.Value.{Value}
 use Rattle.model.specs.declared.Value.TheVariants.{Nothing}
-use Rattle.model.specs.Base.{if◌then◌else◌, both, from, among, snoc}
+use Rattle.model.specs.Base.{if◌then◌otherwise◌, both, from, among, snoc}
 use Rattle.model.specs.Value.{value_of}
 use Rattle.model.specs.Circuit.{Circuit, part}
 use Rattle.model.specs.State.{Send}
@@ -66,7 +66,7 @@ abbrev pub half_events : ℕ → Tables → List Send
 half_events h t = map (event_at t.senders t.rows) (from (h * 64) (min (get_or t.counts h 0) 64))
 
 pub half_is : (b : Bool) (t : Tables) → events_of b t ≡ half_events (cond b 1 0) t
-unfolding events_of half_at if◌then◌else◌
+unfolding events_of half_at if◌then◌otherwise◌
 half_is true t = refl
 half_is false t = refl
 
@@ -424,15 +424,15 @@ seen_is c bs t b p q = λ j. seen c (p j) (events_of (second_half (p j)) (p j)) 
 
 -- the answers to one more event
 sent_new : (m : Send) (o : List Send) → among m.gate (map (λ x. x.gate) o) ≡ false → length o < 64 → sent m o ≡ snoc o m
-unfolding sent if◌then◌else◌
+unfolding sent if◌then◌otherwise◌
 sent_new m o a h = let b : leb 64 (length o) ≡ false = lt-leb 64 (length o) h in rw (a, b)
 
 sent_again : (m : Send) (o : List Send) → among m.gate (map (λ x. x.gate) o) ≡ true → sent m o ≡ o
-unfolding sent if◌then◌else◌
+unfolding sent if◌then◌otherwise◌
 sent_again m o a = rw a
 
 sent_full : (m : Send) (o : List Send) → 64 ≤ length o → sent m o ≡ o
-unfolding sent if◌then◌else◌
+unfolding sent if◌then◌otherwise◌
 sent_full m o h = let b : leb 64 (length o) ≡ true = le-leb 64 (length o) h in rw (b, or-true (among m.gate (map (λ x. x.gate) o)))
 
 module _ (bs : List ℕ) (h n g : ℕ) (ks cs : List ℕ) (o : Outbox bs h) (e : Held bs h n) where

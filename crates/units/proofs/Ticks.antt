@@ -15,7 +15,7 @@ use Rattle.lists.specs.Lists.{stacked, appended, queued}
 use Rattle.lists.specs.declared.Filed.{Filed as Answer}
 use Rattle.lists.proofs.Stacks.{stacked_length, stacked_none, entry_is}
 use Rattle.lists.proofs.Rings.{queued_none}
-use Rattle.model.specs.Base.{if◌then◌else◌, from}
+use Rattle.model.specs.Base.{if◌then◌otherwise◌, from}
 use Rattle.model.specs.Circuit.{Circuit, rank_of_gate}
 use Rattle.model.specs.State.{Act, Send}
 use Rattle.model.specs.Chain.{no_calls}
@@ -105,12 +105,12 @@ abbrev pub switched : Units → Units
 switched v = record { calls = v.calls; lists = delivered≔ v.lists []; begun = v.begun; outbox = []; events = v.outbox; rest = v.rest }
 
 -- a half with a count of 0
-none_sent : (b : Bool) (t : Tables) → get_or t.counts (if b then 1 else 0) 0 ≡ 0 → events_of b t ≡ []
+none_sent : (b : Bool) (t : Tables) → get_or t.counts (if b then 1 otherwise 0) 0 ≡ 0 → events_of b t ≡ []
 unfolding events_of from
 none_sent b t e = ap (λ (n : ℕ). map (event_at t.senders t.rows) (from (half_at b) (min n 64))) e
 
 -- the same count, senders and rows
-same_sent : (b : Bool) (t t' : Tables) → t'.senders ≡ t.senders → t'.rows ≡ t.rows → get_or t'.counts (if b then 1 else 0) 0 ≡ get_or t.counts (if b then 1 else 0) 0
+same_sent : (b : Bool) (t t' : Tables) → t'.senders ≡ t.senders → t'.rows ≡ t.rows → get_or t'.counts (if b then 1 otherwise 0) 0 ≡ get_or t.counts (if b then 1 otherwise 0) 0
     → events_of b t' ≡ events_of b t
 unfolding events_of
 same_sent b t t' es er ec = λ j. map (event_at (es j) (er j)) (from (half_at b) (min (ec j) 64))
@@ -142,7 +142,7 @@ half_is w v l = ap marked (get_or-set_same w 0 v 0 (omega arith))
 
 -- the first half was the outbox: the second is
 to_second : (c : Circuit) (t : Tables) (bs : List ℕ) → length t.half ≡ 1 → second_half t ≡ false → whole c (poke 8 1 0 (poke 7 0 1 (poke 5 0 0 t))) bs ≡ switched (whole c t bs)
-unfolding second_half if◌then◌else◌
+unfolding second_half if◌then◌otherwise◌
 to_second c t bs l h =
     let t' : Tables = poke 8 1 0 (poke 7 0 1 (poke 5 0 0 t)) in
     let a : second_half t' ≡ true = half_is t.half 1 l in
@@ -152,7 +152,7 @@ to_second c t bs l h =
 
 -- the second half was the outbox: the first is
 to_first : (c : Circuit) (t : Tables) (bs : List ℕ) → length t.half ≡ 1 → second_half t ≡ true → whole c (poke 8 0 0 (poke 7 0 0 (poke 5 0 0 t))) bs ≡ switched (whole c t bs)
-unfolding second_half if◌then◌else◌
+unfolding second_half if◌then◌otherwise◌
 to_first c t bs l h =
     let t' : Tables = poke 8 0 0 (poke 7 0 0 (poke 5 0 0 t)) in
     let a : second_half t' ≡ false = half_is t.half 0 l in
@@ -189,7 +189,7 @@ no_events v = record { calls = v.calls; lists = delivered≔ v.lists []; begun =
 
 -- both counts are 0
 both_none : (c : Circuit) (t : Tables) (bs : List ℕ) → whole c (poke 5 0 0 (poke 8 1 0 (poke 8 0 0 t))) bs ≡ no_events (whole c t bs)
-unfolding if◌then◌else◌
+unfolding if◌then◌otherwise◌
 both_none c t bs = with_events c t t' bs [] [] refl refl refl refl refl refl refl refl (none (second_half t')) (none (not (second_half t')))
   where
     t' : Tables

@@ -5,7 +5,7 @@ use Rattle.lists.specs.declared.Filed.{Filed}
 use Rattle.lists.specs.declared.Filed.TheVariants.{Full, Done}
 use Rattle.lists.specs.declared.Taken.{Taken}
 use Rattle.lists.specs.declared.Taken.TheVariants.{Empty, Entry}
-use Rattle.model.specs.Base.{if◌then◌else◌, snoc, among}
+use Rattle.model.specs.Base.{if◌then◌otherwise◌, snoc, among}
 use Rattle.model.specs.Circuit.{Circuit, most_gates}
 use Rattle.model.specs.State.{Act, Send}
 use Rattle.model.specs.Chain.{Calls, no_calls, Popped, most_calls}
@@ -58,7 +58,7 @@ calls_left q (some p) = p.rest
 
 -- A gate's second event in a tick is ignored; there is room for one of each gate.
 unfoldable pub sent : Send → List Send → List Send
-sent m o = if among m.gate (map (λ x. x.gate) o) || leb most_gates (length o) then o else snoc o m
+sent m o = if among m.gate (map (λ x. x.gate) o) || leb most_gates (length o) then o otherwise snoc o m
 
 -- ---- what is taken: the first one, if there is one
 

@@ -5,7 +5,7 @@ use Rattle.words.specs.Tables.{base, tables, marked}
 use Rattle.lists.specs.Lists.{stacked, appended, ranked, queued}
 use Rattle.model.specs.declared.Value.{Value}
 use Rattle.model.specs.declared.Value.TheVariants.{Nothing}
-use Rattle.model.specs.Base.{if◌then◌else◌, both, from}
+use Rattle.model.specs.Base.{if◌then◌otherwise◌, both, from}
 use Rattle.model.specs.Value.{value_of}
 use Rattle.model.specs.Circuit.{Circuit, part}
 use Rattle.model.specs.State.{form-Event, form-World, Act, Send}
@@ -79,7 +79,7 @@ entry_of g form k = g % 2 ^ 16 * 2 ^ 32 + form % 2 ^ 16 * 2 ^ 16 + k % 2 ^ 16
 
 -- a stimulus brings the constant of that name, and constant 0 nothing
 unfoldable pub row_of : Circuit → ℕ → ℕ → List Value
-row_of c form k = if eqb form form-World then (if eqb k 0 then [] else get_or c.constants k Nothing ∷ []) else []
+row_of c form k = if eqb form form-World then (if eqb k 0 then [] otherwise get_or c.constants k Nothing ∷ []) otherwise []
 
 -- what waits
 unfoldable pub act_of : Circuit → ℕ → Act
@@ -97,11 +97,11 @@ event_at senders rows k = record { gate = get_or senders k 0; row = both value_o
 
 -- where a half begins
 unfoldable pub half_at : Bool → ℕ
-half_at second = if second then 64 else 0
+half_at second = if second then 64 otherwise 0
 
 -- the events of a half, in the order sent, at most 64
 unfoldable pub events_of : Bool → Tables → List Send
-events_of second t = map (event_at t.senders t.rows) (from (half_at second) (min (get_or t.counts (if second then 1 else 0) 0) 64))
+events_of second t = map (event_at t.senders t.rows) (from (half_at second) (min (get_or t.counts (if second then 1 otherwise 0) 0) 64))
 
 -- which half is the outbox
 unfoldable pub second_half : Tables → Bool

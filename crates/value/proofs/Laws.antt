@@ -10,7 +10,7 @@ use lib.Ieee.{round, to_bits, of_int}
 use Rattle.words.specs.Words.{signed}
 use Rattle.model.specs.declared.Value.{Value}
 use Rattle.model.specs.declared.Value.TheVariants.{Nothing, Int, Float, Bool as Truth}
-use Rattle.model.specs.Base.{if◌then◌else◌}
+use Rattle.model.specs.Base.{if◌then◌otherwise◌}
 use Rattle.model.specs.Value.{truthy, bit, same, eq64, float_of_int, to_int, as_int, one_point_zero, kind_of, content_of, value_of}
 use Rattle.model.specs.Opening.{enabled}
 use Rattle.value.proofs.Floats.{zero_bits, itself_bits}
@@ -41,8 +41,8 @@ taken_apart (suc (suc (suc (suc k)))) b h f g = absurd (omega arith)
 
 -- as an Int, by kind: the content of an Int or a Bool is the word of its number
 as_int_is : (d : ℤ) (v : Value)
-    → as_int d v ≡ (if eqb (kind_of v) 0 then d else if eqb (kind_of v) 2 then to_int (content_of v) else signed (content_of v))
-unfolding as_int kind_of content_of bit if◌then◌else◌
+    → as_int d v ≡ (if eqb (kind_of v) 0 then d otherwise if eqb (kind_of v) 2 then to_int (content_of v) otherwise signed (content_of v))
+unfolding as_int kind_of content_of bit if◌then◌otherwise◌
 as_int_is d Nothing = refl
 as_int_is d (Int b) = refl
 as_int_is d (Float b) = refl
@@ -52,23 +52,23 @@ as_int_is d (Truth true) = refl
 module _ (d : ℤ) (v : Value) (k : ℕ) (ek : k ≡ kind_of v) where
   -- nothing gives the default
   pub nothing_int : k ≡ 0 → d ≡ as_int d v
-  unfolding if◌then◌else◌
+  unfolding if◌then◌otherwise◌
   nothing_int h = rw (as_int_is d v, ← ek, eq-eqb k 0 h) refl
 
   module _ (h : k ≡ 0 → ⊥) (x : ℕ) (ex : x ≡ content_of v) (z : ℤ) where
     -- a Float
     pub float_int : k ≡ 2 → z ≡ to_int x → z ≡ as_int d v
-    unfolding if◌then◌else◌
+    unfolding if◌then◌otherwise◌
     float_int f ez = rw (as_int_is d v, ← ek, ← ex, ne_eqb k 0 h, eq-eqb k 2 f) ez
 
     -- an Int or a Bool
     pub other_int : (k ≡ 2 → ⊥) → z ≡ signed x → z ≡ as_int d v
-    unfolding if◌then◌else◌
+    unfolding if◌then◌otherwise◌
     other_int f ez = rw (as_int_is d v, ← ek, ← ex, ne_eqb k 0 h, ne_eqb k 2 f) ez
 
 -- a Bool as a Float: 1.0 or 0.0
-pub bit_float : (t b : Bool) → t ≡ b → (if b then one_point_zero else 0) ≡ float_of_int (pos (bit t))
-unfolding bit float_of_int if◌then◌else◌ round to_bits of_int
+pub bit_float : (t b : Bool) → t ≡ b → (if b then one_point_zero otherwise 0) ≡ float_of_int (pos (bit t))
+unfolding bit float_of_int if◌then◌otherwise◌ round to_bits of_int
 bit_float false b e = rw (← e) refl
 bit_float true b e = rw (← e) refl
 
@@ -87,8 +87,8 @@ other_kind (suc (suc (suc k))) b f g h = refl
 -- equal kinds, and then equal contents: a Float's as floats
 same_is : (a b : Value)
     → same a b
-    ≡ (if eqb (kind_of a) (kind_of b) then if eqb (kind_of a) 2 then eq64 (content_of a) (content_of b) else eqb (content_of a) (content_of b) else false)
-unfolding same kind_of content_of bit if◌then◌else◌
+    ≡ (if eqb (kind_of a) (kind_of b) then if eqb (kind_of a) 2 then eq64 (content_of a) (content_of b) otherwise eqb (content_of a) (content_of b) otherwise false)
+unfolding same kind_of content_of bit if◌then◌otherwise◌
 same_is Nothing Nothing = refl
 same_is Nothing (Int y) = refl
 same_is Nothing (Float y) = refl
@@ -112,40 +112,40 @@ same_is (Truth true) (Truth true) = refl
 module _ (a b : Value) (k l : ℕ) (ek : k ≡ kind_of a) (el : l ≡ kind_of b) where
   -- two kinds
   pub of_two_kinds : (k ≡ l → ⊥) → false ≡ same a b
-  unfolding if◌then◌else◌
+  unfolding if◌then◌otherwise◌
   of_two_kinds h = rw (same_is a b, ← ek, ← el, ne_eqb k l h) refl
 
   module _ (e : k ≡ l) (x y : ℕ) (ex : x ≡ content_of a) (ey : y ≡ content_of b) where
     -- one kind
-    pub of_one_kind : same a b ≡ (if eqb k 2 then eq64 x y else eqb x y)
-    unfolding if◌then◌else◌
+    pub of_one_kind : same a b ≡ (if eqb k 2 then eq64 x y otherwise eqb x y)
+    unfolding if◌then◌otherwise◌
     of_one_kind = rw (same_is a b, ← ek, ← el, ← e, ← ex, ← ey, eq-eqb k k refl) refl
 
     -- with one content, and no Float
     pub contents_equal : x ≡ y → (k ≡ 2 → ⊥) → true ≡ same a b
-    unfolding if◌then◌else◌
+    unfolding if◌then◌otherwise◌
     contents_equal h f = rw (of_one_kind, ne_eqb k 2 f, eq-eqb x y h) refl
 
     -- Floats of equal bits: no NaN
     pub floats_equal : x ≡ y → k ≡ 2 → leb (x % 9223372036854775808) 9218868437227405312 ≡ same a b
-    unfolding if◌then◌else◌
+    unfolding if◌then◌otherwise◌
     floats_equal h f = rw (of_one_kind, eq-eqb k 2 f, ← h, itself_bits x) refl
 
     -- with two contents, and no Float
     pub contents_differ : (x ≡ y → ⊥) → (k ≡ 2 → ⊥) → false ≡ same a b
-    unfolding if◌then◌else◌
+    unfolding if◌then◌otherwise◌
     contents_differ h f = rw (of_one_kind, ne_eqb k 2 f, ne_eqb x y h) refl
 
     -- Floats of other bits
     pub floats_compared : (x ≡ y → ⊥) → k ≡ 2 → (r : Bool) → r ≡ eq64 x y → r ≡ same a b
-    unfolding if◌then◌else◌
+    unfolding if◌then◌otherwise◌
     floats_compared h f r er = rw (of_one_kind, eq-eqb k 2 f) er
 
 -- ---- truthy
 
 -- not zero: a Float's content as a float
-truthy_is : (v : Value) → truthy v ≡ not (if eqb (kind_of v) 2 then eq64 (content_of v) 0 else eqb (content_of v) 0)
-unfolding truthy kind_of content_of bit if◌then◌else◌
+truthy_is : (v : Value) → truthy v ≡ not (if eqb (kind_of v) 2 then eq64 (content_of v) 0 otherwise eqb (content_of v) 0)
+unfolding truthy kind_of content_of bit if◌then◌otherwise◌
 truthy_is Nothing = refl
 truthy_is (Int b) = refl
 truthy_is (Float b) = refl
@@ -155,12 +155,12 @@ truthy_is (Truth true) = refl
 module _ (v : Value) (x k : ℕ) (ex : x ≡ content_of v) (ek : k ≡ kind_of v) where
   -- a Float
   pub float_truthy : k ≡ 2 → not (eqb (x % 9223372036854775808) 0) ≡ truthy v
-  unfolding if◌then◌else◌
+  unfolding if◌then◌otherwise◌
   float_truthy h = rw (truthy_is v, ← ek, ← ex, eq-eqb k 2 h, zero_bits x) refl
 
   -- any other value
   pub other_truthy : (k ≡ 2 → ⊥) → not (eqb x 0) ≡ truthy v
-  unfolding if◌then◌else◌
+  unfolding if◌then◌otherwise◌
   other_truthy h = rw (truthy_is v, ← ek, ← ex, ne_eqb k 2 h) refl
 
 -- ---- enabled

@@ -11,7 +11,7 @@ use Rattle.words.specs.Words.{words}
 use Rattle.words.proofs.Laws.{count_words}
 use Rattle.model.specs.declared.Value.{Value}
 use Rattle.model.specs.declared.Value.TheVariants.{Nothing}
-use Rattle.model.specs.Base.{if◌then◌else◌, both}
+use Rattle.model.specs.Base.{if◌then◌otherwise◌, both}
 use Rattle.model.specs.Value.{value_of}
 use Rattle.model.specs.Circuit.{part}
 use Rattle.model.specs.Record.{stop_in, shown_at, shown_count, record_size, outputs_at, record_at}
@@ -34,7 +34,7 @@ part_there s at k n o y h e =
 
 module _ (outs : ℕ) (s : List ℕ) (at : ℕ) {k : ℕ} {b : Bool} (e : b ≡ eqb (stop_in (drop at (words s))) 0) (h : b ≡ true) (ek : k ≡ at + shown_at (drop at (words s))) (f : Fits outs s at) where
   all_shown : shown_count outs (drop at (words s)) ≡ outs
-  unfolding shown_count if◌then◌else◌
+  unfolding shown_count if◌then◌otherwise◌
   all_shown = rw (sym e ∙ h)
 
   -- the two rows stand in the log

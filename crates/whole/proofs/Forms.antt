@@ -8,7 +8,7 @@ use native.Mathlib.Omega.{arith}
 use lib.Dec.{leb, eqb}
 use lib.ListN.{length, get_or}
 use borrow.Author.Tests.{eq-eqb, ne_eqb, le-leb, lt-leb, lt-ltb, le-ltb}
-use Rattle.model.specs.Base.{if◌then◌else◌, all, both}
+use Rattle.model.specs.Base.{if◌then◌otherwise◌, all, both}
 use Rattle.model.specs.Kinds.{In, Watch, never, if_driven, always, value, kind_at, ChangeDetector, EdgeExec, BufferTicksExec, BufferSecondsExec, QueueInSeconds, WorldEvent, receiving}
 use Rattle.model.specs.Circuit.{Circuit, part, has_source, source, input, kind_of_gate}
 use Rattle.model.specs.State.{form-Fire, form-Event, form-World, form_pin, form_output}
@@ -82,33 +82,33 @@ module _ (c : Circuit) (g p k : ℕ) (q : Pin) (t : Bool) (ek : k ≡ kind_of_ga
 
 module _ (c : Circuit) (g f k : ℕ) (ek : k ≡ kind_of_gate c g) where
   pub fire_form : (t : Bool) → f ≡ form-Fire → t ≡ firing k → t ≡ can_have c g f
-  unfolding can_have if◌then◌else◌
+  unfolding can_have if◌then◌otherwise◌
   fire_form t h e = rw (eq-eqb f form-Fire h) (e ∙ ap firing ek)
 
   module _ (n : f ≡ form-Fire → ⊥) where
     pub event_form : (t : Bool) → f ≡ form-Event → t ≡ receiving k → t ≡ can_have c g f
-    unfolding can_have if◌then◌else◌
+    unfolding can_have if◌then◌otherwise◌
     event_form t h e = rw (ne_eqb f form-Fire n, eq-eqb f form-Event h) (e ∙ ap receiving ek)
 
     pub world_form : (f ≡ form-Event → ⊥) → f ≡ form-World → eqb k WorldEvent ≡ can_have c g f
-    unfolding can_have if◌then◌else◌
+    unfolding can_have if◌then◌otherwise◌
     world_form m h = rw (ne_eqb f form-Fire n, ne_eqb f form-Event m, eq-eqb f form-World h) (ap (λ (x : ℕ). eqb x WorldEvent) ek)
 
     module _ (m : f ≡ form-Event → ⊥) (l : f ≡ form-World → ⊥) where
       pub no_form : f < form_pin → false ≡ can_have c g f
-      unfolding can_have if◌then◌else◌
+      unfolding can_have if◌then◌otherwise◌
       no_form h = rw (ne_eqb f form-Fire n, ne_eqb f form-Event m, ne_eqb f form-World l, lt-ltb f form_pin h)
 
       pub pin_form : (t : Bool) → form_pin ≤ f → f < form_output → t ≡ driven c g (f - form_pin) → t ≡ can_have c g f
-      unfolding can_have if◌then◌else◌
+      unfolding can_have if◌then◌otherwise◌
       pin_form t a b e = rw (ne_eqb f form-Fire n, ne_eqb f form-Event m, ne_eqb f form-World l, le-ltb f form_pin a, lt-ltb f form_output b) e
 
       pub output_form : form_pin ≤ f → form_output ≤ f → f < form_output + 2 → eqb k EdgeExec ≡ can_have c g f
-      unfolding can_have if◌then◌else◌
+      unfolding can_have if◌then◌otherwise◌
       output_form a b d = rw (ne_eqb f form-Fire n, ne_eqb f form-Event m, ne_eqb f form-World l, le-ltb f form_pin a, le-ltb f form_output b, lt-ltb f (form_output + 2) d) (ap (λ (x : ℕ). eqb x EdgeExec) ek)
 
       pub past_forms : form_pin ≤ f → form_output ≤ f → form_output + 2 ≤ f → false ≡ can_have c g f
-      unfolding can_have if◌then◌else◌
+      unfolding can_have if◌then◌otherwise◌
       past_forms a b d = rw (ne_eqb f form-Fire n, ne_eqb f form-Event m, ne_eqb f form-World l, le-ltb f form_pin a, le-ltb f form_output b, le-ltb f (form_output + 2) d)
 
 -- ---- units

@@ -9,7 +9,7 @@ use lib.ListN.{get_or, drop}
 use lib.Seq.{get_or-drop}
 use borrow.Author.Tests.{eq-eqb, ne_eqb, le-leb, lt-leb, lt-ltb, le-ltb, leb-true, leb-false, eqb-true, eqb-false}
 use Rattle.schedule.specs.Schedule.{most_units, most_waiting, list_full}
-use Rattle.model.specs.Base.{if◌then◌else◌}
+use Rattle.model.specs.Base.{if◌then◌otherwise◌}
 use Rattle.model.specs.Circuit.{word_at}
 use Rattle.model.specs.Record.{begun_count, carried_count, stop_in, shown_count}
 use Rattle.model.specs.Chain.{runaway}
@@ -27,11 +27,11 @@ word_behind ws k i x e = e ∙ sym (get_or-drop k ws i 0)
 
 module _ (ws : List ℕ) (n p : ℕ) (e : p ≡ stop_in ws) where
   pub all_shown : p ≡ 0 → (r : ℕ) → (r ≡ n) × (r ≤ most_outputs) → (r ≡ shown_count n ws) × (r ≤ n) × (r ≤ most_outputs)
-  unfolding shown_count if◌then◌else◌
+  unfolding shown_count if◌then◌otherwise◌
   all_shown h r q = (rw (← e, eq-eqb p 0 h) q.0, omega (arith, q.0), q.1)
 
   pub none_shown : (p ≡ 0 → ⊥) → (0 ≡ shown_count n ws) × (0 ≤ n) × (0 ≤ most_outputs)
-  unfolding shown_count if◌then◌else◌
+  unfolding shown_count if◌then◌otherwise◌
   none_shown h = (rw (← e, ne_eqb p 0 h), omega arith, omega arith)
 
 -- ---- steps and stops

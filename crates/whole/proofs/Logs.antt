@@ -10,7 +10,7 @@ use lib.ListN.{length, drop}
 use lib.Seq.{drop-drop}
 use borrow.Author.Tests.{eq-eqb, ne_eqb}
 use Rattle.words.specs.Words.{words}
-use Rattle.model.specs.Base.{if◌then◌else◌}
+use Rattle.model.specs.Base.{if◌then◌otherwise◌}
 use Rattle.model.specs.Circuit.{Circuit, circuit}
 use Rattle.model.specs.Record.{record_size}
 use Rattle.model.specs.Script.{most_ticks}
@@ -38,10 +38,10 @@ module _ (c : Circuit) where
 
   -- the size of a good record is not 0
   sized : (t : ℕ) (ws : List ℕ) (n : ℕ) → n ≡ size_if_good c t ws → ((n ≡ 0) × (good_record c t ws ≡ false)) ⊎ ((n ≡ record_size (length c.outputs) ws) × (good_record c t ws ≡ true))
-  unfolding size_if_good if◌then◌else◌
+  unfolding size_if_good if◌then◌otherwise◌
   sized t ws n e = go (good_record c t ws) refl e
     where
-      go : (b : Bool) → good_record c t ws ≡ b → n ≡ (if b then record_size (length c.outputs) ws else 0)
+      go : (b : Bool) → good_record c t ws ≡ b → n ≡ (if b then record_size (length c.outputs) ws otherwise 0)
           → ((n ≡ 0) × (good_record c t ws ≡ false)) ⊎ ((n ≡ record_size (length c.outputs) ws) × (good_record c t ws ≡ true))
       go true q f = inr (f, q)
       go false q f = inl (f, q)
@@ -119,9 +119,9 @@ module _ (bytes log links made : List ℕ) (x : ℕ) (e : (x ≡ circuit_refusal
 
     -- it is whole, or not
     pub asked_whole : t ≡ true → Asked bytes log links made 0
-    unfolding log_refusal if◌then◌else◌
+    unfolding log_refusal if◌then◌otherwise◌
     asked_whole h = record { number = later_number x 0 _ _ e.0 z (rw (← tested, h)); links_made = e.1; shows = λ q. shown }
 
     pub asked_not_whole : t ≡ false → Asked bytes log links made not_whole
-    unfolding log_refusal if◌then◌else◌
+    unfolding log_refusal if◌then◌otherwise◌
     asked_not_whole h = record { number = later_number x not_whole _ _ e.0 z (rw (← tested, h)); links_made = e.1; shows = λ q. shown }

@@ -9,7 +9,7 @@ use lib.ListN.{length, take, drop}
 use lib.Seq.{drop-drop}
 use borrow.Author.Tests.{leb-true, le-leb}
 use Rattle.words.specs.Words.{words}
-use Rattle.model.specs.Base.{if◌then◌else◌, all, both}
+use Rattle.model.specs.Base.{if◌then◌otherwise◌, all, both}
 use Rattle.model.specs.Circuit.{Circuit, part}
 use Rattle.model.specs.Record.{head_size, begun_count, carried_count, stop_in, shown_count, carried_at, shown_at, record_size, listed, units_at}
 use Rattle.model.specs.Questions.{yes_all}
@@ -111,7 +111,7 @@ says c t ws h =
 
 -- where none begins
 no_size : (c : Circuit) (t : ℕ) (ws : List ℕ) → (Says c t ws → ⊥) → 0 ≡ size_if_good c t ws
-unfolding size_if_good if◌then◌else◌
+unfolding size_if_good if◌then◌otherwise◌
 no_size c t ws n = rw (not_so (good_record c t ws) (λ h. n (says c t ws h)))
 
 module _ (c : Circuit) (s : List ℕ) (at t o n : ℕ) (eo : o ≡ length c.outputs) (en : n ≡ min (record_size o (drop at (words s))) (length s / 8 - at + 1)) where
@@ -155,7 +155,7 @@ module _ (c : Circuit) (s : List ℕ) (at t o n : ℕ) (eo : o ≡ length c.outp
             bad_rows h = no_size c t there (λ q. true≢false (sym q.rows ∙ no f _ ef h))
 
             pub good_sized : not f ≡ false → n ≡ size_if_good c t there
-            unfolding size_if_good if◌then◌else◌ good_record
+            unfolding size_if_good if◌then◌otherwise◌ good_record
             good_sized hf =
                 let x : leb (record_size (length c.outputs) there) (length there) ≡ true =
                 le-leb (record_size (length c.outputs) there) (length there) (omega (arith, size_is, room_is s at, fits)) in

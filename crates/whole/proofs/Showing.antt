@@ -9,7 +9,7 @@ use lib.ListN.{length, get_or, drop}
 use lib.Seq.{drop-cons}
 use borrow.Author.Tests.{eq-eqb, ne_eqb}
 use Rattle.words.specs.Words.{words}
-use Rattle.model.specs.Base.{if◌then◌else◌, all, both}
+use Rattle.model.specs.Base.{if◌then◌otherwise◌, all, both}
 use Rattle.model.specs.Kinds.{Out, fires, shows, passes}
 use Rattle.model.specs.Circuit.{Circuit}
 use Rattle.model.specs.Questions.{yes_all, value_output, good_constant}
@@ -21,7 +21,7 @@ use Rattle.records.specs.Whole.{good_output, good_outputs}
 
 -- No constant has kind 0, so kind 0 is good only with content 0.
 pub nothing_shown : (o : Out) (k b : ℕ) → k ≡ 0 → eqb b 0 ≡ good_output o k b
-unfolding good_output good_constant if◌then◌else◌
+unfolding good_output good_constant if◌then◌otherwise◌
 nothing_shown o k b h =
     let g : good_constant k b ≡ false = ap (λ (x : ℕ). good_constant x b) h ∙ none b in
     rw (eq-eqb k 0 h, g) (or_none (eqb b 0) (elim o [ fires ↦ false | shows ↦ true | passes ↦ true ]))

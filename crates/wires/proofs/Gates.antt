@@ -3,7 +3,7 @@ use Rattle.std.proofs.Common.{◌≡◌, ℕ, zero, suc, ◌/◌, ◌%◌, ◌^�
 use native.Mathlib.Nat.{div-div-eq-div-mul}
 use Rattle.words.specs.Tables.{marked, digits}
 use Rattle.words.proofs.Tables.{places}
-use Rattle.model.specs.Base.{if◌then◌else◌, keep, each, from}
+use Rattle.model.specs.Base.{if◌then◌otherwise◌, keep, each, from}
 use Rattle.model.specs.Wires.{invalidate}
 use Rattle.links.specs.Links.{cell, net, gates_of_word}
 use Rattle.links.proofs.Reading.{time_sources_of}
@@ -11,7 +11,7 @@ use Rattle.wires.specs.View.{with_wires, values}
 use Rattle.wires.proofs.Steps.{step, each_step}
 
 by_digits : (d m n : ℕ) → places m (digits n (d / 2 ^ m)) ≡ keep (λ g. eqb (d / 2 ^ g % 2) 1) (from m n)
-unfolding places digits keep from if◌then◌else◌
+unfolding places digits keep from if◌then◌otherwise◌
 by_digits d m zero = refl
 by_digits d m (suc n) =
     let e : d / 2 ^ m / 2 ≡ d / 2 ^ suc m = div-div-eq-div-mul d (2 ^ m) 2 ∙ ap (λ (x : ℕ). d / x) (sym (pow-suc 2 m)) in
@@ -19,7 +19,7 @@ by_digits d m (suc n) =
   where
     go :
         (x : ℕ) → x < 2 → places (suc m) (digits n (d / 2 ^ m / 2)) ≡ keep (λ g. eqb (d / 2 ^ g % 2) 1) (from (suc m) n) →
-        places m (marked x ∷ digits n (d / 2 ^ m / 2)) ≡ (if eqb x 1 then m ∷ keep (λ g. eqb (d / 2 ^ g % 2) 1) (from (suc m) n) else keep (λ g. eqb (d / 2 ^ g % 2) 1) (from (suc m) n))
+        places m (marked x ∷ digits n (d / 2 ^ m / 2)) ≡ (if eqb x 1 then m ∷ keep (λ g. eqb (d / 2 ^ g % 2) 1) (from (suc m) n) otherwise keep (λ g. eqb (d / 2 ^ g % 2) 1) (from (suc m) n))
     go zero l rec = rec
     go (suc zero) l rec = ap (λ (gs : List ℕ). m ∷ gs) rec
     go (suc (suc x)) l rec = absurd (omega arith)

@@ -10,7 +10,7 @@ use Rattle.words.specs.Tables.{marked, digits}
 use Rattle.words.proofs.Tables.{take_set, digits_length, digits_get, digits_or, digits_xor, one_digit, map_marked_set, map_marked_get, ring_length, ring_push}
 use Rattle.model.specs.declared.Value.{Value}
 use Rattle.model.specs.declared.Value.TheVariants.{Nothing}
-use Rattle.model.specs.Base.{if◌then◌else◌, both, snoc}
+use Rattle.model.specs.Base.{if◌then◌otherwise◌, both, snoc}
 use Rattle.model.specs.Value.{content_of}
 use Rattle.model.specs.Circuit.{Circuit}
 use Rattle.model.specs.State.{Wires, outs≔, dirty≔, to_check≔, late_checks≔}
@@ -174,13 +174,13 @@ module _ (c : Circuit) (bs : List ℕ) (g n : ℕ) (en : Counts 64 n (length c.k
 -- ---- inputs that wait
 
 stays : (w : Wires) (i : ℕ) → (get_or w.queued i true || leb 640 (length w.to_check)) ≡ true → watch w i ≡ w
-unfolding watch if◌then◌else◌
+unfolding watch if◌then◌otherwise◌
 stays w i e = rw e
 
 goes :
     (w : Wires) (i : ℕ) → get_or w.queued i true ≡ false → leb 640 (length w.to_check) ≡ false →
     watch w i ≡ to_check≔ w (snoc w.to_check i) (set w.queued i true)
-unfolding watch if◌then◌else◌
+unfolding watch if◌then◌otherwise◌
 goes w i a b = rw (a, b)
 
 pub count_word : (c : Circuit) (bs : List ℕ) (m : ℕ) → m ≡ get_or (words bs) 6 0 → length (values c bs).wires.to_check ≡ m
@@ -265,10 +265,10 @@ module _ (c : Circuit) (bs : List ℕ) (i : ℕ) where
 
   -- marked, if marking is for a late check
   abbrev marked_late : Wires → Wires
-  marked_late w = if (area c bs).late then late_checks≔ w (set w.late_checks i true) else w
+  marked_late w = if (area c bs).late then late_checks≔ w (set w.late_checks i true) otherwise w
 
   pub mark_not_late : (x : ℕ) → x ≡ get_or (words bs) 5461 0 → x ≡ 0 → area c bs ≡ area_with (area c bs) (marked_late (area c bs).values.wires)
-  unfolding if◌then◌else◌
+  unfolding if◌then◌otherwise◌
   mark_not_late x ex z = rw (late_off x ex z) refl
 
 module _ (c : Circuit) (bs : List ℕ) (i n : ℕ) (en : Counts 640 n (length c.pins)) where
@@ -290,7 +290,7 @@ late_most l bs = let n = inputs_counted l (min (cell l 2) 640) refl in omega (ar
 
 module _ (l bs : List ℕ) (i x : ℕ) (ex : x ≡ get_or (words bs) 5461 0) (f : x ≡ 0 → ⊥) where
   pub mark_late_in : (bs₁ : List ℕ) → i < 640 → Stored bs bs₁ (4818 + i) 1 → area (net l) bs₁ ≡ area_with (area (net l) bs) (marked_late (net l) bs i (area (net l) bs).values.wires)
-  mark_late_in bs₁ h e = put ∙ ap (area_with (area (net l) bs)) (unfold if◌then◌else◌ in rw (late_on (net l) bs i x ex f) refl)
+  mark_late_in bs₁ h e = put ∙ ap (area_with (area (net l) bs)) (unfold if◌then◌otherwise◌ in rw (late_on (net l) bs i x ex f) refl)
     where
       put : area (net l) bs₁ ≡ area_with (area (net l) bs) (late_checks≔ (area (net l) bs).values.wires (set (area (net l) bs).values.wires.late_checks i true))
       put = unfold area values late_checks≔ in rw (
@@ -303,26 +303,26 @@ module _ (l bs : List ℕ) (i x : ℕ) (ex : x ≡ get_or (words bs) 5461 0) (f 
 
   -- no circuit has that input
   pub mark_late_past : 640 ≤ i → area (net l) bs ≡ area_with (area (net l) bs) (marked_late (net l) bs i (area (net l) bs).values.wires)
-  unfolding if◌then◌else◌
+  unfolding if◌then◌otherwise◌
   mark_late_past h = rw (late_on (net l) bs i x ex f) (unfold area late_checks≔ in rw (set_out (values (net l) bs).wires.late_checks i true (omega (arith, late_most l bs))))
 
 -- an input may be marked for a late check before it waits, or after
 late_after :
-    (late : Bool) (w : Wires) (i : ℕ) → (if late then late_checks≔ (watch w i) (set (watch w i).late_checks i true) else watch w i) ≡ watch_for late w i
-unfolding watch_for if◌then◌else◌ watch late_checks≔ to_check≔
+    (late : Bool) (w : Wires) (i : ℕ) → (if late then late_checks≔ (watch w i) (set (watch w i).late_checks i true) otherwise watch w i) ≡ watch_for late w i
+unfolding watch_for if◌then◌otherwise◌ watch late_checks≔ to_check≔
 late_after false w i = refl
 late_after true w i = go (get_or w.queued i true || leb 640 (length w.to_check))
   where
-    go : (b : Bool) → late_checks≔ (if b then w else to_check≔ w (snoc w.to_check i) (set w.queued i true)) (set (if b then w else to_check≔ w (snoc w.to_check i) (set w.queued i true)).late_checks i true)
-        ≡ (if b then late_checks≔ w (set w.late_checks i true) else to_check≔ (late_checks≔ w (set w.late_checks i true)) (snoc w.to_check i) (set w.queued i true))
-    go true = unfold if◌then◌else◌ in refl
-    go false = unfold if◌then◌else◌ late_checks≔ to_check≔ in refl
+    go : (b : Bool) → late_checks≔ (if b then w otherwise to_check≔ w (snoc w.to_check i) (set w.queued i true)) (set (if b then w otherwise to_check≔ w (snoc w.to_check i) (set w.queued i true)).late_checks i true)
+        ≡ (if b then late_checks≔ w (set w.late_checks i true) otherwise to_check≔ (late_checks≔ w (set w.late_checks i true)) (snoc w.to_check i) (set w.queued i true))
+    go true = unfold if◌then◌otherwise◌ in refl
+    go false = unfold if◌then◌otherwise◌ late_checks≔ to_check≔ in refl
 
 pub watched_for :
     (a a₁ a₂ : Area) (i : ℕ) → a₁ ≡ area_with a (watch a.values.wires i) →
-    a₂ ≡ area_with a₁ (if a₁.late then late_checks≔ a₁.values.wires (set a₁.values.wires.late_checks i true) else a₁.values.wires) →
+    a₂ ≡ area_with a₁ (if a₁.late then late_checks≔ a₁.values.wires (set a₁.values.wires.late_checks i true) otherwise a₁.values.wires) →
     a₂ ≡ area_with a (watch_for a.late a.values.wires i)
 watched_for a a₁ a₂ i e₁ e₂ =
     e₂
-    ∙ ap (λ (x : Area). area_with x (if x.late then late_checks≔ x.values.wires (set x.values.wires.late_checks i true) else x.values.wires)) e₁
+    ∙ ap (λ (x : Area). area_with x (if x.late then late_checks≔ x.values.wires (set x.values.wires.late_checks i true) otherwise x.values.wires)) e₁
     ∙ ap (area_with a) (late_after a.late a.values.wires i)

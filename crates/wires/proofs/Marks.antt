@@ -4,7 +4,7 @@ use Rattle.words.specs.Words.{words, Stored}
 use Rattle.words.specs.Tables.{marked, stack}
 use Rattle.words.proofs.Tables.{stack_push, stack_length, digits_length}
 use Rattle.model.specs.declared.Value.{Value}
-use Rattle.model.specs.Base.{if◌then◌else◌, each, from}
+use Rattle.model.specs.Base.{if◌then◌otherwise◌, each, from}
 use Rattle.model.specs.Value.{same}
 use Rattle.model.specs.Kinds.{pure}
 use Rattle.model.specs.Circuit.{Circuit, kind_of_gate, gate_at_input, watching, output, readers_of}
@@ -46,7 +46,7 @@ module _ (c : Circuit) (bs : List ℕ) (n i g k : ℕ) (b : Bool) (eg : g ≡ ga
 
   pub reader_stale :
       (q : Bool) → b ≡ true → q ≡ is_clean (values c bs).wires g → q ≡ false → marking c bs n ≡ with_marking (marking c bs n) (mark_reader c (marking c bs n).marking i)
-  unfolding mark_reader if◌then◌else◌ marking
+  unfolding mark_reader if◌then◌otherwise◌ marking
   reader_stale q hb eq hq =
       let t : pure (kind_of_gate c (gate_at_input c i)) ≡ true = the_test ∙ hb in
       rw (t, clean_test q false eq hq)
@@ -55,7 +55,7 @@ module _ (c : Circuit) (bs : List ℕ) (n i g k : ℕ) (b : Bool) (eg : g ≡ ga
       (q : Bool) (bs₁ bs₂ : List ℕ) (o : ℕ) → 65536 ≤ length bs → n < 65 → b ≡ true → q ≡ is_clean (values c bs).wires g → q ≡ true →
       area c bs₁ ≡ area_with (area c bs) (soil (area c bs).values.wires g) → (o ≡ output c g 0) × (o < 131072) → Stored bs₁ bs₂ (4753 + n) o →
       marking c bs₂ (n + 1) ≡ with_marking (marking c bs n) (mark_reader c (marking c bs n).marking i)
-  unfolding mark_reader if◌then◌else◌ marking
+  unfolding mark_reader if◌then◌otherwise◌ marking
   reader_found q bs₁ bs₂ o l h hb eq hq e₁ eo e₂ =
       let t : pure (kind_of_gate c (gate_at_input c i)) ≡ true = the_test ∙ hb in
       let m = places c bs l in
@@ -64,7 +64,7 @@ module _ (c : Circuit) (bs : List ℕ) (n i g k : ℕ) (b : Bool) (eg : g ≡ ga
   pub reader_watched :
       (t : Bool) (bs₁ : List ℕ) → b ≡ false → t ≡ watching c i → t ≡ true → area c bs₁ ≡ area_with (area c bs) (watch_for (area c bs).late (area c bs).values.wires i) →
       marking c bs₁ n ≡ with_marking (marking c bs n) (mark_reader c (marking c bs n).marking i)
-  unfolding mark_reader if◌then◌else◌ marking
+  unfolding mark_reader if◌then◌otherwise◌ marking
   reader_watched t bs₁ hb et ht e₁ =
       let p : pure (kind_of_gate c (gate_at_input c i)) ≡ false = the_test ∙ hb in
       let u : watching c i ≡ true = sym et ∙ ht in
@@ -72,7 +72,7 @@ module _ (c : Circuit) (bs : List ℕ) (n i g k : ℕ) (b : Bool) (eg : g ≡ ga
 
   pub reader_not :
       (t : Bool) → b ≡ false → t ≡ watching c i → t ≡ false → marking c bs n ≡ with_marking (marking c bs n) (mark_reader c (marking c bs n).marking i)
-  unfolding mark_reader if◌then◌else◌ marking
+  unfolding mark_reader if◌then◌otherwise◌ marking
   reader_not t hb et ht =
       let p : pure (kind_of_gate c (gate_at_input c i)) ≡ false = the_test ∙ hb in
       let u : watching c i ≡ false = sym et ∙ ht in
@@ -113,7 +113,7 @@ unfolding late_checks≔
 watch_for_dirty late w i = watch_for_keeps (λ (v : Wires). v.dirty ≡ w.dirty) late w i (λ v e. watch_dirty v i ∙ e) (λ _. refl) refl
 
 one_to_do : (c : Circuit) (m : Marking) (i : ℕ) → to_do (mark_reader c m i) ≡ to_do m
-unfolding to_do mark_reader if◌then◌else◌ soil dirty≔ is_clean
+unfolding to_do mark_reader if◌then◌otherwise◌ soil dirty≔ is_clean
 one_to_do c m i = go (pure (kind_of_gate c (gate_at_input c i))) (not (get_or m.wires.dirty (gate_at_input c i) true)) (watching c i) refl refl refl
   where
     go :
@@ -261,13 +261,13 @@ invalidated c bs bs₁ v g o e₁ eo e =
 
 module _ (c : Circuit) (v : Values) (o : ℕ) (old x : Value) (t : Bool) (eo : old ≡ shown v.wires o) (et : t ≡ same old x) where
   pub set_same : t ≡ true → v ≡ with_wires v (set_out c v.wires o x)
-  unfolding set_out if◌then◌else◌
+  unfolding set_out if◌then◌otherwise◌
   set_same h = let q : same (shown v.wires o) x ≡ true = sym (et ∙ ap (λ (u : Value). same u x) eo) ∙ h in rw q
 
   pub set_new :
       (v₁ v₂ : Values) → t ≡ false → v₁ ≡ with_wires v (show v.wires o x) → v₂ ≡ with_wires v₁ (mark_readers c v₁.wires o) →
       v₂ ≡ with_wires v (set_out c v.wires o x)
-  unfolding set_out if◌then◌else◌
+  unfolding set_out if◌then◌otherwise◌
   set_new v₁ v₂ h e₁ e₂ =
       let q : same (shown v.wires o) x ≡ false = sym (et ∙ ap (λ (u : Value). same u x) eo) ∙ h in
       rw q (e₂ ∙ ap (λ (u : Values). with_wires u (mark_readers c u.wires o)) e₁)

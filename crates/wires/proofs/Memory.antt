@@ -11,7 +11,7 @@ use Rattle.words.specs.Tables.{marked, digits}
 use Rattle.words.proofs.Tables.{take_set, digits_length, digits_get, digits_none}
 use Rattle.model.specs.declared.Value.{Value}
 use Rattle.model.specs.declared.Value.TheVariants.{Nothing, Int, Float, Bool as Truth}
-use Rattle.model.specs.Base.{if◌then◌else◌, both, each, among, snoc}
+use Rattle.model.specs.Base.{if◌then◌otherwise◌, both, each, among, snoc}
 use Rattle.model.specs.Value.{value_of, kind_of, content_of, plus64}
 use Rattle.model.specs.Circuit.{Circuit, gate_at_output}
 use Rattle.model.specs.State.{Wires, dirty≔, to_check≔, late_checks≔, last≔, written≔, written_outside≔, unions_passed≔, breaking≔, runs_left≔, times≔}
@@ -271,7 +271,7 @@ module _ (c : Circuit) (bs : List ℕ) (n : ℕ) (l : 65536 ≤ length bs) (en :
 
   module _ (o : ℕ) where
     kept : (among o (values c bs).wires.written || leb 64 (length (values c bs).wires.written)) ≡ true → values c bs ≡ with_wires (values c bs) (write_once c (values c bs).wires o)
-    unfolding write_once if◌then◌else◌
+    unfolding write_once if◌then◌otherwise◌
     kept e = rw e
 
     pub write_full : 64 ≤ n → values c bs ≡ with_wires (values c bs) (write_once c (values c bs).wires o)
@@ -305,7 +305,7 @@ module _ (c : Circuit) (bs : List ℕ) (n : ℕ) (l : 65536 ≤ length bs) (en :
 
       pub write_new :
           (bs₁ bs₂ : List ℕ) → r ≡ false → Stored bs bs₁ (4689 + n) o → Stored bs₁ bs₂ 7 (n + 1) → values c bs₂ ≡ with_wires (values c bs) (write_once c (values c bs).wires o)
-      unfolding write_once if◌then◌else◌
+      unfolding write_once if◌then◌otherwise◌
       write_new bs₁ bs₂ f e₁ e₂ =
           let a : among o (values c bs).wires.written ≡ false = ap (among o) written_are ∙ sym er ∙ f in
           let b : leb 64 (length (values c bs).wires.written) ≡ false = lt-leb 64 (length (values c bs).wires.written) (omega (arith, written_few (omega arith))) in
@@ -329,12 +329,12 @@ module _ (c : Circuit) (bs : List ℕ) (g n : ℕ) (en : Counts 64 n (length c.k
 module _ (l bs : List ℕ) (o g : ℕ) (inside : Bool) (q : inside ≡ false) (eg : g ≡ gate_at_output (net l) o) where
   -- one mark more
   abbrev outside_marked : Wires → Wires
-  outside_marked w = if inside then w else written_outside≔ w (set w.written_outside (gate_at_output (net l) o) true)
+  outside_marked w = if inside then w otherwise written_outside≔ w (set w.written_outside (gate_at_output (net l) o) true)
 
   pub mark_outside_in :
       (bs₁ : List ℕ) (d : ℕ) → 65536 ≤ length bs → g < 64 → d ≡ get_or (words bs) 5458 0 → Stored bs bs₁ 5458 (bit_or d (1 * 2 ^ g % 2 ^ 64)) →
       values (net l) bs₁ ≡ with_wires (values (net l) bs) (outside_marked (values (net l) bs).wires)
-  unfolding values written_outside≔ if◌then◌else◌
+  unfolding values written_outside≔ if◌then◌otherwise◌
   mark_outside_in bs₁ d r h e s =
       let m : length (cut (words bs)).written_outside ≡ 1 = sized bs 19 r (omega arith) (omega arith) in
       let p : d ≡ get_or (cut (words bs)).written_outside 0 0 = e ∙ cut_peek (words bs) 19 0 (omega arith) in
@@ -351,20 +351,20 @@ module _ (l bs : List ℕ) (o g : ℕ) (inside : Bool) (q : inside ≡ false) (e
 
   -- no circuit has that gate
   pub mark_outside_past : 64 ≤ g → values (net l) bs ≡ with_wires (values (net l) bs) (outside_marked (values (net l) bs).wires)
-  unfolding written_outside≔ if◌then◌else◌
+  unfolding written_outside≔ if◌then◌otherwise◌
   mark_outside_past h =
       let n = gates_counted l (min (cell l 0) 64) refl in
       rw (q, ← eg, set_out (values (net l) bs).wires.written_outside g true (omega (arith, n.1, outside_length (net l) bs g _ n)))
 
 pub mark_inside :
     (c : Circuit) (v : Values) (o : ℕ) (inside : Bool) → inside ≡ true →
-    v ≡ with_wires v (if inside then v.wires else written_outside≔ v.wires (set v.wires.written_outside (gate_at_output c o) true))
-unfolding if◌then◌else◌
+    v ≡ with_wires v (if inside then v.wires otherwise written_outside≔ v.wires (set v.wires.written_outside (gate_at_output c o) true))
+unfolding if◌then◌otherwise◌
 mark_inside c v o inside q = rw q refl
 
 pub recorded :
     (c : Circuit) (v v₁ v₂ : Values) (o : ℕ) (inside : Bool) →
-    v₁ ≡ with_wires v (if inside then v.wires else written_outside≔ v.wires (set v.wires.written_outside (gate_at_output c o) true)) →
+    v₁ ≡ with_wires v (if inside then v.wires otherwise written_outside≔ v.wires (set v.wires.written_outside (gate_at_output c o) true)) →
     v₂ ≡ with_wires v₁ (write_once c v₁.wires o) → v₂ ≡ with_wires v (record_write c inside v.wires o)
 unfolding record_write
 recorded c v v₁ v₂ o inside e₁ e₂ = e₂ ∙ ap (λ (u : Values). with_wires u (write_once c u.wires o)) e₁

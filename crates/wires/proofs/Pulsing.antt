@@ -9,7 +9,7 @@ use Rattle.words.specs.Tables.{marked, digits, marks}
 use Rattle.words.proofs.Tables.{take_set, places, digits_length, digits_get, digits_or, digits_xor, one_digit, marks_length, marks_set, marks_get}
 use Rattle.model.specs.declared.Value.{Value}
 use Rattle.model.specs.declared.Value.TheVariants.{Bool as Truth}
-use Rattle.model.specs.Base.{if◌then◌else◌, both, each, from}
+use Rattle.model.specs.Base.{if◌then◌otherwise◌, both, each, from}
 use Rattle.model.specs.Circuit.{Circuit}
 use Rattle.model.specs.State.{Wires, outs≔, dirty≔, to_check≔, pulses≔}
 use Rattle.model.specs.Wires.{show, soil, watch, set_out as give}
@@ -163,13 +163,13 @@ module _ (c : Circuit) (bs : List ℕ) (o at t : ℕ) (b : Bool) (ea : at ≡ ge
       tick_is = et ∙ (unfold values in cut_peek (words bs) 0 0 (omega arith))
 
   pub lower_stays : b ≡ false → values c bs ≡ with_wires (values c bs) (lower c (values c bs).wires o)
-  unfolding lower if◌then◌else◌
+  unfolding lower if◌then◌otherwise◌
   lower_stays h = rw (the_test ∙ h)
 
   pub lower_falls :
       (v₁ v₂ : Values) → b ≡ true → v₁ ≡ with_wires (values c bs) (pulses≔ (values c bs).wires (set (values c bs).wires.pulses o 0)) →
       v₂ ≡ with_wires v₁ (give c v₁.wires o (Truth false)) → v₂ ≡ with_wires (values c bs) (lower c (values c bs).wires o)
-  unfolding lower if◌then◌else◌
+  unfolding lower if◌then◌otherwise◌
   lower_falls v₁ v₂ h e₁ e₂ = rw (the_test ∙ h) (e₂ ∙ ap (λ (v : Values). with_wires v (give c v.wires o (Truth false))) e₁)
 
 -- ---- all pulses
@@ -230,7 +230,7 @@ module _ (c : Circuit) where
       (λ i e. ap (λ (l : List ℕ). get_or l i 0) (give_pulses (pulses≔ v (set v.pulses o 0)) o (Truth false)) ∙ (unfold pulses≔ in zero_set v.pulses o i (p i e))) p
 
   lower_idle : (v : Wires) (o : ℕ) → get_or v.pulses o 0 ≡ 0 → lower c v o ≡ v
-  unfolding lower if◌then◌else◌
+  unfolding lower if◌then◌otherwise◌
   lower_idle v o e = rw e
 
   pub word_first :

@@ -7,7 +7,7 @@ use Rattle.words.specs.Tables.{digits}
 use Rattle.words.proofs.Tables.{places, digits_length}
 use Rattle.model.specs.declared.Value.{Value}
 use Rattle.model.specs.declared.Value.TheVariants.{Float}
-use Rattle.model.specs.Base.{if◌then◌else◌, all, each, from, base_opened}
+use Rattle.model.specs.Base.{if◌then◌otherwise◌, all, each, from, base_opened}
 use Rattle.model.specs.Value.{truthy}
 use Rattle.model.specs.Kinds.{Kind, kind_at, table, kinds_opened}
 use Rattle.model.specs.Circuit.{Circuit, kind_of_gate, input, output, inputs_of, source, stored_in, gate_at_output, gates}
@@ -42,26 +42,26 @@ module _ (c : Circuit) (w : Wires) (g k : ℕ) (r : Value) (ek : k ≡ kind_of_g
   pub select_b :
       (p q : ℕ) (s : Value) (t : Bool) → k ≡ 1 → (p ≡ input c g 0) × (p < 131072) → s ≡ look c w p → t ≡ truthy s → t ≡ true →
       (q ≡ input c g 2) × (q < 131072) → r ≡ look c w q → r ≡ compute c w g
-  unfolding compute if◌then◌else◌
+  unfolding compute if◌then◌otherwise◌
   select_b p q s t e ep es et h eq er = rw (← ek, e, ← ep.0, ← es, ← et, h, ← eq.0, er)
 
   pub select_a :
       (p q : ℕ) (s : Value) (t : Bool) → k ≡ 1 → (p ≡ input c g 0) × (p < 131072) → s ≡ look c w p → t ≡ truthy s → t ≡ false →
       (q ≡ input c g 1) × (q < 131072) → r ≡ look c w q → r ≡ compute c w g
-  unfolding compute if◌then◌else◌
+  unfolding compute if◌then◌otherwise◌
   select_a p q s t e ep es et h eq er = rw (← ek, e, ← ep.0, ← es, ← et, h, ← eq.0, er)
 
   pub routed : (p : ℕ) → k ≡ 2 → (p ≡ input c g 0) × (p < 131072) → r ≡ look c w p → r ≡ compute c w g
-  unfolding compute if◌then◌else◌
+  unfolding compute if◌then◌otherwise◌
   routed p e ep er = rw (← ek, e, ← ep.0, er)
 
 module _ (c : Circuit) (bs : List ℕ) (g k x : ℕ) (ek : k ≡ kind_of_gate c g) where
   pub delta : k ≡ 3 → x ≡ get_or (words bs) 1 0 → Float x ≡ compute c (values c bs).wires g
-  unfolding compute if◌then◌else◌ values
+  unfolding compute if◌then◌otherwise◌ values
   delta e ex = rw (← ek, e, ex ∙ cut_peek (words bs) 1 0 (omega arith))
 
   pub uptime : (k ≡ 1 → ⊥) → (k ≡ 2 → ⊥) → (k ≡ 3 → ⊥) → x ≡ get_or (words bs) 2 0 → Float x ≡ compute c (values c bs).wires g
-  unfolding compute if◌then◌else◌ values
+  unfolding compute if◌then◌otherwise◌ values
   uptime f₁ f₂ f₃ ex = rw (← ek, ne_eqb k 1 f₁, ne_eqb k 2 f₂, ne_eqb k 3 f₃, ex ∙ cut_peek (words bs) 2 0 (omega arith))
 
 pub recomputed :

@@ -7,7 +7,7 @@ use Rattle.words.specs.Tables.{tables, base, marked, digits, marks, ring}
 use Rattle.words.proofs.Laws.{words_long}
 use Rattle.words.proofs.Tables.{marks_length}
 use Rattle.model.specs.declared.Value.{Value}
-use Rattle.model.specs.Base.{if◌then◌else◌, both, keep, each, from}
+use Rattle.model.specs.Base.{if◌then◌otherwise◌, both, keep, each, from}
 use Rattle.model.specs.Value.{value_of}
 use Rattle.wires.specs.Held.{held_by, held}
 use Rattle.model.specs.Kinds.{pure}
@@ -172,7 +172,7 @@ pure_not_var k e = let l = leb-true k 4 (both_true (leb 1 k) (leb k 4) e).1 in n
 module _ (c : Circuit) where
   -- a pure gate's mark, a Var's initial
   unfoldable mark_pure : List Bool → ℕ → List Bool
-  mark_pure ds g = if pure (kind_of_gate c g) then set ds g true else ds
+  mark_pure ds g = if pure (kind_of_gate c g) then set ds g true otherwise ds
 
   unfoldable put_initial : List Value → ℕ → List Value
   put_initial vs g = set vs (output c g 0) (setting c g 0)
@@ -180,7 +180,7 @@ module _ (c : Circuit) where
   prepared_all :
       (w : Wires) (gs : List ℕ) →
       each (prepared c) w gs ≡ outs≔ (dirty≔ w (each mark_pure w.dirty gs)) (each put_initial w.outs (keep (λ g. eqb (kind_of_gate c g) 5) gs))
-  unfolding each keep prepared mark_pure put_initial if◌then◌else◌ outs≔ dirty≔ soil show
+  unfolding each keep prepared mark_pure put_initial if◌then◌otherwise◌ outs≔ dirty≔ soil show
   prepared_all w [] = refl
   prepared_all w (g ∷ gs) = go (pure (kind_of_gate c g)) (eqb (kind_of_gate c g) 5) refl refl (λ v. prepared_all v gs)
     where
@@ -197,11 +197,11 @@ module _ (c : Circuit) where
   marked_all = fill_all (λ g. pure (kind_of_gate c g)) false mark_pure seam [] (length c.kinds) ∙ map_places pure c.kinds
     where
       seam : (xs r : List Bool) → mark_pure (xs ++ false ∷ r) (length xs) ≡ xs ++ pure (kind_of_gate c (length xs)) ∷ r
-      seam xs r = unfold mark_pure if◌then◌else◌ in go (pure (kind_of_gate c (length xs)))
+      seam xs r = unfold mark_pure if◌then◌otherwise◌ in go (pure (kind_of_gate c (length xs)))
         where
-          go : (b : Bool) → (if b then set (xs ++ false ∷ r) (length xs) true else (xs ++ false ∷ r)) ≡ xs ++ b ∷ r
-          go true = unfold if◌then◌else◌ in set-append_seam xs false r true
-          go false = unfold if◌then◌else◌ in refl
+          go : (b : Bool) → (if b then set (xs ++ false ∷ r) (length xs) true otherwise (xs ++ false ∷ r)) ≡ xs ++ b ∷ r
+          go true = unfold if◌then◌otherwise◌ in set-append_seam xs false r true
+          go false = unfold if◌then◌otherwise◌ in refl
 
   prepared_blank : refresh_all c (each (prepared c) (blank c) (from 0 (length c.kinds))) ≡ wires_fresh c
   unfolding wires_fresh blank gates_of gates_such put_initial kind_of_gate outs≔ dirty≔
@@ -213,7 +213,7 @@ module _ (c : Circuit) where
   pub prepare_pure :
       (bs bs₁ : List ℕ) (g k : ℕ) (b : Bool) → k ≡ kind_of_gate c g → b ≡ pure k → b ≡ true → area c bs₁ ≡ area_with (area c bs) (soil (area c bs).values.wires g) →
       values c bs₁ ≡ with_wires (values c bs) (prepared c (values c bs).wires g)
-  unfolding prepared if◌then◌else◌ area
+  unfolding prepared if◌then◌otherwise◌ area
   prepare_pure bs bs₁ g k b ek eb h e =
       let t : pure (kind_of_gate c g) ≡ true = sym (eb ∙ ap pure ek) ∙ h in
       rw t (ap (λ (a : Area). a.values) e)
@@ -222,14 +222,14 @@ module _ (c : Circuit) where
     pub prepare_var :
         (v₁ : Values) (o : ℕ) (x : Value) → k ≡ 5 → (o ≡ output c g 0) × (o < 131072) → x ≡ setting c g 0 → v₁ ≡ with_wires v (show v.wires o x) →
         v₁ ≡ with_wires v (prepared c v.wires g)
-    unfolding prepared if◌then◌else◌
+    unfolding prepared if◌then◌otherwise◌
     prepare_var v₁ o x f eo ex e =
         let t : pure (kind_of_gate c g) ≡ false = sym (eb ∙ ap pure ek) ∙ h in
         let u : kind_of_gate c g ≡ 5 = sym ek ∙ f in
         rw (t, u) (e ∙ ap₂ (λ (p : ℕ) (y : Value). with_wires v (show v.wires p y)) eo.0 ex)
 
     pub prepare_other : (k ≡ 5 → ⊥) → v ≡ with_wires v (prepared c v.wires g)
-    unfolding prepared if◌then◌else◌
+    unfolding prepared if◌then◌otherwise◌
     prepare_other f =
         let t : pure (kind_of_gate c g) ≡ false = sym (eb ∙ ap pure ek) ∙ h in
         let u : eqb (kind_of_gate c g) 5 ≡ false = ne_eqb (kind_of_gate c g) 5 (λ q. f (ek ∙ q)) in
@@ -251,9 +251,9 @@ module _ (c : Circuit) where
   pub await_in :
       (bs bs₁ : List ℕ) (i : ℕ) (b : Bool) → b ≡ watching c i → b ≡ true → area c bs₁ ≡ area_with (area c bs) (watch (area c bs).values.wires i) →
       values c bs₁ ≡ with_wires (values c bs) (awaited c (values c bs).wires i)
-  unfolding awaited if◌then◌else◌ area
+  unfolding awaited if◌then◌otherwise◌ area
   await_in bs bs₁ i b eb h e = let q : watching c i ≡ true = sym eb ∙ h in rw q (ap (λ (a : Area). a.values) e)
 
   pub await_not : (v : Values) (i : ℕ) (b : Bool) → b ≡ watching c i → b ≡ false → v ≡ with_wires v (awaited c v.wires i)
-  unfolding awaited if◌then◌else◌
+  unfolding awaited if◌then◌otherwise◌
   await_not v i b eb h = let q : watching c i ≡ false = sym eb ∙ h in rw q

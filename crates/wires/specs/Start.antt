@@ -2,7 +2,7 @@
 use Rattle.std.specs.Prelude.{ℕ, false, [], length, replicate, ◌==◌}
 use Rattle.std.proofs.Math.Option.{none}
 use Rattle.model.specs.declared.Value.TheVariants.{Nothing}
-use Rattle.model.specs.Base.{if◌then◌else◌}
+use Rattle.model.specs.Base.{if◌then◌otherwise◌}
 use Rattle.model.specs.Kinds.{Var, pure}
 use Rattle.model.specs.Circuit.{Circuit, kind_of_gate, output, setting, watching}
 use Rattle.model.specs.State.{Wires}
@@ -34,9 +34,9 @@ module _ (c : Circuit) where
   unfoldable pub prepared : Wires → ℕ → Wires
   prepared w g =
       if pure (kind_of_gate c g) then soil w g
-      else if kind_of_gate c g == Var then show w (output c g 0) (setting c g 0)
-      else w
+      otherwise if kind_of_gate c g == Var then show w (output c g 0) (setting c g 0)
+      otherwise w
 
   -- a watched input waits for its first check
   unfoldable pub awaited : Wires → ℕ → Wires
-  awaited w i = if watching c i then watch w i else w
+  awaited w i = if watching c i then watch w i otherwise w

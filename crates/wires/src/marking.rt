@@ -1,6 +1,6 @@
 // Marking: everything that reads an output is stale, through any depth of pure gates, and the watched inputs that this reaches wait to be checked.
 ghost use Rattle.std.specs.Prelude.{◌≡◌, true, slice_set};
-ghost use Rattle.model.specs.Base.{if◌then◌else◌, each};
+ghost use Rattle.model.specs.Base.{if◌then◌otherwise◌, each};
 ghost use Rattle.model.specs.Circuit.{readers_of};
 ghost use Rattle.model.specs.State.{late_checks≔};
 ghost use Rattle.model.specs.Wires.{watch_for, mark_reader, mark_on, mark_readers_for, mark_readers, invalidate, set_out};
@@ -25,7 +25,7 @@ use words::{get, put};
 // Input i is marked for a late check, if marking is for one.
 fn mark_late(links: &[usize], values: &mut [u8], i: usize)
     requires { Linked links.now × Room values.old }
-    ensures { TurnsBesideStack links.now (values.old, values.new) (λ c w. if (area c values.old).late then late_checks≔ w (slice_set w.late_checks i true) else w) }
+    ensures { TurnsBesideStack links.now (values.old, values.new) (λ c w. if (area c values.old).late then late_checks≔ w (slice_set w.late_checks i true) otherwise w) }
 {
     if get(values, MARKING_LATE) != 0 {
         if i < MOST_INPUTS {

@@ -1,7 +1,7 @@
 // The Vars written, and how they reach what reads them.
 ghost use Rattle.words.specs.Words.{words};
 ghost use Rattle.std.specs.Prelude.{◌≡◌, ◌≤◌, true, false, not, length, take, slice_index_or, slice_set};
-ghost use Rattle.model.specs.Base.{if◌then◌else◌, among, each};
+ghost use Rattle.model.specs.Base.{if◌then◌otherwise◌, among, each};
 ghost use Rattle.model.specs.State.{written_outside≔};
 ghost use Rattle.model.specs.Exec.{write_once, record_write};
 ghost use Rattle.model.specs.Settle.{publish_write, publish_writes};
@@ -50,7 +50,7 @@ fn write_once(links: &[usize], values: &mut [u8], o: usize)
 // The Var of output o is marked as written outside bodies, unless `inside` says that one is running.
 fn mark_outside(links: &[usize], values: &mut [u8], o: usize, inside: bool)
     requires { Linked links.now × Room values.old }
-    ensures { Turns links.now (values.old, values.new) (λ c w. if inside then w else written_outside≔ w (slice_set w.written_outside (gate_at_output c o) true)) }
+    ensures { Turns links.now (values.old, values.new) (λ c w. if inside then w otherwise written_outside≔ w (slice_set w.written_outside (gate_at_output c o) true)) }
 {
     if inside {
         return;

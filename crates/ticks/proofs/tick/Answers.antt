@@ -4,7 +4,7 @@ use Rattle.ticks.proofs.Whole.{ticks_through}
 use Rattle.ticks.proofs.tick.Goals as goal
 
 pub run_late-first-requires : goal.run_late-first-requires
-run_late-first-requires c = (c.requires.linked.0, omega (arith, c, c), omega (arith, c, c), c.«open».ensures.1, c.requires.linked.4)
+run_late-first-requires c = (c.requires.linked.0, omega (arith, c, c), omega (arith, c, c), c.open-opened.ensures.1, c.requires.linked.4)
 
 pub begun-late-requires : goal.begun-late-requires
 begun-late-requires c = omega (arith, c, c, c)
@@ -28,7 +28,7 @@ pub shape_of-delays : goal.shape_of-delays
 shape_of-delays c = omega (arith, c, c, c, c)
 
 pub returns-clause-over_all : goal.returns-clause-over_all
-returns-clause-over_all c = ticks_through _ _ _ _ _ _ _ _ _ _ _ _ _ _ _ _ _ _ _ c.requires.has_words.3 c.«open».ensures.0 c.run_late-first.ensures.over_all (c.begun-late.ensures.reads (net c.args.links.now)) c.changed-narrowed.ensures c.run_main-second.ensures.over_all c.close.ensures
+returns-clause-over_all c = ticks_through _ _ _ _ _ _ _ _ _ _ _ _ _ _ _ _ _ _ _ c.requires.has_words.3 c.open-opened.ensures.0 c.run_late-first.ensures.over_all (c.begun-late.ensures.reads (net c.args.links.now)) c.changed-narrowed.ensures c.run_main-second.ensures.over_all c.close.ensures
 
 pub returns-clause-slots_stay : goal.returns-clause-slots_stay
 returns-clause-slots_stay c = c.run_main-second.ensures.slots_stay

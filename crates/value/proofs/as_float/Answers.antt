@@ -1,6 +1,6 @@
 use Rattle.value.proofs.Laws.{bit_float}
 use Rattle.model.specs.Value.{float_of_int}
-use Rattle.model.specs.Base.{if◌then◌else◌}
+use Rattle.model.specs.Base.{if◌then◌otherwise◌}
 use mir.Facts.{to_z-of_z}
 use mathlib.Core.Bool.{true, false}
 use mathlib.Core.Path.{◌∙◌, ap}
@@ -22,9 +22,9 @@ unfolding as_float
 returns-in-Float c = search rules
 
 pub returns-then-t : goal.returns-then-t
-unfolding as_float if◌then◌else◌
+unfolding as_float if◌then◌otherwise◌
 returns-then-t c = rw c.in-Bool.is (bit_float _ true c.if-t.true)
 
 pub returns-else-t : goal.returns-else-t
-unfolding as_float if◌then◌else◌
+unfolding as_float if◌then◌otherwise◌
 returns-else-t c = rw c.in-Bool.is (bit_float _ false c.if-t.false)
