@@ -73,7 +73,7 @@ fn write(vectors: &Path, target: &Path, only: Option<Sort>) -> std::io::Result<S
     let specs = target.join("specs");
     std::fs::create_dir_all(&specs)?;
     std::fs::create_dir_all(target.join("src"))?;
-    std::fs::write(target.join("src/lib.rt"), "// Theorems alone: see specs/.\n")?;
+    std::fs::write(target.join("src/lib.rt"), "// Theorems alone: see specs/.\n#![tactic(auto)]\n")?;
     std::fs::write(specs.join("Left.antt"), LEFT)?;
     std::fs::write(specs.join("Sized.antt"), SIZED)?;
     let mut root = String::from("pub mod Left\npub mod Sized\n");
@@ -200,12 +200,12 @@ impl Case<'_> {
     fn theorem(&self, n: usize) -> String {
         let name = self.name;
         let (stated, opened) = match self.sort {
-            Sort::Run => (self.run(), "model-opened"),
-            Sort::Class => (self.class(), "left-opened"),
-            Sort::Report => (self.report(), "model-opened whole-opened records-opened reply-opened hours-opened"),
-            Sort::Size => (self.size(), "sized-opened"),
+            Sort::Run => (self.run(), "model_opened"),
+            Sort::Class => (self.class(), "left_opened"),
+            Sort::Report => (self.report(), "model_opened whole_opened records_opened reply_opened hours_opened"),
+            Sort::Size => (self.size(), "sized_opened"),
         };
-        format!("-- {name}\nrow-{n} :\n    {stated}\nunfolding {opened}\nrow-{n} = refl\n")
+        format!("-- {name}\nrow_{n} :\n    {stated}\nunfolding {opened}\nrow_{n} = refl\n")
     }
 
     fn run(&self) -> String {
@@ -294,7 +294,7 @@ impl Case<'_> {
     fn several(&self) -> String {
         if self.get("parts").is_none() {
             let number = self.get("refused").unwrap_or("");
-            return format!("answer = turned-away {number}; number = {number}");
+            return format!("answer = turned_away {number}; number = {number}");
         }
         let mut answers = String::new();
         for (log, end) in self.answers() {
@@ -382,57 +382,45 @@ fn list(numbers: impl Iterator<Item = u64>) -> String {
     text + "[])"
 }
 
-const HEAD_OF_RUNS: &str = "use mathlib.Core.Path.{_≡_, refl}
-use mathlib.Core.List.{List, [], _∷_}
-use Prim.Native.Nat.{ℕ}
-use Rattle·words.specs.Words.{bytes}
-use Rattle·model.specs.Run.{Played}
-use Rattle·model.specs.Questions.{Areas}
-use Rattle·model.specs.Answer.{Answer, refused, played, answer, model-opened}
+const HEAD_OF_RUNS: &str = "use Rattle.std.specs.Prelude.{ℕ, ◌≡◌, refl, List, [], ◌∷◌}
+use Rattle.words.specs.Words.{bytes}
+use Rattle.model.specs.Run.{Played}
+use Rattle.model.specs.Questions.{Areas}
+use Rattle.model.specs.Answer.{Answer, refused, played, answer, model_opened}
 ";
 
-const HEAD_OF_CLASSES: &str = "use mathlib.Core.Path.{_≡_, refl}
-use mathlib.Core.List.{List, [], _∷_, _++_}
-use Prim.Native.Nat.{ℕ}
-use lib.ListN.{replicate}
-use Rattle·words.specs.Words.{bytes}
-use Rattle·model.specs.Run.{Played}
-use Rattle·model.specs.Questions.{Areas}
-use Rattle·model.specs.Answer.{Answer, refused, played}
-use Rattle·model.specs.Several.{Several, turned-away, answered}
-use Rattle·compare·specs.specs.Left.{Left, left, left-opened}
+const HEAD_OF_CLASSES: &str = "use Rattle.std.specs.Prelude.{ℕ, ◌≡◌, refl, List, [], ◌∷◌, ◌++◌, replicate}
+use Rattle.words.specs.Words.{bytes}
+use Rattle.model.specs.Run.{Played}
+use Rattle.model.specs.Questions.{Areas}
+use Rattle.model.specs.Answer.{Answer, refused, played}
+use Rattle.model.specs.Several.{Several, turned_away, answered}
+use Rattle.compare.specs.Left.{Left, left, left_opened}
 ";
 
-const HEAD_OF_REPORTS: &str = "use mathlib.Core.Path.{_≡_, refl}
-use mathlib.Core.List.{List, [], _∷_}
-use Prim.Native.Nat.{ℕ}
-use Rattle·words.specs.Words.{bytes}
-use Rattle·model.specs.Answer.{model-opened}
-use Rattle·records.specs.Whole.{whole-opened}
-use Rattle·records.specs.Records.{records-opened}
-use Rattle·records.specs.Reply.{Reply, refused, writes, reply-opened}
-use Rattle·hours.specs.Hours.{hours, hours-opened}
+const HEAD_OF_REPORTS: &str = "use Rattle.std.specs.Prelude.{ℕ, ◌≡◌, refl, List, [], ◌∷◌}
+use Rattle.words.specs.Words.{bytes}
+use Rattle.model.specs.Answer.{model_opened}
+use Rattle.records.specs.Whole.{whole_opened}
+use Rattle.records.specs.Records.{records_opened}
+use Rattle.records.specs.Reply.{Reply, refused, writes, reply_opened}
+use Rattle.hours.specs.Hours.{hours, hours_opened}
 ";
 
-const HEAD_OF_SIZES: &str = "use mathlib.Core.Path.{_≡_, refl}
-use mathlib.Core.List.{List, [], _∷_, _++_}
-use Prim.Native.Nat.{ℕ}
-use lib.ListN.{replicate}
-use Rattle·words.specs.Words.{bytes}
-use Rattle·figures.specs.Figures.{Size, refused, figures}
-use Rattle·compare·specs.specs.Sized.{Sized, sized, sized-opened}
+const HEAD_OF_SIZES: &str = "use Rattle.std.specs.Prelude.{ℕ, ◌≡◌, refl, List, [], ◌∷◌, ◌++◌, replicate}
+use Rattle.words.specs.Words.{bytes}
+use Rattle.figures.specs.Figures.{Size, refused, figures}
+use Rattle.compare.specs.Sized.{Sized, sized, sized_opened}
 ";
 
 /// What a class comes to and leaves of a log, areas and words that hold the
 /// filling before.
-const LEFT: &str = "use mathlib.Core.List.{List}
-use Prim.Native.Nat.{ℕ}
-use lib.ListN.{replicate}
-use Rattle·model.specs.Questions.{Areas}
-use Rattle·model.specs.Answer.{model-opened}
-use Rattle·model.specs.Book.{count, part-of, book-opened}
-use Rattle·model.specs.Several.{Several, call-number, call-told, call-log, several-opened}
-use Rattle·model.specs.Class.{class, class-area, class-opened}
+const LEFT: &str = "use Rattle.std.specs.Prelude.{ℕ, List, replicate}
+use Rattle.model.specs.Questions.{Areas}
+use Rattle.model.specs.Answer.{model_opened}
+use Rattle.model.specs.Book.{count, part_of, book_opened}
+use Rattle.model.specs.Several.{Several, call_number, call_told, call_log, several_opened}
+use Rattle.model.specs.Class.{class, class_area, class_opened}
 
 pub record Left : Type 0 where
   pub answer : Several
@@ -443,50 +431,48 @@ pub record Left : Type 0 where
   pub units : List ℕ
   pub delays : List ℕ
 
-unfoldable pub left-by : Several → ℕ → Areas → ℕ → ℕ → Left
-left-by a size areas room words =
+unfoldable pub left_by : Several → ℕ → Areas → ℕ → ℕ → Left
+left_by a size areas room words =
     record {
       answer = a;
-      number = call-number a;
-      told = call-told a (replicate words 11936128518282651045);
-      log = call-log a size (replicate room 165);
-      values = class-area a (replicate (areas .values) 165);
-      units = class-area a (replicate (areas .units) 165);
-      delays = class-area a (replicate (areas .delays) 165);
+      number = call_number a;
+      told = call_told a (replicate words 11936128518282651045);
+      log = call_log a size (replicate room 165);
+      values = class_area a (replicate areas.values 165);
+      units = class_area a (replicate areas.units 165);
+      delays = class_area a (replicate areas.delays 165);
     }
 
 -- with areas of these lengths, a log of so many bytes, and so many words for what is told
 unfoldable pub left : Areas → ℕ → ℕ → (circuit book : List ℕ) → Left
-left areas room words circuit book = left-by (class areas room circuit book) (part-of (count book) room) areas room words
+left areas room words circuit book = left_by (class areas room circuit book) (part_of (count book) room) areas room words
 
-unfoldable pub left-opened : ℕ
-unfolding model-opened book-opened several-opened class-opened left-by left
-left-opened = 0
+unfoldable pub left_opened : ℕ
+unfolding model_opened book_opened several_opened class_opened left_by left
+left_opened = 0
 ";
 
 /// What the call for both figures answers, and leaves of words that hold the
 /// filling before.
-const SIZED: &str = "use mathlib.Core.List.{List}
-use Prim.Native.Nat.{ℕ}
-use lib.ListN.{replicate}
-use Rattle·model.specs.Answer.{model-opened}
-use Rattle·figures.specs.Figures.{Size, size, size-number, size-told, figures-opened}
+const SIZED: &str = "use Rattle.std.specs.Prelude.{ℕ, List, replicate}
+use Rattle.model.specs.Answer.{model_opened}
+use Rattle.figures.specs.Figures.{Size, size, size_number, size_told, figures_opened}
 
 pub record Sized : Type 0 where
   pub answer : Size
   pub number : ℕ
   pub told : List ℕ
 
-unfoldable pub sized-by : Size → ℕ → Sized
-sized-by a words = record { answer = a; number = size-number a; told = size-told a (replicate words 11936128518282651045) }
+unfoldable pub sized_by : Size → ℕ → Sized
+sized_by a words = record { answer = a; number = size_number a; told = size_told a (replicate words 11936128518282651045) }
 
 -- with so many words for what is told
 unfoldable pub sized : ℕ → List ℕ → ℕ → Sized
-sized words circuit ticks = sized-by (size circuit ticks) words
+sized words circuit ticks = sized_by (size circuit ticks) words
 
-unfoldable pub sized-opened : ℕ
-unfolding model-opened figures-opened sized-by sized
-sized-opened = 0
+unfoldable pub sized_opened : ℕ
+unfolding model_opened figures_opened sized_by sized
+sized_opened = 0
 ";
 
 fn module(head: &str, cases: &[&Case]) -> String {
