@@ -1,7 +1,7 @@
 // Floats by their bits: sums, comparisons, narrowing, and conversions to and from Ints. Every function is total; all NaN patterns stand for one NaN.
 #![tactic(auto)]
 
-ghost use Rattle.std.specs.Prelude.{◌≡◌, ◌+◌, ◌-◌, ◌*◌, ◌/◌, ◌^◌, ◌<◌, ◌≤◌, pos, neg_ℤ, if◌then◌otherwise◌, from_bits, nat_le, to_bits};
+ghost use Rattle.std.specs.Prelude.{◌≡◌, ◌+◌, ◌-◌, ◌*◌, ◌/◌, ◌^◌, ◌<◌, ◌≤◌, pos, neg_ℤ, if◌then◌else◌, from_bits, nat_le, to_bits};
 ghost use Rattle.std.specs.Float.{binary32, binary64};
 ghost use Rattle.model.specs.Value.{plus64, le64, lt64, eq64, plus32, le32, float_of_int, to_int};
 ghost use Rattle.model.specs.Questions.{finite};
@@ -160,7 +160,7 @@ fn whole_part(x: u64, t: u64) -> u64
 // n with the sign of an f64.
 fn with_sign(bits: u64, n: u64) -> i64
     requires { n < 9223372036854775808 }
-    ensures { result ≡ (if nat_le 9223372036854775808 bits then neg_ℤ (pos n) otherwise pos n) }
+    ensures { result ≡ (if nat_le 9223372036854775808 bits then neg_ℤ (pos n) else pos n) }
 {
     if bits < SIGN { n as i64 } else { -(n as i64) }
 }

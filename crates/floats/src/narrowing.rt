@@ -1,5 +1,5 @@
 // Narrowing: the f32 nearest to an f64, ties to even, worked out from the bits by whole numbers alone.
-ghost use Rattle.std.specs.Prelude.{◌≡◌, ◌^◌, ◌<◌, ◌≤◌, not, if◌then◌otherwise◌, nat_le};
+ghost use Rattle.std.specs.Prelude.{◌≡◌, ◌^◌, ◌<◌, ◌≤◌, not, if◌then◌else◌, nat_le};
 ghost use Rattle.std.specs.Float.Ieee.{eq};
 ghost use Rattle.std.specs.Float.Ieee.Nearest.{closest};
 ghost use Rattle.model.specs.Value.{narrow, narrow_changes};
@@ -74,7 +74,7 @@ fn magnitude(x: u64, t: u64) -> u64
 
 // The sign, moved from its place in an f64 to that in an f32.
 fn sign(bits: u64) -> u64
-    ensures { result ≡ (if nat_le 9223372036854775808 bits then 2147483648 otherwise 0) }
+    ensures { result ≡ (if nat_le 9223372036854775808 bits then 2147483648 else 0) }
 {
     bits / SIGN * F32_SIGN
 }
