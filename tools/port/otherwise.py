@@ -3,7 +3,7 @@
 
 usage: tools/port/otherwise.py      at the top of the repository; a second run changes nothing
 
-It turns the word `else` in the code of specs/ and proofs/, in the clauses and `ghost use` items of src/, and in edits of these. No other antt code of the repository has that word.
+It turns the word `else` in the code of specs/ and proofs/, in the clauses and `ghost use` items of src/, and in edits of these. Two files of `floats` cite the library's choice and stay.
 """
 
 import os
