@@ -1,4 +1,5 @@
 pub mod Words
 pub mod Tables
 pub mod Slices
+pub mod Options
 pub mod Examples
