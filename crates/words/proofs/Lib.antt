@@ -2,5 +2,4 @@ pub mod Laws
 pub mod Access
 pub mod Tables
 pub mod Putting
-pub mod Telling
 pub mod Filling

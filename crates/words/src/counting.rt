@@ -5,7 +5,7 @@ ghost use Rattle.std.specs.Prelude.{◌≡◌, ◌-◌, ◌≤◌, min};
 pub fn less(a: usize, b: usize) -> usize
     ensures { result ≡ a - b }
 {
-    if b < a { a - b } else { 0 }
+    a.saturating_sub(b)
 }
 
 // n, or most where that is less.
@@ -13,5 +13,5 @@ pub fn least(n: u64, most: usize) -> usize
     ensures value { result ≡ min n most }
     ensures upper_bound { result ≤ most }
 {
-    if n < most as u64 { n as usize } else { most }
+    n.min(most as u64) as usize
 }

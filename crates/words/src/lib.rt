@@ -8,27 +8,22 @@ pub mod counting;
 pub mod rows;
 pub mod told;
 
-// A byte as a word.
-fn wide(x: u8) -> u64
-    ensures { (result ≡ x) × (result < 256) }
-{
-    x as u64
-}
-
 // Word i of the area.
 pub fn get(area: &[u8], i: usize) -> u64
     requires { i * 8 + 8 ≤ length area.now }
     ensures { result ≡ get_or (words area.now) i 0 }
 {
     let o = i * 8;
-    wide(area[o])
-        | wide(area[o + 1]) << 8
-        | wide(area[o + 2]) << 16
-        | wide(area[o + 3]) << 24
-        | wide(area[o + 4]) << 32
-        | wide(area[o + 5]) << 40
-        | wide(area[o + 6]) << 48
-        | wide(area[o + 7]) << 56
+    u64::from_le_bytes([
+        area[o],
+        area[o + 1],
+        area[o + 2],
+        area[o + 3],
+        area[o + 4],
+        area[o + 5],
+        area[o + 6],
+        area[o + 7],
+    ])
 }
 
 // Word i of the area becomes v.
@@ -37,21 +32,7 @@ pub fn put(area: &mut [u8], i: usize, v: u64)
     ensures { Stored area.old area.new i v }
 {
     let o = i * 8;
-    let v1 = v / 256;
-    let v2 = v1 / 256;
-    let v3 = v2 / 256;
-    let v4 = v3 / 256;
-    let v5 = v4 / 256;
-    let v6 = v5 / 256;
-    let v7 = v6 / 256;
-    area[o] = (v % 256) as u8;
-    area[o + 1] = (v1 % 256) as u8;
-    area[o + 2] = (v2 % 256) as u8;
-    area[o + 3] = (v3 % 256) as u8;
-    area[o + 4] = (v4 % 256) as u8;
-    area[o + 5] = (v5 % 256) as u8;
-    area[o + 6] = (v6 % 256) as u8;
-    area[o + 7] = (v7 % 256) as u8;
+    area[o..o + 8].copy_from_slice(&v.to_le_bytes());
 }
 
 // Word i, or 0 where the area has no word i.
@@ -77,18 +58,14 @@ pub fn write(area: &mut [u8], i: usize, v: u64)
 pub fn signed(v: u64) -> i64
     ensures { result ≡ signed v }
 {
-    if v < 0x8000_0000_0000_0000 {
-        v as i64
-    } else {
-        !(!v as i64)
-    }
+    v.cast_signed()
 }
 
 // The word that stands for z.
 pub fn unsigned(z: i64) -> u64
     ensures { result ≡ unsigned z }
 {
-    if z < 0 { !(!z as u64) } else { z as u64 }
+    z.cast_unsigned()
 }
 
 // What word i stands for, or 0 where the area has no word i.

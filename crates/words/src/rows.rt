@@ -11,9 +11,7 @@ pub fn put_row(area: &mut [u8], p: usize, row: &[u64])
     ensures area_value { words area.new ≡ paste (words area.old) p row.now (length row.now) }
     ensures area_value_2 { tail area.new ≡ tail area.old }
 {
-    let mut i = 0;
-    while i < row.len() {
-        put(area, p + i, row[i]);
-        i += 1;
+    for (i, &v) in row.iter().enumerate() {
+        put(area, p + i, v);
     }
 }
