@@ -1,7 +1,7 @@
 -- Values as two words, and one law for each way through the code.
 use Prim.Native.Nat.{ℕ, zero, suc, ◌<◌, ◌%◌}
 use native.Mathlib.Omega.{arith}
-use mathlib.Core.Path.{◌≡◌, refl, sym}
+use mathlib.Core.Path.{◌≡◌, refl, sym, ap, ◌∙◌}
 use mathlib.Core.Bool.{Bool, true, false, not}
 use borrow.Author.Tests.{ne_eqb, eq-eqb}
 use lib.Dec.{leb, eqb}
@@ -11,7 +11,7 @@ use Rattle.words.specs.Words.{signed}
 use Rattle.model.specs.declared.Value.{Value}
 use Rattle.model.specs.declared.Value.TheVariants.{Nothing, Int, Float, Bool as Truth}
 use Rattle.model.specs.Base.{if◌then◌otherwise◌}
-use Rattle.model.specs.Value.{truthy, bit, same, eq64, float_of_int, to_int, as_int, one_point_zero, kind_of, content_of, value_of}
+use Rattle.model.specs.Value.{truthy, bit, same, eq64, float_of_int, as_int, one_point_zero, kind_of, content_of, value_of}
 use Rattle.model.specs.Opening.{enabled}
 use Rattle.value.proofs.Floats.{zero_bits, itself_bits}
 
@@ -39,32 +39,14 @@ taken_apart (suc (suc (suc (suc k)))) b h f g = absurd (omega arith)
 
 -- ---- as_int and as_float
 
--- as an Int, by kind: the content of an Int or a Bool is the word of its number
-as_int_is : (d : ℤ) (v : Value)
-    → as_int d v ≡ (if eqb (kind_of v) 0 then d otherwise if eqb (kind_of v) 2 then to_int (content_of v) otherwise signed (content_of v))
-unfolding as_int kind_of content_of bit if◌then◌otherwise◌
-as_int_is d Nothing = refl
-as_int_is d (Int b) = refl
-as_int_is d (Float b) = refl
-as_int_is d (Truth false) = refl
-as_int_is d (Truth true) = refl
-
-module _ (d : ℤ) (v : Value) (k : ℕ) (ek : k ≡ kind_of v) where
-  -- nothing gives the default
-  pub nothing_int : k ≡ 0 → d ≡ as_int d v
-  unfolding if◌then◌otherwise◌
-  nothing_int h = rw (as_int_is d v, ← ek, eq-eqb k 0 h) refl
-
-  module _ (h : k ≡ 0 → ⊥) (x : ℕ) (ex : x ≡ content_of v) (z : ℤ) where
-    -- a Float
-    pub float_int : k ≡ 2 → z ≡ to_int x → z ≡ as_int d v
-    unfolding if◌then◌otherwise◌
-    float_int f ez = rw (as_int_is d v, ← ek, ← ex, ne_eqb k 0 h, eq-eqb k 2 f) ez
-
-    -- an Int or a Bool
-    pub other_int : (k ≡ 2 → ⊥) → z ≡ signed x → z ≡ as_int d v
-    unfolding if◌then◌otherwise◌
-    other_int f ez = rw (as_int_is d v, ← ek, ← ex, ne_eqb k 0 h, ne_eqb k 2 f) ez
+-- of what is neither nothing nor a Float the content is the word of its number
+pub other_int : (d z : ℤ) (v : Value) → (v ≡ Nothing → ⊥) → ((b : ℕ) → v ≡ Float b → ⊥) → (x : ℕ) → x ≡ content_of v → z ≡ signed x → z ≡ as_int d v
+unfolding as_int content_of bit
+other_int d z Nothing h f x ex ez = absurd (h refl)
+other_int d z (Int b) h f x ex ez = ez ∙ ap signed ex
+other_int d z (Float b) h f x ex ez = absurd (f b refl)
+other_int d z (Truth false) h f x ex ez = ez ∙ ap signed ex
+other_int d z (Truth true) h f x ex ez = ez ∙ ap signed ex
 
 -- a Bool as a Float: 1.0 or 0.0
 pub bit_float : (t b : Bool) → t ≡ b → (if b then one_point_zero otherwise 0) ≡ float_of_int (pos (bit t))
@@ -143,40 +125,26 @@ module _ (a b : Value) (k l : ℕ) (ek : k ≡ kind_of a) (el : l ≡ kind_of b)
 
 -- ---- truthy
 
--- not zero: a Float's content as a float
-truthy_is : (v : Value) → truthy v ≡ not (if eqb (kind_of v) 2 then eq64 (content_of v) 0 otherwise eqb (content_of v) 0)
-unfolding truthy kind_of content_of bit if◌then◌otherwise◌
-truthy_is Nothing = refl
-truthy_is (Int b) = refl
-truthy_is (Float b) = refl
-truthy_is (Truth false) = refl
-truthy_is (Truth true) = refl
+-- a Float
+pub float_truthy : (v : Value) (b x : ℕ) → v ≡ Float b → x ≡ content_of v → not (eqb (x % 9223372036854775808) 0) ≡ truthy v
+unfolding truthy content_of
+float_truthy v b x h e = rw (e, h, zero_bits b)
 
-module _ (v : Value) (x k : ℕ) (ex : x ≡ content_of v) (ek : k ≡ kind_of v) where
-  -- a Float
-  pub float_truthy : k ≡ 2 → not (eqb (x % 9223372036854775808) 0) ≡ truthy v
-  unfolding if◌then◌otherwise◌
-  float_truthy h = rw (truthy_is v, ← ek, ← ex, eq-eqb k 2 h, zero_bits x) refl
-
-  -- any other value
-  pub other_truthy : (k ≡ 2 → ⊥) → not (eqb x 0) ≡ truthy v
-  unfolding if◌then◌otherwise◌
-  other_truthy h = rw (truthy_is v, ← ek, ← ex, ne_eqb k 2 h) refl
+-- what is no Float reads as true where its content is not 0
+pub other_truthy : (v : Value) → ((b : ℕ) → v ≡ Float b → ⊥) → (x : ℕ) → x ≡ content_of v → not (eqb x 0) ≡ truthy v
+unfolding truthy content_of bit
+other_truthy Nothing f x e = rw e
+other_truthy (Int b) f x e = rw e
+other_truthy (Float b) f x e = absurd (f b refl)
+other_truthy (Truth false) f x e = rw e
+other_truthy (Truth true) f x e = rw e
 
 -- ---- enabled
 
--- nothing is enabled
-pub nothing_enables : (v : Value) (k : ℕ) → k ≡ kind_of v → k ≡ 0 → true ≡ enabled v
-unfolding enabled kind_of
-nothing_enables Nothing k e h = refl
-nothing_enables (Int b) k e h = absurd (omega arith)
-nothing_enables (Float b) k e h = absurd (omega arith)
-nothing_enables (Truth t) k e h = absurd (omega arith)
-
--- any other value as it reads
-pub truth_enables : (v : Value) (k : ℕ) (r : Bool) → k ≡ kind_of v → (k ≡ 0 → ⊥) → r ≡ truthy v → r ≡ enabled v
-unfolding enabled kind_of truthy
-truth_enables Nothing k r e h t = absurd (h e)
-truth_enables (Int b) k r e h t = t
-truth_enables (Float b) k r e h t = t
-truth_enables (Truth b) k r e h t = t
+-- any value but nothing is enabled as it reads
+pub truth_enables : (v : Value) (r : Bool) → (v ≡ Nothing → ⊥) → r ≡ truthy v → r ≡ enabled v
+unfolding enabled truthy
+truth_enables Nothing r h t = absurd (h refl)
+truth_enables (Int b) r h t = t
+truth_enables (Float b) r h t = t
+truth_enables (Truth b) r h t = t

@@ -9,51 +9,49 @@ use floats::{INFINITY, ONE, SIGN, eq64, of_int, to_int};
 use model::Value;
 use words::signed;
 
-// The kind of nothing.
+// The kinds of values.
 const NOTHING: u64 = 0;
 
-// The kind of a Float.
+const INT: u64 = 1;
+
 const FLOAT: u64 = 2;
 
-// 1 for true.
-fn bit(t: bool) -> u64
-    ensures { result ≡ bit t }
-{
-    if t { 1 } else { 0 }
-}
+const BOOL: u64 = 3;
 
-// The kind of a value: 0 is nothing, 1 Int, 2 Float, 3 Bool.
+// The kind of a value.
+#[tactic(auto, unfolding(model::specs::Value::kind_of))]
 pub fn kind_of(v: Value) -> u64
     ensures { result ≡ kind_of v }
 {
     match v {
-        Value::Nothing => 0,
-        Value::Int(_) => 1,
-        Value::Float(_) => 2,
-        Value::Bool(_) => 3,
+        Value::Nothing => NOTHING,
+        Value::Int(_) => INT,
+        Value::Float(_) => FLOAT,
+        Value::Bool(_) => BOOL,
     }
 }
 
 // Its content: the bits of an Int or a Float, 0 or 1 of a Bool, 0 of nothing.
+#[tactic(auto, unfolding(model::specs::Value::content_of, model::specs::Value::bit))]
 pub fn content_of(v: Value) -> u64
     ensures { result ≡ content_of v }
 {
     match v {
         Value::Nothing => 0,
-        Value::Int(b) => b,
-        Value::Float(b) => b,
-        Value::Bool(t) => bit(t),
+        Value::Int(b) | Value::Float(b) => b,
+        Value::Bool(t) => u64::from(t),
     }
 }
 
 // The value of a kind and a content.
+#[tactic(auto, unfolding(model::specs::Value::value_of))]
 pub fn value_of(kind: u64, content: u64) -> Value
     ensures { result ≡ value_of kind content }
 {
     match kind {
-        0 => Value::Nothing,
-        1 => Value::Int(content),
-        2 => Value::Float(content),
+        NOTHING => Value::Nothing,
+        INT => Value::Int(content),
+        FLOAT => Value::Float(content),
         _ => Value::Bool(content != 0),
     }
 }
@@ -63,7 +61,7 @@ pub fn truthy(v: Value) -> bool
     ensures { result ≡ truthy v }
 {
     let content = content_of(v);
-    if kind_of(v) == FLOAT {
+    if matches!(v, Value::Float(_)) {
         return content % SIGN != 0;
     }
     content != 0
@@ -73,15 +71,13 @@ pub fn truthy(v: Value) -> bool
 pub fn as_int(v: Value, nothing: i64) -> i64
     ensures { result ≡ as_int nothing v }
 {
-    let kind = kind_of(v);
-    if kind == NOTHING {
+    if matches!(v, Value::Nothing) {
         return nothing;
     }
-    let content = content_of(v);
-    if kind == FLOAT {
-        return to_int(content);
+    if let Value::Float(b) = v {
+        return to_int(b);
     }
-    signed(content)
+    signed(content_of(v))
 }
 
 // As a Float's bits; nothing gives the default.
@@ -100,6 +96,7 @@ pub fn as_float(v: Value, nothing: u64) -> u64
 pub fn same(a: Value, b: Value) -> bool
     ensures { result ≡ same a b }
 {
+    // Stays: a match over both values at once is two jump tables, and sends Floats of equal bits through floats.
     let kind = kind_of(a);
     if kind != kind_of(b) {
         return false;
@@ -122,8 +119,8 @@ pub fn same(a: Value, b: Value) -> bool
 pub fn enabled(v: Value) -> bool
     ensures { result ≡ enabled v }
 {
-    if kind_of(v) != NOTHING {
-        return truthy(v);
+    match v {
+        Value::Nothing => true,
+        _ => truthy(v),
     }
-    true
 }

@@ -1,8 +1,10 @@
-use Rattle.value.proofs.Laws.{nothing_enables, truth_enables}
+use Rattle.model.specs.Opening.{enabled}
+use Rattle.value.proofs.Laws.{truth_enables}
 use Rattle.value.proofs.enabled.Goals as goal
 
-pub returns-then-kind_of-ne-NOTHING : goal.returns-then-kind_of-ne-NOTHING
-returns-then-kind_of-ne-NOTHING c = truth_enables _ _ _ c.kind_of.ensures c.if-kind_of-ne-NOTHING.true c.truthy.ensures
+pub returns-in-Nothing : goal.returns-in-Nothing
+unfolding enabled
+returns-in-Nothing c = rw c.in-Nothing.is
 
-pub returns : goal.returns
-returns c = nothing_enables _ _ c.kind_of.ensures c.if-kind_of-ne-NOTHING.false
+pub returns-in_default : goal.returns-in_default
+returns-in_default c = truth_enables c.args.v _ c.in_default.not-Nothing c.truthy.ensures
