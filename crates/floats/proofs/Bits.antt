@@ -1,9 +1,8 @@
--- Bit patterns: the word of one bit, which are a NaN's, what `0.0 / 0.0` and `x == x` say (of both formats), what the fields of an f64 stand for, and which f64s are finite.
+-- Bit patterns: the word of one bit, which are a NaN's (of both formats), what the fields of an f64 stand for, and which f64s are finite.
 use Rattle.std.proofs.Common.{◌≡◌, ℕ, zero, suc, ◌+◌, ◌*◌, ◌/◌, ◌%◌, ◌^◌, ◌<◌, ◌≤◌, Bool, true, false, cond, not, T, eqb, ltb, leb, sym, refl, ap, ◌∙◌, subst, mod-eq_of_lt, one-mul, arith, ltb-false, ltb-true, le-ltb, lt-ltb, ne_eqb}
 use lib.Pow.{pow-lt}
-use lib.Ieee.{Float, Format, nan, inf, fin, binary32, binary64, hid, ones, top, odd, is_nan, nan_bits, of_bits, of_fields, div, eq, ne}
+use lib.Ieee.{Float, Format, nan, inf, fin, binary64, hid, ones, top, odd, is_nan, nan_bits, of_bits, of_fields}
 use lib.Ieee.Bits.{nan_bits_is, nan_bits_above}
-use lib.Ieee.Compare.{differs_from_itself}
 use Rattle.model.specs.Questions.{finite}
 
 -- ---- NaNs
@@ -12,32 +11,14 @@ use Rattle.model.specs.Questions.{finite}
 pub no_nan : (f : Format) (b : ℕ) → b % top f ≤ ones f * hid f → T (not (nan_bits f b))
 no_nan f b h = rw (nan_bits_above f b, le-ltb (ones f * hid f) (b % top f) h) tt
 
-is_nan_lem : (x : Float) → is_nan x ≡ true → x ≡ nan
+pub is_nan_only : (x : Float) → is_nan x ≡ true → x ≡ nan
 unfolding is_nan
-is_nan_lem nan e = refl
-is_nan_lem (inf s) e = absurd (subst T (sym e) tt)
-is_nan_lem (fin s m k) e = absurd (subst T (sym e) tt)
+is_nan_only nan e = refl
+is_nan_only (inf s) e = absurd (subst T (sym e) tt)
+is_nan_only (fin s m k) e = absurd (subst T (sym e) tt)
 
 pub nan_above : (f : Format) (b : ℕ) → ones f * hid f < b % top f → of_bits f b ≡ nan
-nan_above f b h = is_nan_lem (of_bits f b) (sym (nan_bits_is f b) ∙ nan_bits_above f b ∙ lt-ltb (ones f * hid f) (b % top f) h)
-
-zero_by_zero : (f : Format) → div f (of_bits f 0) (of_bits f 0) ≡ nan
-unfolding div of_bits
-zero_by_zero binary32 = refl
-zero_by_zero binary64 = refl
-
-pub zero_by_zero_above : (f : Format) (b : ℕ) → ones f * hid f < b % top f → div f (of_bits f 0) (of_bits f 0) ≡ of_bits f b
-zero_by_zero_above f b h = zero_by_zero f ∙ sym (nan_above f b h)
-
-pub same_no_nan : (x : Float) → eq x x ≡ true → T (not (is_nan x))
-unfolding is_nan eq
-same_no_nan nan e = subst T (sym e) tt
-same_no_nan (inf s) e = tt
-same_no_nan (fin s m k) e = tt
-
-pub other_nan : (x : Float) → eq x x ≡ false → x ≡ nan
-unfolding ne
-other_nan x e = differs_from_itself x (rw e tt)
+nan_above f b h = is_nan_only (of_bits f b) (sym (nan_bits_is f b) ∙ nan_bits_above f b ∙ lt-ltb (ones f * hid f) (b % top f) h)
 
 -- ---- one bit
 

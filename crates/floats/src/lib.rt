@@ -53,7 +53,7 @@ pub fn float_of(bits: u64) -> f64
     ensures { result ≡ from_bits binary64 bits }
 {
     if INFINITY < bits % SIGN {
-        0.0 / 0.0
+        f64::NAN
     } else {
         f64::from_bits(bits)
     }
@@ -63,7 +63,7 @@ pub fn float_of(bits: u64) -> f64
 pub fn bits_of(x: f64) -> u64
     ensures { result ≡ to_bits binary64 x }
 {
-    if x == x { f64::to_bits(x) } else { NAN }
+    if x.is_nan() { NAN } else { x.to_bits() }
 }
 
 // The f32 with these bits.
@@ -71,7 +71,7 @@ pub fn float32_of(bits: u32) -> f32
     ensures { result ≡ from_bits binary32 bits }
 {
     if INFINITY32 < bits % SIGN32 {
-        0.0 / 0.0
+        f32::NAN
     } else {
         f32::from_bits(bits)
     }
@@ -81,7 +81,7 @@ pub fn float32_of(bits: u32) -> f32
 pub fn bits32_of(x: f32) -> u32
     ensures { result ≡ to_bits binary32 x }
 {
-    if x == x { f32::to_bits(x) } else { NAN32 }
+    if x.is_nan() { NAN32 } else { x.to_bits() }
 }
 
 // Whether an f64 is neither an infinity nor a NaN.
@@ -178,8 +178,8 @@ pub fn to_int(bits: u64) -> i64
     } else if INFINITY < unsigned {
         0
     } else if bits < SIGN {
-        9223372036854775807
+        i64::MAX
     } else {
-        -9223372036854775808
+        i64::MIN
     }
 }

@@ -32,7 +32,7 @@ const FEWER: u64 = 29;
 const BELOW: u64 = OF_LEAST_NORMAL + FEWER;
 
 // What narrowing comes to: the f32's bits, and whether it is another number than the f64. 0.0 and -0.0 are one number.
-#[derive(Clone, Copy)]
+#[derive(Clone, Copy, PartialEq, Eq, Debug)]
 pub struct Narrowed {
     pub bits: u32,
     pub changed: bool,
@@ -95,7 +95,7 @@ fn nearest_f32(bits: u64) -> u32
 fn differs(x: f32, y: f64) -> bool
     ensures { result ≡ not (eq x y) }
 {
-    if x == x { x as f64 != y } else { true }
+    x.is_nan() || x as f64 != y
 }
 
 // The f64 with these bits as an f32: its bits, and whether it is another number.

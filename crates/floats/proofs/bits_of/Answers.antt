@@ -1,11 +1,8 @@
-use Rattle.std.proofs.Common.{sym, ap}
+use Rattle.std.proofs.Common.{sym, ap, ◌∙◌}
 use lib.Ieee.{binary64, to_bits}
-use Rattle.floats.proofs.Bits.{same_no_nan, other_nan}
+use Rattle.floats.proofs.Bits.{is_nan_only}
 use Rattle.floats.proofs.bits_of.Goals as goal
 
-pub float_to_bits-result : goal.float_to_bits-result
-float_to_bits-result c = same_no_nan c.args.x c.if-x.true
-
-pub returns-else-x : goal.returns-else-x
+pub returns-then-is_nan : goal.returns-then-is_nan
 unfolding to_bits
-returns-else-x c = sym (ap (to_bits binary64) (other_nan c.args.x c.if-x.false))
+returns-then-is_nan c = sym (ap (to_bits binary64) (is_nan_only c.args.x (sym c.is_nan.ensures.value ∙ c.if-is_nan.true)))
