@@ -11,7 +11,7 @@ use crate::numbers::*;
 pub mod numbers;
 
 // What an input is. The last six are settings, named for what their constants have to be.
-#[derive(Clone, Copy)]
+#[derive(Clone, Copy, PartialEq, Eq, Debug)]
 pub enum Pin {
     Exec,
     ExecOnly,
@@ -27,7 +27,7 @@ pub enum Pin {
 }
 
 // What an output is.
-#[derive(Clone, Copy)]
+#[derive(Clone, Copy, PartialEq, Eq, Debug)]
 pub enum Out {
     Fires,
     Shows,
@@ -39,11 +39,15 @@ pub fn inputs(kind: u64) -> usize
     ensures { result ≡ length (kind_at kind).ins }
 {
     match kind {
-        2 | 5..=9 | 21..=22 | 26..=27 | 30..=31 => 1,
-        18 | 20 => 2,
-        1 | 10..=14 | 19 | 23 => 3,
-        15 | 29 => 4,
-        16..=17 | 24..=25 => 10,
+        REROUTE
+        | VAR..=EDGE_EXEC
+        | UNION..=TOGGLE
+        | EVENT_CUSTOM..=EVENT_CUSTOM_GLOBAL
+        | LOOP_ENTRY..=BREAK => 1,
+        VAR_GET | BRANCH => 2,
+        SELECT | BUFFER_TICKS..=CLOCK | VAR_SET | CYCLE => 3,
+        STOPWATCH | LOOP => 4,
+        QUEUE_IN_TICKS..=QUEUE_IN_SECONDS | SEND_EVENT..=SEND_EVENT_GLOBAL => 10,
         _ => 0,
     }
 }
@@ -53,11 +57,17 @@ pub fn outputs(kind: u64) -> usize
     ensures { result ≡ length (kind_at kind).outs }
 {
     match kind {
-        1..=6 | 8 | 10..=14 | 19 | 21 | 24..=25 | 31 => 1,
-        7 | 9 | 15 | 18 | 20 | 22 | 28 | 30 => 2,
-        23 => 3,
-        29 => 4,
-        16..=17 | 26..=27 => 9,
+        SELECT..=CHANGE_DETECTOR
+        | CHANGE
+        | BUFFER_TICKS..=CLOCK
+        | VAR_SET
+        | UNION
+        | SEND_EVENT..=SEND_EVENT_GLOBAL
+        | BREAK => 1,
+        EDGE | EDGE_EXEC | STOPWATCH | VAR_GET | BRANCH | TOGGLE | WORLD_EVENT | LOOP_ENTRY => 2,
+        CYCLE => 3,
+        LOOP => 4,
+        QUEUE_IN_TICKS..=QUEUE_IN_SECONDS | EVENT_CUSTOM..=EVENT_CUSTOM_GLOBAL => 9,
         _ => 0,
     }
 }
@@ -89,17 +99,19 @@ pub fn out_at(kind: u64, p: usize) -> Out
 }
 
 // Whether a gate of this kind is pure: Select, Reroute, DeltaTime, ServerUptime.
+#[tactic(auto, unfolding(model::specs::Kinds::pure))]
 pub fn is_pure(kind: u64) -> bool
     ensures { result ≡ pure kind }
 {
-    SELECT <= kind && kind <= SERVER_UPTIME
+    matches!(kind, SELECT..=SERVER_UPTIME)
 }
 
 // Whether a gate of this kind is a Queue, in ticks or in seconds.
+#[tactic(auto, unfolding(model::specs::Questions::within))]
 pub fn is_queue(kind: u64) -> bool
     ensures { result ≡ within 16 17 kind }
 {
-    QUEUE_IN_TICKS <= kind && kind <= QUEUE_IN_SECONDS
+    matches!(kind, QUEUE_IN_TICKS..=QUEUE_IN_SECONDS)
 }
 
 // What input 0 is.
@@ -107,13 +119,13 @@ fn first_input(kind: u64) -> Pin
     ensures { in_of result ≡ get_or (kind_at kind).ins 0 value }
 {
     match kind {
-        2 => Pin::Route,
-        5 => Pin::Anything,
-        6..=10 | 12 => Pin::Watched,
-        11 | 13 => Pin::ExecOnly,
-        15..=25 | 29 | 31 => Pin::Exec,
-        26..=27 => Pin::Channel,
-        30 => Pin::Loop,
+        REROUTE => Pin::Route,
+        VAR => Pin::Anything,
+        CHANGE_DETECTOR..=BUFFER_TICKS | BUFFER_SECONDS => Pin::Watched,
+        BUFFER_TICKS_EXEC | BUFFER_SECONDS_EXEC => Pin::ExecOnly,
+        STOPWATCH..=SEND_EVENT_GLOBAL | LOOP | BREAK => Pin::Exec,
+        EVENT_CUSTOM..=EVENT_CUSTOM_GLOBAL => Pin::Channel,
+        LOOP_ENTRY => Pin::Loop,
         _ => Pin::Value,
     }
 }
@@ -123,11 +135,11 @@ fn second_input(kind: u64) -> Pin
     ensures { in_of result ≡ get_or (kind_at kind).ins 1 value }
 {
     match kind {
-        10..=11 => Pin::Ticks,
-        12..=13 => Pin::Seconds,
-        15 | 23 => Pin::Exec,
-        18..=19 => Pin::Variable,
-        24..=25 => Pin::Channel,
+        BUFFER_TICKS..=BUFFER_TICKS_EXEC => Pin::Ticks,
+        BUFFER_SECONDS..=BUFFER_SECONDS_EXEC => Pin::Seconds,
+        STOPWATCH | CYCLE => Pin::Exec,
+        VAR_GET..=VAR_SET => Pin::Variable,
+        SEND_EVENT..=SEND_EVENT_GLOBAL => Pin::Channel,
         _ => Pin::Value,
     }
 }
@@ -137,9 +149,9 @@ fn third_input(kind: u64) -> Pin
     ensures { in_of result ≡ get_or (kind_at kind).ins 2 value }
 {
     match kind {
-        10..=11 => Pin::Ticks,
-        12..=14 => Pin::Seconds,
-        15 => Pin::Exec,
+        BUFFER_TICKS..=BUFFER_TICKS_EXEC => Pin::Ticks,
+        BUFFER_SECONDS..=CLOCK => Pin::Seconds,
+        STOPWATCH => Pin::Exec,
         _ => Pin::Value,
     }
 }
@@ -149,8 +161,9 @@ fn first_output(kind: u64) -> Out
     ensures { out_of result ≡ get_or (kind_at kind).outs 0 fires }
 {
     match kind {
-        1 | 3..=5 | 7..=8 | 10 | 12 | 15 => Out::Shows,
-        2 => Out::Passes,
+        SELECT | DELTA_TIME..=VAR | EDGE..=CHANGE | BUFFER_TICKS | BUFFER_SECONDS | STOPWATCH =>
+            Out::Shows,
+        REROUTE => Out::Passes,
         _ => Out::Fires,
     }
 }
@@ -160,7 +173,7 @@ fn second_output(kind: u64) -> Out
     ensures { out_of result ≡ get_or (kind_at kind).outs 1 fires }
 {
     match kind {
-        7 | 16..=18 | 22 | 26..=30 => Out::Shows,
+        EDGE | QUEUE_IN_TICKS..=VAR_GET | TOGGLE | EVENT_CUSTOM..=LOOP_ENTRY => Out::Shows,
         _ => Out::Fires,
     }
 }
@@ -170,7 +183,8 @@ fn third_output(kind: u64) -> Out
     ensures { out_of result ≡ get_or (kind_at kind).outs 2 fires }
 {
     match kind {
-        16..=17 | 23 | 26..=27 | 29 => Out::Shows,
+        QUEUE_IN_TICKS..=QUEUE_IN_SECONDS | CYCLE | EVENT_CUSTOM..=EVENT_CUSTOM_GLOBAL | LOOP =>
+            Out::Shows,
         _ => Out::Fires,
     }
 }
@@ -180,7 +194,7 @@ fn fourth_output(kind: u64) -> Out
     ensures { out_of result ≡ get_or (kind_at kind).outs 3 fires }
 {
     match kind {
-        16..=17 | 26..=27 | 29 => Out::Shows,
+        QUEUE_IN_TICKS..=QUEUE_IN_SECONDS | EVENT_CUSTOM..=EVENT_CUSTOM_GLOBAL | LOOP => Out::Shows,
         _ => Out::Fires,
     }
 }
@@ -190,7 +204,7 @@ fn later_output(kind: u64) -> Out
     ensures { out_of result ≡ get_or (kind_at kind).outs 4 fires }
 {
     match kind {
-        16..=17 | 26..=27 => Out::Shows,
+        QUEUE_IN_TICKS..=QUEUE_IN_SECONDS | EVENT_CUSTOM..=EVENT_CUSTOM_GLOBAL => Out::Shows,
         _ => Out::Fires,
     }
 }
