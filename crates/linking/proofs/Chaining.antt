@@ -11,7 +11,8 @@ use lib.ListN.{length, get_or, set, length-map}
 use lib.Seq.{sets}
 use Rattle.model.specs.Base.{if◌then◌otherwise◌}
 use Rattle.links.specs.Links.{packed}
-use Rattle.linking.specs.Building.{below, Chains, chains, chained, all_chained, chain, chain_at, size_at, target, row_of}
+use Rattle.linking.specs.Building.{below, chains, chained, all_chained, chain, chain_at, size_at, target, row_of}
+use Rattle.linking.specs.declared.chains.Chains.{Chains}
 use Rattle.linking.proofs.Loops.{below_mono}
 
 -- ---- making chains

@@ -7,13 +7,14 @@ use native.Mathlib.Nat.{sub-zero}
 use native.Mathlib.Omega.{arith}
 use borrow.Author.Tests.{lt-ltb, le-ltb, ne_eqb, eqb-true, eqb-false}
 use lib.Dec.{eqb}
-use lib.ListN.{length, get_or, set, replicate, length-set, length-replicate, get_or-replicate}
+use lib.ListN.{length, get_or, set, length-set, length-replicate, get_or-replicate}
 use lib.Seq.{get_or-set_same, get_or-set_other, sets}
 use Rattle.model.specs.Base.{if◌then◌otherwise◌, keep, joined, from}
 use Rattle.model.proofs.Lists.{from_length, from_first, from_none}
 use Rattle.links.specs.Links.{rows_at, readers_at, calls_at, listed, packed}
 use Rattle.links.proofs.Tables.{shares}
-use Rattle.linking.specs.Building.{written, below, Chains, chains, chained, all_chained, chain, chain_at, size_at, target, row_of, members, lists_written}
+use Rattle.linking.specs.Building.{written, below, no_chains, chained, all_chained, chain, chain_at, size_at, target, row_of, members, lists_written}
+use Rattle.linking.specs.declared.chains.Chains.{Chains}
 use Rattle.linking.proofs.Loops.{below_same}
 use Rattle.linking.proofs.Elements.{listed_same, map_same, joined_length}
 
@@ -107,10 +108,6 @@ made key n short c zero h m = m
 made key n short c (suc j) h m =
     let e : suc j ≡ j + 1 = omega arith in
     made key n short (chained c j (key j)) j (omega arith) (turn key n short c j h (rw e at m))
-
--- no number is in any chain
-abbrev pub no_chains : Chains
-no_chains = chains (replicate 576 640) (replicate 640 640)
 
 -- before the first
 none_made : (key : ℕ → ℕ) (n : ℕ) → Made key n no_chains n

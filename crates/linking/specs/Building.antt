@@ -8,6 +8,7 @@ use Rattle.model.specs.Value.{bit, value_of}
 use Rattle.model.specs.Kinds.{value, kind_at, LoopEntry}
 use Rattle.model.specs.Circuit.{most_gates, rank_size, source_of, is_watched}
 use Rattle.model.specs.Questions.{within}
+use Rattle.linking.specs.declared.chains.Chains.{Chains}
 use Rattle.links.specs.Links.{counts_at, gates_at, sources_at, stored_kinds_at, stored_contents_at, inputs_at, outputs_at, rows_at, readers_at, calls_at, constant_kinds_at, constant_contents_at, total, kind_size, input_size, listed, packed, paired}
 
 -- n cells, from cell `base` on, become f 0, f 1, ..
@@ -38,12 +39,12 @@ Gates es n = (g : ℕ) → g < n → get_or es g 0 < most_gates
 -- ---- lists as chains
 
 -- Chain o begins with heads[o], and next[i] comes behind i. What is no place of `next` ends a chain.
-pub record Chains : Type 0 where
-  pub heads : List ℕ
-  pub next : List ℕ
-
 abbrev pub chains : List ℕ → List ℕ → Chains
 chains heads next = record { heads = heads; next = next }
+
+-- no number is in any chain
+abbrev pub no_chains : Chains
+no_chains = chains (replicate 576 640) (replicate 640 640)
 
 -- i comes first in chain k
 unfoldable pub chained : Chains → ℕ → ℕ → Chains

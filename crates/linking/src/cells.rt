@@ -40,10 +40,8 @@ pub fn fill(cells: &mut [usize], base: usize, n: usize, v: usize)
     requires near_2 { Near n }
     ensures { cells.new ≡ written cells.old base n (λ k. v) }
 {
-    let mut k: usize = 0;
-    while k < n {
+    for k in 0..n {
         put(cells, base + k, v);
-        k += 1;
     }
 }
 
@@ -54,11 +52,9 @@ pub fn copy(circuit: &[u8], first: usize, n: usize, cells: &mut [usize], base: u
     requires near_3 { Near base }
     ensures { cells.new ≡ written cells.old base n (λ k. get_or (words circuit.now) (first + k) 0) }
 {
-    let mut k: usize = 0;
-    while k < n {
+    for k in 0..n {
         let v = word(circuit, first + k);
         put(cells, base + k, v);
-        k += 1;
     }
 }
 

@@ -1,111 +1,98 @@
-// Lists as chains: chain o begins with heads[o], and next[i] comes behind i.
+// Lists as chains of numbers.
 ghost use Rattle.words.specs.Words.{words};
-ghost use Rattle.std.specs.Prelude.{◌≡◌, map, ◌+◌, ◌≤◌, length, get_or};
+ghost use Rattle.std.specs.Prelude.{◌≡◌, map, ◌+◌, ◌≤◌, get_or};
 ghost use Rattle.std.proofs.lemmas.List.Edits.{sets};
 ghost use Rattle.model.specs.Base.{joined};
 ghost use Rattle.links.specs.Links.{listed};
-ghost use Rattle.linking.specs.Building.{chains, chained, all_chained, chain_at, size_at, target};
+ghost use Rattle.linking.specs.Building.{no_chains, chained, all_chained, chain_at, size_at, target};
 ghost use Rattle.linking.specs.Lent.{Near};
 
 use crate::cells::{at, put, word};
-use links::layout::MOST_INPUTS;
+use links::layout::{MOST_INPUTS, MOST_OUTPUTS};
 
 // No chain has more members.
 const LONGEST: usize = MOST_INPUTS;
 
 // What ends a chain: no input and no call has this number.
-pub const END: usize = MOST_INPUTS;
+const END: usize = MOST_INPUTS;
 
-// The numbers below n, from the last down, each in the chain of its key. The keys are the words of the circuit from word `keys` on.
-pub fn chain_all(circuit: &[u8], keys: usize, n: usize, heads: &mut [usize], next: &mut [usize])
-    requires near { Near keys }
-    requires near_2 { Near n }
-    ensures { chains heads.new next.new ≡ all_chained (λ i. get_or (words circuit.now) (keys + i) 0) n (chains heads.old next.old) }
-{
-    let mut i = n;
-    while 0 < i {
-        i -= 1;
-        let key = word(circuit, keys + i);
-        chain_one(heads, next, i, key);
-    }
+// Chain o begins with heads[o], and next[i] comes behind i.
+#[derive(Drop)]
+pub struct Chains {
+    heads: [usize; MOST_OUTPUTS],
+    next: [usize; MOST_INPUTS],
 }
 
-// Number i comes first in chain `key`, if there is one.
-fn chain_one(heads: &mut [usize], next: &mut [usize], i: usize, key: usize)
-    ensures { chains heads.new next.new ≡ chained (chains heads.old next.old) i key }
-{
-    let head = at(heads, key);
-    put(next, i, head);
-    put(heads, key, i);
-}
-
-// How many members chain o has.
-pub fn chain_size(heads: &[usize], next: &[usize], o: usize) -> usize
-    ensures { result ≡ size_at (chains heads.now next.now) o }
-{
-    let mut p = at(heads, o);
-    let mut n: usize = 0;
-    while n < LONGEST {
-        if next.len() <= p {
-            return n;
+impl Chains {
+    // The numbers below n, each in the chain of its key, ascending. The keys are the words of the circuit from word `keys` on.
+    pub fn by_keys(circuit: &[u8], keys: usize, n: usize) -> Chains
+        requires near { Near keys }
+        requires near_2 { Near n }
+        ensures { result ≡ all_chained (λ i. get_or (words circuit.now) (keys + i) 0) n no_chains }
+    {
+        let mut made = Chains {
+            heads: [END; MOST_OUTPUTS],
+            next: [END; MOST_INPUTS],
+        };
+        for i in (0..n).rev() {
+            let key = word(circuit, keys + i);
+            made.add(i, key);
         }
-        p = next[p];
-        n += 1;
+        made
     }
-    n
-}
 
-// The cells from cell `base` on become the members of n chains, one behind the other.
-pub fn write_chains(
-    circuit: &[u8],
-    targets: usize,
-    heads: &[usize],
-    next: &[usize],
-    n: usize,
-    cells: &mut [usize],
-    base: usize,
-)
-    requires near { Near targets }
-    requires near_2 { Near (length next.now) }
-    requires near_3 { Near n }
-    requires near_4 { Near base }
-    ensures { cells.new ≡ sets cells.old base (joined (listed n (λ o. map (target (words circuit.now) targets) (chain_at (chains heads.now next.now) o)))) }
-{
-    let mut done: usize = 0;
-    let mut o: usize = 0;
-    while o < n {
-        let size = chain_size(heads, next, o);
-        write_chain(circuit, targets, heads, next, o, cells, base + done);
-        done += size;
-        o += 1;
+    // Number i comes first in chain `key`, if there is one.
+    fn add(&mut self, i: usize, key: usize)
+        ensures { self.new ≡ chained self.old i key }
+    {
+        let head = at(&self.heads, key);
+        put(&mut self.next, i, head);
+        put(&mut self.heads, key, i);
     }
-}
 
-// The cells from cell `base` on become the members of chain o.
-fn write_chain(
-    circuit: &[u8],
-    targets: usize,
-    heads: &[usize],
-    next: &[usize],
-    o: usize,
-    cells: &mut [usize],
-    base: usize,
-)
-    requires near { Near targets }
-    requires near_2 { Near (length next.now) }
-    requires base_bound { base ≤ 4294967296 }
-    ensures { cells.new ≡ sets cells.old base (map (target (words circuit.now) targets) (chain_at (chains heads.now next.now) o)) }
-{
-    let mut p = at(heads, o);
-    let mut n: usize = 0;
-    while n < LONGEST {
-        if next.len() <= p {
-            return;
+    // How many members chain o has.
+    pub fn size(&self, o: usize) -> usize
+        ensures { result ≡ size_at self.now o }
+    {
+        let mut p = at(&self.heads, o);
+        for n in 0..LONGEST {
+            if self.next.len() <= p {
+                return n;
+            }
+            p = self.next[p];
         }
-        let v = target(circuit, targets, p);
-        put(cells, base + n, v);
-        p = next[p];
-        n += 1;
+        LONGEST
+    }
+
+    // The cells from cell `base` on become the members of n chains, one behind the other.
+    pub fn write(&self, circuit: &[u8], targets: usize, n: usize, cells: &mut [usize], base: usize)
+        requires near { Near targets }
+        requires near_2 { Near n }
+        requires near_3 { Near base }
+        ensures { cells.new ≡ sets cells.old base (joined (listed n (λ o. map (target (words circuit.now) targets) (chain_at self.now o)))) }
+    {
+        let mut done: usize = 0;
+        for o in 0..n {
+            self.write_one(circuit, targets, o, cells, base + done);
+            done += self.size(o);
+        }
+    }
+
+    // The cells from cell `base` on become the members of chain o.
+    fn write_one(&self, circuit: &[u8], targets: usize, o: usize, cells: &mut [usize], base: usize)
+        requires near { Near targets }
+        requires base_bound { base ≤ 4294967296 }
+        ensures { cells.new ≡ sets cells.old base (map (target (words circuit.now) targets) (chain_at self.now o)) }
+    {
+        let mut p = at(&self.heads, o);
+        for n in 0..LONGEST {
+            if self.next.len() <= p {
+                return;
+            }
+            let v = target(circuit, targets, p);
+            put(cells, base + n, v);
+            p = self.next[p];
+        }
     }
 }
 

@@ -34,9 +34,7 @@ pub fn find_entries(
     ensures { entries.new ≡ entered (named_by (words circuit.now) kinds stored constants) n entries.old }
 {
     let mut i = inputs;
-    let mut e = n;
-    while 0 < e {
-        e -= 1;
+    for e in (0..n).rev() {
         i -= inputs_of(circuit, kinds, e);
         let kind = words::read(circuit, kinds + e);
         let name = word(circuit, stored + i);

@@ -75,11 +75,9 @@ fn gates_within(circuit: &[u8], kinds: usize, n: usize, low: u64, high: u64) -> 
     ensures { result ≡ bits_of (words circuit.now) kinds n low high }
 {
     let mut gates: usize = 0;
-    let mut g: usize = 0;
-    while g < n {
+    for g in 0..n {
         let kind = words::read(circuit, kinds + g);
         gates += gate_bit(low, high, kind, g);
-        g += 1;
     }
     gates
 }

@@ -78,8 +78,7 @@ fn write_gates(
 {
     let mut inputs: usize = 0;
     let mut outputs: usize = 0;
-    let mut g: usize = 0;
-    while g < n {
+    for g in 0..n {
         let kind = word(circuit, kinds + g);
         let place = word(circuit, kinds + n + g);
         let entry = at(entries, g);
@@ -89,7 +88,6 @@ fn write_gates(
         put(cells, base + g, gate);
         inputs += inputs_of(circuit, kinds, g);
         outputs += outputs_of(circuit, kinds, g);
-        g += 1;
     }
 }
 
@@ -101,12 +99,10 @@ fn write_outputs(circuit: &[u8], kinds: usize, n: usize, cells: &mut [usize], ba
     ensures { cells.new ≡ sets cells.old base (joined (listed n (output_cells (words circuit.now) kinds))) }
 {
     let mut done: usize = 0;
-    let mut g: usize = 0;
-    while g < n {
+    for g in 0..n {
         let outputs = outputs_of(circuit, kinds, g);
         fill(cells, base + done, outputs, g);
         done += outputs;
-        g += 1;
     }
 }
 
@@ -117,10 +113,8 @@ pub fn count_outputs(circuit: &[u8], kinds: usize, n: usize) -> usize
     ensures { result ≡ below (outs_at (words circuit.now) kinds) n }
 {
     let mut outputs: usize = 0;
-    let mut g: usize = 0;
-    while g < n {
+    for g in 0..n {
         outputs += outputs_of(circuit, kinds, g);
-        g += 1;
     }
     outputs
 }

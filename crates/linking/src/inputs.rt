@@ -73,12 +73,10 @@ fn copy_named(
     requires near_5 { Near base }
     ensures { cells.new ≡ written cells.old base n (λ k. named_word (words circuit.now) named count (get_or (words circuit.now) (first + k) 0)) }
 {
-    let mut k: usize = 0;
-    while k < n {
+    for k in 0..n {
         let name = word(circuit, first + k);
         let v = word_named(circuit, named, count, name);
         put(cells, base + k, v);
-        k += 1;
     }
 }
 
@@ -113,12 +111,10 @@ fn write_inputs(
     ensures { cells.new ≡ sets cells.old base (joined (listed n (input_cells (words circuit.now) kinds sources))) }
 {
     let mut done: usize = 0;
-    let mut g: usize = 0;
-    while g < n {
+    for g in 0..n {
         let kind = words::read(circuit, kinds + g);
         write_inputs_of(circuit, kind, sources + done, g, cells, base + done);
         done += inputs_of(circuit, kinds, g);
-        g += 1;
     }
 }
 
@@ -137,11 +133,9 @@ fn write_inputs_of(
     ensures { cells.new ≡ written cells.old base (length (kind_at kind).ins) (λ p. input_cell kind g (get_or (words circuit.now) (sources + p) 0) p) }
 {
     let n = kinds::inputs(kind);
-    let mut p: usize = 0;
-    while p < n {
+    for p in 0..n {
         let source = words::read(circuit, sources + p);
         put(cells, base + p, input_cell(kind, g, source, p));
-        p += 1;
     }
 }
 

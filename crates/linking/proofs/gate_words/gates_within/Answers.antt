@@ -1,4 +1,4 @@
-use Prim.Native.Nat.{◌+◌, ◌-◌}
+use Prim.Native.Nat.{◌+◌}
 use mathlib.Core.Path.{refl}
 use borrow.Author.Rules.{rules}
 use lib.ListN.{get_or}
@@ -11,14 +11,14 @@ use Rattle.linking.proofs.gate_words.gates_within.Goals as goal
 -- `gates_within` meets its contract. The loop: the word has the bits of the gates below g, and so is less than bit g.
 
 pub loop-g-init : goal.loop-g-init
-loop-g-init c = (search rules, below_first _ 0 refl)
+loop-g-init c = below_first _ 0 refl
 
 pub overflow_add-gates : goal.overflow_add-gates
-overflow_add-gates c = let q = bits_fit _ _ (λ h. get_or (words c.args.circuit.now) (c.args.kinds + h) 0) _ _ _ _ (search rules) c.loop-g.invariant.1 c.read-kind.ensures c.gate_bit-gates.ensures in record { fits = q }
+overflow_add-gates c = let q = bits_fit _ _ (λ h. get_or (words c.args.circuit.now) (c.args.kinds + h) 0) _ _ _ _ (search rules) c.loop-g.invariant c.read-kind.ensures c.gate_bit-gates.ensures in record { fits = q }
 
 pub loop-g-preserved : goal.loop-g-preserved
-loop-g-preserved c = (search rules, bits_next _ _ (λ h. get_or (words c.args.circuit.now) (c.args.kinds + h) 0) _ _ _ _ c.loop-g.invariant.1 c.read-kind.ensures c.gate_bit-gates.ensures)
+loop-g-preserved c = bits_next _ _ (λ h. get_or (words c.args.circuit.now) (c.args.kinds + h) 0) _ _ _ _ c.loop-g.invariant c.read-kind.ensures c.gate_bit-gates.ensures
 
 pub returns : goal.returns
 unfolding bits_of
-returns c = below_last _ _ _ _ c.loop-g.invariant.1 c.loop-g.invariant.0 c.loop-g-test.false
+returns c = below_last _ _ _ _ c.loop-g.invariant c.loop-g.auto.g-end c.loop-g-test.false

@@ -1,4 +1,4 @@
-use Prim.Native.Nat.{◌+◌, ◌-◌, ◌≤◌}
+use Prim.Native.Nat.{◌+◌}
 use mathlib.Core.Path.{◌≡◌}
 use lib.ListN.{get_or}
 use Rattle.words.specs.Words.{words}
@@ -6,7 +6,4 @@ use Rattle.linking.specs.Building.{below, gate_bit}
 use Rattle.linking.proofs.gate_words.gates_within.Given as goal
 
 abbrev pub invariant-loop-g : goal.invariant-loop-g
-invariant-loop-g l = (l.g ≤ l.n) × (l.gates ≡ below (λ h. gate_bit l.low l.high (get_or (words l.circuit) (l.kinds + h) 0) h) l.g)
-
-abbrev pub decreases-loop-g : goal.decreases-loop-g
-decreases-loop-g l = l.n - l.g
+invariant-loop-g l = l.gates ≡ below (λ h. gate_bit l.low l.high (get_or (words l.circuit) (l.kinds + h) 0) h) l.g

@@ -1,16 +1,13 @@
-use Prim.Native.Nat.{◌+◌, ◌-◌, ◌≤◌}
+use Prim.Native.Nat.{◌+◌, ◌-◌}
 use mathlib.Core.List.{map}
 use mathlib.Core.Path.{◌≡◌}
 use lib.Seq.{sets}
-use lib.ListN.{length}
 use Rattle.words.specs.Words.{words}
 use Rattle.model.specs.Base.{from}
 use Rattle.linking.specs.Building.{written, below, ins_at, outs_at, gate_cell}
 use Rattle.linking.proofs.gates.write_gates.Given as goal
 
 abbrev pub invariant-loop-g : goal.invariant-loop-g
-invariant-loop-g l = (length l.cells ≡ length l.initial.cells) × (l.g ≤ l.n) × (l.inputs ≡ below (ins_at (words l.circuit) l.kinds) l.g) × (l.outputs ≡ below (outs_at (words l.circuit) l.kinds) l.g)
+invariant-loop-g l = (l.inputs ≡ below (ins_at (words l.circuit) l.kinds) l.g)
+    × (l.outputs ≡ below (outs_at (words l.circuit) l.kinds) l.g)
     × (sets l.cells (l.base + l.g) (map (gate_cell (words l.circuit) l.kinds l.n l.entries) (from l.g (l.n - l.g))) ≡ written l.initial.cells l.base l.n (gate_cell (words l.circuit) l.kinds l.n l.entries))
-
-abbrev pub decreases-loop-g : goal.decreases-loop-g
-decreases-loop-g l = l.n - l.g

@@ -1,8 +1,7 @@
-use Prim.Native.Nat.{◌+◌, ◌-◌, ◌≤◌}
+use Prim.Native.Nat.{◌+◌, ◌-◌}
 use mathlib.Core.List.{map}
 use mathlib.Core.Path.{◌≡◌}
 use lib.Seq.{sets}
-use lib.ListN.{length}
 use Rattle.words.specs.Words.{words}
 use Rattle.model.specs.Base.{joined, from}
 use Rattle.linking.specs.Building.{below, ins_at, input_cells}
@@ -10,8 +9,5 @@ use Rattle.links.specs.Links.{listed}
 use Rattle.linking.proofs.inputs.write_inputs.Given as goal
 
 abbrev pub invariant-loop-g : goal.invariant-loop-g
-invariant-loop-g l = (length l.cells ≡ length l.initial.cells) × (l.g ≤ l.n) × (l.done ≡ below (ins_at (words l.circuit) l.kinds) l.g)
+invariant-loop-g l = (l.done ≡ below (ins_at (words l.circuit) l.kinds) l.g)
     × (sets l.cells (l.base + l.done) (joined (map (input_cells (words l.circuit) l.kinds l.sources) (from l.g (l.n - l.g)))) ≡ sets l.initial.cells l.base (joined (listed l.n (input_cells (words l.circuit) l.kinds l.sources))))
-
-abbrev pub decreases-loop-g : goal.decreases-loop-g
-decreases-loop-g l = l.n - l.g
