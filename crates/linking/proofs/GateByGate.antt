@@ -11,8 +11,7 @@ use lib.Dec.{eqb}
 use lib.ListN.{length, get_or}
 use lib.Seq.{sets}
 use Rattle.model.specs.Base.{if◌then◌otherwise◌}
-use Rattle.model.specs.Value.{bit}
-use Rattle.model.specs.Kinds.{In, value, kind_at, kinds_opened}
+use Rattle.model.specs.Kinds.{In, kind_at, kinds_opened}
 use Rattle.model.specs.Circuit.{minus_one, source_of, has_source, is_watched}
 use Rattle.kinds.specs.declared.Pin.{Pin}
 use Rattle.kinds.specs.declared.Pin.TheVariants.{Exec, ExecOnly, Value, Watched, Route, Anything, Ticks, Seconds, Variable, Channel, Loop}
@@ -146,9 +145,3 @@ watched_never Seconds i w e t = rw (← e)
 watched_never Variable i w e t = rw (← e)
 watched_never Channel i w e t = rw (← e)
 watched_never Loop i w e t = rw (← e)
-
--- the cell, from the answer of `watched`
-pub input_is : (kind g source p v n : ℕ) (t b : Bool) → t ≡ is_watched (get_or (kind_at kind).ins p value) (source_of source) → t ≡ b → n ≡ bit b → v ≡ packed g n 0 0 → v ≡ input_cell kind g source p
-unfolding input_cell
-input_is kind g source p v n t b e d m q =
-    q ∙ ap (λ (x : ℕ). packed g x 0 0) (m ∙ ap (λ (x : Bool). bit x) (sym d ∙ e))

@@ -111,12 +111,6 @@ two_words_fit ws kinds n a b h ea eb =
 
 -- ---- one store after the other
 
-pub put_is : (l l₁ : List ℕ) (i v w : ℕ) → v ≡ w → l₁ ≡ set l i v → l₁ ≡ set l i w
-put_is l l₁ i v w e q = q ∙ ap (λ (x : ℕ). set l i x) e
-
-pub put_sum : (l l₁ : List ℕ) (i a b v w : ℕ) → a ≡ v → b ≡ w → l₁ ≡ set l i (a + b) → l₁ ≡ set l i (v + w)
-put_sum l l₁ i a b v w e d q = rw (q, e, d)
-
 pub four_stored : (l l₁ l₂ l₃ l₄ : List ℕ) (a b c d : ℕ) → l₁ ≡ set l 0 a → l₂ ≡ set l₁ 1 b → l₃ ≡ set l₂ 2 c → l₄ ≡ set l₃ 3 d → l₄ ≡ sets l 0 (a ∷ b ∷ c ∷ d ∷ [])
 four_stored l l₁ l₂ l₃ l₄ a b c d e₁ e₂ e₃ e₄ = rw (e₄, e₃, e₂, e₁)
 

@@ -1,6 +1,6 @@
 // Words of a circuit and cells of the links: reading one, writing one, writing several in a row.
 ghost use Rattle.words.specs.Words.{words};
-ghost use Rattle.std.specs.Prelude.{◌≡◌, ◌+◌, get_or, set};
+ghost use Rattle.std.specs.Prelude.{◌≡◌, ℕ, ◌<◌, get_or, set};
 ghost use Rattle.links.specs.Links.{packed};
 ghost use Rattle.links.specs.Lent.{Short};
 ghost use Rattle.linking.specs.Building.{written};
@@ -19,42 +19,28 @@ pub fn word(circuit: &[u8], i: usize) -> usize
 pub fn at(cells: &[usize], i: usize) -> usize
     ensures { result ≡ get_or cells.now i 0 }
 {
-    if i < cells.len() {
-        return cells[i];
-    }
-    0
+    cells.get(i).copied().unwrap_or(0)
 }
 
 // Cell i becomes v. Where there is no cell i, nothing changes.
 pub fn put(cells: &mut [usize], i: usize, v: usize)
     ensures { cells.new ≡ set cells.old i v }
 {
+    // Stays: of what `get_mut` lent, a proof knows the length when it comes back, and no cell.
     if i < cells.len() {
         cells[i] = v;
     }
 }
 
-// n cells, from cell `base` on, become v.
-pub fn fill(cells: &mut [usize], base: usize, n: usize, v: usize)
+// n cells, from cell `base` on, become f(0), f(1), ..
+pub fn write_each<F: Fn(usize) -> usize>(cells: &mut [usize], base: usize, n: usize, f: F)
     requires near { Near base }
     requires near_2 { Near n }
-    ensures { cells.new ≡ written cells.old base n (λ k. v) }
+    requires callable { (k : ℕ) → k < n → F.pre f k }
+    ensures { (v : ℕ → ℕ) → ((k r : ℕ) → k < n → F.post f k r → r ≡ v k) → cells.new ≡ written cells.old base n v }
 {
     for k in 0..n {
-        put(cells, base + k, v);
-    }
-}
-
-// n cells, from cell `base` on, become the words of the circuit from word `first` on.
-pub fn copy(circuit: &[u8], first: usize, n: usize, cells: &mut [usize], base: usize)
-    requires near { Near first }
-    requires near_2 { Near n }
-    requires near_3 { Near base }
-    ensures { cells.new ≡ written cells.old base n (λ k. get_or (words circuit.now) (first + k) 0) }
-{
-    for k in 0..n {
-        let v = word(circuit, first + k);
-        put(cells, base + k, v);
+        put(cells, base + k, f(k));
     }
 }
 

@@ -1,6 +1,6 @@
 // The words of gates: bit g is set where gate g is of some kinds.
 ghost use Rattle.words.specs.Words.{words};
-ghost use Rattle.std.specs.Prelude.{◌≡◌, ◌+◌, ◌<◌, ◌≤◌, set};
+ghost use Rattle.std.specs.Prelude.{◌≡◌, ◌<◌, ◌≤◌};
 ghost use Rattle.std.proofs.lemmas.List.Edits.{sets};
 ghost use Rattle.model.specs.Circuit.{most_gates};
 ghost use Rattle.linking.specs.Building.{gate_bit, bits_of, word_cells};
@@ -16,56 +16,17 @@ pub fn write_words(circuit: &[u8], kinds: usize, n: usize, cells: &mut [usize])
     requires n_le_most_gates { n ≤ most_gates }
     ensures { cells.new ≡ sets cells.old 4 (word_cells (words circuit.now) kinds n) }
 {
-    put_gates(
-        circuit,
-        kinds,
-        n,
-        DELTA_TIME,
-        SERVER_UPTIME,
-        cells,
-        TIME_SOURCES,
-    );
-    put_buffers(circuit, kinds, n, cells, BUFFERS);
-    put_gates(circuit, kinds, n, CLOCK, CLOCK, cells, CLOCKS);
-    put_gates(circuit, kinds, n, STOPWATCH, STOPWATCH, cells, STOPWATCHES);
-    put_gates(
-        circuit,
-        kinds,
-        n,
-        EVENT_CUSTOM,
-        EVENT_CUSTOM_GLOBAL,
-        cells,
-        RECEIVERS,
-    );
-}
-
-// Cell i becomes the word of the buffers and Queues.
-fn put_buffers(circuit: &[u8], kinds: usize, n: usize, cells: &mut [usize], i: usize)
-    requires near { Near kinds }
-    requires n_le_most_gates { n ≤ most_gates }
-    ensures { cells.new ≡ set cells.old i (bits_of (words circuit.now) kinds n 10 13 + bits_of (words circuit.now) kinds n 16 17) }
-{
+    let time_sources = gates_within(circuit, kinds, n, DELTA_TIME, SERVER_UPTIME);
     let buffers = gates_within(circuit, kinds, n, BUFFER_TICKS, BUFFER_SECONDS_EXEC);
     let queues = gates_within(circuit, kinds, n, QUEUE_IN_TICKS, QUEUE_IN_SECONDS);
-    put(cells, i, buffers + queues);
-}
-
-// Cell i becomes the word of the gates whose kind is one of low to high.
-fn put_gates(
-    circuit: &[u8],
-    kinds: usize,
-    n: usize,
-    low: u64,
-    high: u64,
-    cells: &mut [usize],
-    i: usize,
-)
-    requires near { Near kinds }
-    requires n_le_most_gates { n ≤ most_gates }
-    ensures { cells.new ≡ set cells.old i (bits_of (words circuit.now) kinds n low high) }
-{
-    let gates = gates_within(circuit, kinds, n, low, high);
-    put(cells, i, gates);
+    let clocks = gates_within(circuit, kinds, n, CLOCK, CLOCK);
+    let stopwatches = gates_within(circuit, kinds, n, STOPWATCH, STOPWATCH);
+    let receivers = gates_within(circuit, kinds, n, EVENT_CUSTOM, EVENT_CUSTOM_GLOBAL);
+    put(cells, TIME_SOURCES, time_sources);
+    put(cells, BUFFERS, buffers + queues);
+    put(cells, CLOCKS, clocks);
+    put(cells, STOPWATCHES, stopwatches);
+    put(cells, RECEIVERS, receivers);
 }
 
 // A word of n gates, whose kinds are the words from word `kinds` on: bit g is set where the kind of gate g is one of low to high.

@@ -8,7 +8,7 @@ ghost use Rattle.links.specs.Links.{listed, most_constants};
 ghost use Rattle.linking.specs.Building.{written, below, Small, Gates, ins_at, outs_at, gate_cell, output_cells, gates_written};
 ghost use Rattle.linking.specs.Lent.{Near};
 
-use crate::cells::{at, fill, pack, put, word};
+use crate::cells::{at, pack, put, word, write_each};
 use crate::entries::find_entries;
 use crate::gate_words::write_words;
 use links::layout::*;
@@ -101,7 +101,7 @@ fn write_outputs(circuit: &[u8], kinds: usize, n: usize, cells: &mut [usize], ba
     let mut done: usize = 0;
     for g in 0..n {
         let outputs = outputs_of(circuit, kinds, g);
-        fill(cells, base + done, outputs, g);
+        write_each(cells, base + done, outputs, move |_| g);
         done += outputs;
     }
 }

@@ -11,7 +11,7 @@ ghost use Rattle.linking.specs.Building.{written, named_word, input_cell, input_
 ghost use Rattle.linking.specs.Lent.{Near};
 
 use crate::CONSTANTS;
-use crate::cells::{copy, pack, put, word};
+use crate::cells::{pack, word, write_each};
 use crate::gates::inputs_of;
 use kinds::{Pin, pin_at};
 use links::layout::*;
@@ -34,50 +34,19 @@ pub fn link_inputs(
     ensures { cells.new ≡ inputs_written (words circuit.now) kinds gates sources inputs constants cells.old }
 {
     let stored = sources + inputs;
-    copy(circuit, sources, inputs, cells, SOURCES);
-    copy_named(
-        circuit,
-        stored,
-        inputs,
-        CONSTANTS,
-        constants,
-        cells,
-        STORED_KINDS,
-    );
-    copy_named(
-        circuit,
-        stored,
-        inputs,
-        CONSTANTS + constants,
-        constants,
-        cells,
-        STORED_CONTENTS,
-    );
+    write_each(cells, SOURCES, inputs, |i| word(circuit, sources + i));
+    write_each(cells, STORED_KINDS, inputs, |i| {
+        word_named(circuit, CONSTANTS, constants, word(circuit, stored + i))
+    });
+    write_each(cells, STORED_CONTENTS, inputs, |i| {
+        word_named(
+            circuit,
+            CONSTANTS + constants,
+            constants,
+            word(circuit, stored + i),
+        )
+    });
     write_inputs(circuit, kinds, gates, sources, cells, INPUTS);
-}
-
-// n cells, from cell `base` on, become the words whose names are the words of the circuit from word `first` on.
-fn copy_named(
-    circuit: &[u8],
-    first: usize,
-    n: usize,
-    named: usize,
-    count: usize,
-    cells: &mut [usize],
-    base: usize,
-)
-    requires near { Near first }
-    requires near_2 { Near n }
-    requires near_3 { Near named }
-    requires near_4 { Near count }
-    requires near_5 { Near base }
-    ensures { cells.new ≡ written cells.old base n (λ k. named_word (words circuit.now) named count (get_or (words circuit.now) (first + k) 0)) }
-{
-    for k in 0..n {
-        let name = word(circuit, first + k);
-        let v = word_named(circuit, named, count, name);
-        put(cells, base + k, v);
-    }
 }
 
 // The word of name k, where `count` words from word `named` on are named from 1 on. No other name has one.
@@ -132,11 +101,9 @@ fn write_inputs_of(
     requires near_2 { Near base }
     ensures { cells.new ≡ written cells.old base (length (kind_at kind).ins) (λ p. input_cell kind g (get_or (words circuit.now) (sources + p) 0) p) }
 {
-    let n = kinds::inputs(kind);
-    for p in 0..n {
-        let source = words::read(circuit, sources + p);
-        put(cells, base + p, input_cell(kind, g, source, p));
-    }
+    write_each(cells, base, kinds::inputs(kind), |p| {
+        input_cell(kind, g, words::read(circuit, sources + p), p)
+    });
 }
 
 // The cell of input p of gate g, of this kind: the gate, and whether the input is watched.
@@ -144,10 +111,7 @@ fn input_cell(kind: u64, g: usize, source: u64, p: usize) -> usize
     requires { Short g }
     ensures { result ≡ input_cell kind g source p }
 {
-    if watched(kind, source, p) {
-        return pack(g, 1, 0, 0);
-    }
-    pack(g, 0, 0, 0)
+    pack(g, usize::from(watched(kind, source, p)), 0, 0)
 }
 
 // Whether input p of a gate of this kind is watched, by the word of its source.

@@ -10,7 +10,7 @@ ghost use Rattle.links.specs.Links.{cells, most_constants};
 ghost use Rattle.links.specs.Lent.{Linked};
 ghost use Rattle.linking.specs.Building.{below, Small, ins_at, constants_written, all_written};
 
-use crate::cells::{copy, fill, word};
+use crate::cells::{word, write_each};
 use crate::gates::{count_outputs, link_gates};
 use crate::inputs::link_inputs;
 use crate::lists::link_lists;
@@ -64,7 +64,7 @@ fn link_all(
     let sources = kinds + 2 * gates;
     let callers = sources + 2 * inputs;
     let outputs = count_outputs(circuit, kinds, gates);
-    fill(cells, 0, CELLS, 0);
+    write_each(cells, 0, CELLS, |_| 0);
     link_gates(
         circuit,
         kinds,
@@ -85,12 +85,16 @@ fn link_constants(circuit: &[u8], constants: usize, cells: &mut [usize])
     requires { constants ≤ most_constants }
     ensures { cells.new ≡ constants_written (words circuit.now) constants cells.old }
 {
-    copy(circuit, CONSTANTS, constants, cells, CONSTANT_KINDS);
-    copy(
-        circuit,
-        CONSTANTS + constants,
+    write_each(
+        cells,
+        CONSTANT_KINDS,
         constants,
+        |k| word(circuit, CONSTANTS + k),
+    );
+    write_each(
         cells,
         CONSTANT_CONTENTS,
+        constants,
+        |k| word(circuit, CONSTANTS + constants + k),
     );
 }

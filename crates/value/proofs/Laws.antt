@@ -54,16 +54,6 @@ unfolding bit float_of_int if◌then◌otherwise◌ round to_bits of_int
 bit_float false b e = rw (← e) refl
 bit_float true b e = rw (← e) refl
 
--- ---- value_of
-
--- any kind that is not 0, 1 or 2 is a Bool's
-pub other_kind : (k b : ℕ) → (k ≡ 0 → ⊥) → (k ≡ 1 → ⊥) → (k ≡ 2 → ⊥) → Truth (not (eqb b 0)) ≡ value_of k b
-unfolding value_of
-other_kind zero b f g h = absurd (f refl)
-other_kind (suc zero) b f g h = absurd (g refl)
-other_kind (suc (suc zero)) b f g h = absurd (h refl)
-other_kind (suc (suc (suc k))) b f g h = refl
-
 -- ---- same
 
 -- equal kinds, and then equal contents: a Float's as floats

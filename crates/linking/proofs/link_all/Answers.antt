@@ -1,4 +1,5 @@
 use native.Mathlib.Omega.{arith}
+use borrow.Author.Rules.{rules}
 use Rattle.words.specs.Words.{words}
 use Rattle.linking.proofs.Leaves.{all_are}
 use Rattle.linking.proofs.GateByGate.{outs_below}
@@ -29,4 +30,4 @@ link_lists-requires c =
 pub returns : goal.returns
 returns c =
     all_are (words c.args.circuit.now) _ _ _ _ _ c.args.cells.now _ _ _ _ _
-    c.count_outputs-outputs.ensures c.fill.ensures c.link_gates.ensures c.link_inputs.ensures c.link_lists.ensures c.link_constants.ensures
+    c.count_outputs-outputs.ensures (c.write_each.ensures (λ k. 0) (λ k r h p. search rules)) c.link_gates.ensures c.link_inputs.ensures c.link_lists.ensures c.link_constants.ensures

@@ -1,3 +1,4 @@
+use borrow.Author.Rules.{rules}
 use mathlib.Core.Path.{refl}
 use native.Mathlib.Omega.{arith}
 use Rattle.linking.proofs.GateByGate.{outs_below, outs_small, outputs_size, outputs_are}
@@ -12,11 +13,11 @@ loop-g-init c = (below_first _ 0 refl, parts_first _ _ _ _)
 pub overflow_add-base : goal.overflow_add-base
 overflow_add-base c = let a = outs_below _ _ _ _ c.loop-g.invariant.0 in omega arith
 
-pub fill-requires : goal.fill-requires
-fill-requires c =
-    let a = outs_below _ _ _ _ c.loop-g.invariant.0 in
-    let b = outs_small _ _ _ _ c.outputs_of-outputs.ensures in
-    record { near = omega arith; near_2 = omega arith }
+pub write_each-requires-clause-near : goal.write_each-requires-clause-near
+write_each-requires-clause-near c = let a = outs_below _ _ _ _ c.loop-g.invariant.0 in omega arith
+
+pub write_each-requires-clause-near_2 : goal.write_each-requires-clause-near_2
+write_each-requires-clause-near_2 c = let b = outs_small _ _ _ _ c.outputs_of-outputs.ensures in omega arith
 
 pub overflow_add-done : goal.overflow_add-done
 overflow_add-done c =
@@ -25,7 +26,7 @@ overflow_add-done c =
     omega arith
 
 pub loop-g-preserved : goal.loop-g-preserved
-loop-g-preserved c = (below_next _ _ _ _ c.loop-g.invariant.0 c.outputs_of-outputs.ensures, parts_next _ _ _ _ _ _ _ _ _ c.loop-g-test.true (outputs_size _ _ _ _ c.outputs_of-outputs.ensures) (outputs_are _ _ _ _ _ _ _ c.outputs_of-outputs.ensures c.fill.ensures) c.loop-g.invariant.1)
+loop-g-preserved c = (below_next _ _ _ _ c.loop-g.invariant.0 c.outputs_of-outputs.ensures, parts_next _ _ _ _ _ _ _ _ _ c.loop-g-test.true (outputs_size _ _ _ _ c.outputs_of-outputs.ensures) (outputs_are _ _ _ _ _ _ _ c.outputs_of-outputs.ensures (c.write_each.ensures (λ p. c.loop-g.g) (λ k r h p. search rules))) c.loop-g.invariant.1)
 
 pub returns : goal.returns
 returns c = parts_last _ _ _ _ _ _ _ c.loop-g-test.false c.loop-g.invariant.1
