@@ -1,44 +1,39 @@
 // The entries of Loops: each gate's is the first entry that names it, and 0 where there is none.
 ghost use Rattle.std.specs.Prelude.{◌≡◌, ◌≤◌};
 ghost use Rattle.words.specs.Words.{words};
-ghost use Rattle.model.specs.Circuit.{most_gates};
 ghost use Rattle.links.specs.Links.{most_constants};
 ghost use Rattle.linking.specs.Building.{below, ins_at, value_named, gate_of, gate_named, named_by, entered};
 ghost use Rattle.linking.specs.Lent.{Near};
 
 use crate::CONSTANTS;
 use crate::cells::{put, word};
-use crate::gates::inputs_of;
+use crate::gates::{GateTable, inputs_of};
 use crate::inputs::word_named;
 use kinds::numbers::LOOP_ENTRY;
 use links::layout::MOST_GATES;
 use model::Value;
 use value::value_of;
 
-// Writes each of n gates down at the gate that it names, from the last down, so that the first one counts. The names of the constants in all their inputs are the
+// Writes each of the gates down at the gate that it names, from the last down, so that the first one counts. The names of the constants in all their inputs are the
 // words from word `stored` on.
 pub fn find_entries(
-    circuit: &[u8],
-    kinds: usize,
-    n: usize,
+    gates: GateTable,
     stored: usize,
     inputs: usize,
     constants: usize,
     entries: &mut [usize],
 )
-    requires near { Near kinds }
-    requires n_le_most_gates { n ≤ most_gates }
-    requires near_2 { Near stored }
-    requires inputs_value { inputs ≡ below (ins_at (words circuit.now) kinds) n }
+    requires near { Near stored }
+    requires inputs_value { inputs ≡ below (ins_at (words gates.circuit.now) gates.kinds) gates.count }
     requires constants_le_most_constants { constants ≤ most_constants }
-    ensures { entries.new ≡ entered (named_by (words circuit.now) kinds stored constants) n entries.old }
+    ensures { entries.new ≡ entered (named_by (words gates.entry.circuit.now) gates.entry.kinds stored constants) gates.entry.count entries.old }
 {
     let mut i = inputs;
-    for e in (0..n).rev() {
-        i -= inputs_of(circuit, kinds, e);
-        let kind = words::read(circuit, kinds + e);
-        let name = word(circuit, stored + i);
-        let v = value_named(circuit, constants, name);
+    for e in (0..gates.count).rev() {
+        i -= inputs_of(gates, e);
+        let kind = words::read(gates.circuit, gates.kinds + e);
+        let name = word(gates.circuit, stored + i);
+        let v = value_named(gates.circuit, constants, name);
         put(entries, gate_named(kind, v), e);
     }
 }

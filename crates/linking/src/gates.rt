@@ -13,40 +13,38 @@ use crate::entries::find_entries;
 use crate::gate_words::write_words;
 use links::layout::*;
 
+// The gates of a circuit: their kinds are the words from word `kinds` on, and the words of their ranks and bodies stand behind these.
+#[derive(Clone, Copy)]
+pub struct GateTable<'a> {
+    pub circuit: &'a [u8],
+    pub kinds: usize,
+    pub count: usize,
+    ghost near: { kinds ≤ 32768 },
+    ghost few: { count ≤ most_gates },
+}
+
 // The tables of counts, gates and outputs.
 pub fn link_gates(
-    circuit: &[u8],
-    kinds: usize,
-    gates: usize,
+    gates: GateTable,
     stored: usize,
     constants: usize,
     inputs: usize,
     outputs: usize,
     cells: &mut [usize],
 )
-    requires kinds_bound { kinds ≤ 32768 }
-    requires gates_le_most_gates { gates ≤ most_gates }
     requires stored_bound { stored ≤ 32768 }
     requires constants_le_most_constants { constants ≤ most_constants }
-    requires inputs_value { inputs ≡ below (ins_at (words circuit.now) kinds) gates }
-    requires small { Small (words circuit.now) kinds gates 256 }
-    requires small_2 { Small (words circuit.now) (kinds + gates) gates 16777216 }
-    ensures { cells.new ≡ gates_written (words circuit.now) kinds gates stored constants inputs outputs cells.old }
+    requires inputs_value { inputs ≡ below (ins_at (words gates.circuit.now) gates.kinds) gates.count }
+    requires small { Small (words gates.circuit.now) gates.kinds gates.count 256 }
+    requires small_2 { Small (words gates.circuit.now) (gates.kinds + gates.count) gates.count 16777216 }
+    ensures { cells.new ≡ gates_written (words gates.entry.circuit.now) gates.entry.kinds gates.entry.count stored constants inputs outputs cells.old }
 {
     let mut entries = [0usize; MOST_GATES];
-    find_entries(
-        circuit,
-        kinds,
-        gates,
-        stored,
-        inputs,
-        constants,
-        &mut entries,
-    );
-    write_counts(gates, constants, inputs, outputs, cells);
-    write_words(circuit, kinds, gates, cells);
-    write_gates(circuit, kinds, gates, &entries, cells, GATES);
-    write_outputs(circuit, kinds, gates, cells, OUTPUTS);
+    find_entries(gates, stored, inputs, constants, &mut entries);
+    write_counts(gates.count, constants, inputs, outputs, cells);
+    write_words(gates, cells);
+    write_gates(gates, &entries, cells, GATES);
+    write_outputs(gates, cells, OUTPUTS);
 }
 
 // The counts.
@@ -59,80 +57,65 @@ fn write_counts(gates: usize, constants: usize, inputs: usize, outputs: usize, c
     put(cells, OUTPUT_COUNT, outputs);
 }
 
-// n cells, from cell `base` on, become those of n gates: kind and body, rank, first input and entry, first output. The words of ranks and bodies stand behind the kinds.
-fn write_gates(
-    circuit: &[u8],
-    kinds: usize,
-    n: usize,
-    entries: &[usize],
-    cells: &mut [usize],
-    base: usize,
-)
-    requires near { Near kinds }
-    requires n_le_most_gates { n ≤ most_gates }
-    requires gates { Gates entries.now n }
-    requires near_2 { Near base }
-    requires small { Small (words circuit.now) kinds n 256 }
-    requires small_2 { Small (words circuit.now) (kinds + n) n 16777216 }
-    ensures { cells.new ≡ written cells.old base n (gate_cell (words circuit.now) kinds n entries.now) }
+// The cells from cell `base` on become those of the gates: kind and body, rank, first input and entry, first output.
+fn write_gates(gates: GateTable, entries: &[usize], cells: &mut [usize], base: usize)
+    requires gates { Gates entries.now gates.count }
+    requires near { Near base }
+    requires small { Small (words gates.circuit.now) gates.kinds gates.count 256 }
+    requires small_2 { Small (words gates.circuit.now) (gates.kinds + gates.count) gates.count 16777216 }
+    ensures { cells.new ≡ written cells.old base gates.entry.count (gate_cell (words gates.entry.circuit.now) gates.entry.kinds gates.entry.count entries.now) }
 {
     let mut inputs: usize = 0;
     let mut outputs: usize = 0;
-    for g in 0..n {
-        let kind = word(circuit, kinds + g);
-        let place = word(circuit, kinds + n + g);
+    for g in 0..gates.count {
+        let kind = word(gates.circuit, gates.kinds + g);
+        let place = word(gates.circuit, gates.kinds + gates.count + g);
         let entry = at(entries, g);
         let kind_and_body = kind + BODY * (place / RANKS);
         let input_and_entry = inputs + ENTRY * entry;
         let gate = pack(kind_and_body, place % RANKS, input_and_entry, outputs);
         put(cells, base + g, gate);
-        inputs += inputs_of(circuit, kinds, g);
-        outputs += outputs_of(circuit, kinds, g);
+        inputs += inputs_of(gates, g);
+        outputs += outputs_of(gates, g);
     }
 }
 
-// The cells from cell `base` on become those of the outputs of n gates: each output's gate.
-fn write_outputs(circuit: &[u8], kinds: usize, n: usize, cells: &mut [usize], base: usize)
-    requires near { Near kinds }
-    requires n_le_most_gates { n ≤ most_gates }
+// The cells from cell `base` on become those of the outputs of the gates: each output's gate.
+fn write_outputs(gates: GateTable, cells: &mut [usize], base: usize)
     requires base_bound { base ≤ 32768 }
-    ensures { cells.new ≡ sets cells.old base (joined (listed n (output_cells (words circuit.now) kinds))) }
+    ensures { cells.new ≡ sets cells.old base (joined (listed gates.entry.count (output_cells (words gates.entry.circuit.now) gates.entry.kinds))) }
 {
     let mut done: usize = 0;
-    for g in 0..n {
-        let outputs = outputs_of(circuit, kinds, g);
+    for g in 0..gates.count {
+        let outputs = outputs_of(gates, g);
         write_each(cells, base + done, outputs, move |_| g);
         done += outputs;
     }
 }
 
-// How many outputs n gates have.
-pub fn count_outputs(circuit: &[u8], kinds: usize, n: usize) -> usize
-    requires near { Near kinds }
-    requires n_le_most_gates { n ≤ most_gates }
-    ensures { result ≡ below (outs_at (words circuit.now) kinds) n }
+// How many outputs the gates have.
+pub fn count_outputs(gates: GateTable) -> usize
+    ensures { result ≡ below (outs_at (words gates.entry.circuit.now) gates.entry.kinds) gates.entry.count }
 {
     let mut outputs: usize = 0;
-    for g in 0..n {
-        outputs += outputs_of(circuit, kinds, g);
+    for g in 0..gates.count {
+        outputs += outputs_of(gates, g);
     }
     outputs
 }
 
-// How many inputs gate g has; the kinds of the gates are the words from word `kinds` on.
-pub fn inputs_of(circuit: &[u8], kinds: usize, g: usize) -> usize
-    requires near { Near kinds }
-    requires near_2 { Near g }
-    ensures { result ≡ ins_at (words circuit.now) kinds g }
+// How many inputs gate g has.
+pub fn inputs_of(gates: GateTable, g: usize) -> usize
+    requires near { Near g }
+    ensures { result ≡ ins_at (words gates.entry.circuit.now) gates.entry.kinds g }
 {
-    kinds::inputs(words::read(circuit, kinds + g))
+    kinds::inputs(words::read(gates.circuit, gates.kinds + g))
 }
 
 // How many outputs gate g has, likewise.
-fn outputs_of(circuit: &[u8], kinds: usize, g: usize) -> usize
-    requires near { Near kinds }
-    requires near_2 { Near g }
-    ensures { result ≡ outs_at (words circuit.now) kinds g }
+fn outputs_of(gates: GateTable, g: usize) -> usize
+    requires near { Near g }
+    ensures { result ≡ outs_at (words gates.entry.circuit.now) gates.entry.kinds g }
 {
-    kinds::outputs(words::read(circuit, kinds + g))
+    kinds::outputs(words::read(gates.circuit, gates.kinds + g))
 }

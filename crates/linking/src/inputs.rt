@@ -4,7 +4,7 @@ ghost use Rattle.std.specs.Prelude.{◌≡◌, ◌+◌, ◌≤◌, length, get_o
 ghost use Rattle.std.proofs.lemmas.List.Edits.{sets};
 ghost use Rattle.model.specs.Base.{joined};
 ghost use Rattle.model.specs.Kinds.{kind_at, value};
-ghost use Rattle.model.specs.Circuit.{is_watched, source_of, most_gates, most_inputs};
+ghost use Rattle.model.specs.Circuit.{is_watched, source_of, most_inputs};
 ghost use Rattle.links.specs.Links.{listed, most_constants};
 ghost use Rattle.links.specs.Lent.{Short};
 ghost use Rattle.linking.specs.Building.{written, named_word, input_cell, input_cells, inputs_written};
@@ -12,41 +12,42 @@ ghost use Rattle.linking.specs.Lent.{Near};
 
 use crate::CONSTANTS;
 use crate::cells::{pack, word, write_each};
-use crate::gates::inputs_of;
+use crate::gates::{GateTable, inputs_of};
 use kinds::{Pin, pin_at};
 use links::layout::*;
 
 // The tables of the inputs.
 pub fn link_inputs(
-    circuit: &[u8],
-    kinds: usize,
-    gates: usize,
+    gates: GateTable,
     sources: usize,
     inputs: usize,
     constants: usize,
     cells: &mut [usize],
 )
-    requires near { Near kinds }
-    requires gates_le_most_gates { gates ≤ most_gates }
     requires sources_bound { sources ≤ 32768 }
     requires inputs_le_most_inputs { inputs ≤ most_inputs }
     requires constants_le_most_constants { constants ≤ most_constants }
-    ensures { cells.new ≡ inputs_written (words circuit.now) kinds gates sources inputs constants cells.old }
+    ensures { cells.new ≡ inputs_written (words gates.entry.circuit.now) gates.entry.kinds gates.entry.count sources inputs constants cells.old }
 {
     let stored = sources + inputs;
-    write_each(cells, SOURCES, inputs, |i| word(circuit, sources + i));
+    write_each(cells, SOURCES, inputs, |i| word(gates.circuit, sources + i));
     write_each(cells, STORED_KINDS, inputs, |i| {
-        word_named(circuit, CONSTANTS, constants, word(circuit, stored + i))
+        word_named(
+            gates.circuit,
+            CONSTANTS,
+            constants,
+            word(gates.circuit, stored + i),
+        )
     });
     write_each(cells, STORED_CONTENTS, inputs, |i| {
         word_named(
-            circuit,
+            gates.circuit,
             CONSTANTS + constants,
             constants,
-            word(circuit, stored + i),
+            word(gates.circuit, stored + i),
         )
     });
-    write_inputs(circuit, kinds, gates, sources, cells, INPUTS);
+    write_inputs(gates, sources, cells, INPUTS);
 }
 
 // The word of name k, where `count` words from word `named` on are named from 1 on. No other name has one.
@@ -64,26 +65,17 @@ pub fn word_named(circuit: &[u8], named: usize, count: usize, k: usize) -> usize
     word(circuit, named + (k - 1))
 }
 
-// The cells from cell `base` on become those of the inputs of n gates, whose sources are the words from word `sources` on.
-fn write_inputs(
-    circuit: &[u8],
-    kinds: usize,
-    n: usize,
-    sources: usize,
-    cells: &mut [usize],
-    base: usize,
-)
-    requires near { Near kinds }
-    requires n_le_most_gates { n ≤ most_gates }
+// The cells from cell `base` on become those of the inputs of the gates, whose sources are the words from word `sources` on.
+fn write_inputs(gates: GateTable, sources: usize, cells: &mut [usize], base: usize)
     requires sources_bound { sources ≤ 32768 }
     requires base_bound { base ≤ 32768 }
-    ensures { cells.new ≡ sets cells.old base (joined (listed n (input_cells (words circuit.now) kinds sources))) }
+    ensures { cells.new ≡ sets cells.old base (joined (listed gates.entry.count (input_cells (words gates.entry.circuit.now) gates.entry.kinds sources))) }
 {
     let mut done: usize = 0;
-    for g in 0..n {
-        let kind = words::read(circuit, kinds + g);
-        write_inputs_of(circuit, kind, sources + done, g, cells, base + done);
-        done += inputs_of(circuit, kinds, g);
+    for g in 0..gates.count {
+        let kind = words::read(gates.circuit, gates.kinds + g);
+        write_inputs_of(gates.circuit, kind, sources + done, g, cells, base + done);
+        done += inputs_of(gates, g);
     }
 }
 

@@ -11,7 +11,7 @@ ghost use Rattle.links.specs.Lent.{Linked};
 ghost use Rattle.linking.specs.Building.{below, Small, ins_at, constants_written, all_written};
 
 use crate::cells::{word, write_each};
-use crate::gates::{count_outputs, link_gates};
+use crate::gates::{GateTable, count_outputs, link_gates};
 use crate::inputs::link_inputs;
 use crate::lists::link_lists;
 use links::layout::*;
@@ -63,19 +63,15 @@ fn link_all(
     let kinds = CONSTANTS + 2 * constants;
     let sources = kinds + 2 * gates;
     let callers = sources + 2 * inputs;
-    let outputs = count_outputs(circuit, kinds, gates);
-    write_each(cells, 0, CELLS, |_| 0);
-    link_gates(
+    let table = GateTable {
         circuit,
         kinds,
-        gates,
-        sources + inputs,
-        constants,
-        inputs,
-        outputs,
-        cells,
-    );
-    link_inputs(circuit, kinds, gates, sources, inputs, constants, cells);
+        count: gates,
+    };
+    let outputs = count_outputs(table);
+    write_each(cells, 0, CELLS, |_| 0);
+    link_gates(table, sources + inputs, constants, inputs, outputs, cells);
+    link_inputs(table, sources, inputs, constants, cells);
     link_lists(circuit, sources, inputs, callers, calls, outputs, cells);
     link_constants(circuit, constants, cells);
 }

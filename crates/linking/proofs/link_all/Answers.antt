@@ -7,9 +7,6 @@ use Rattle.linking.proofs.link_all.Goals as goal
 
 -- `link_all` meets its contract. The groups of tables in a row; 64 gates have at most 576 outputs.
 
-pub link_gates-requires-clause-gates_le_most_gates : goal.link_gates-requires-clause-gates_le_most_gates
-link_gates-requires-clause-gates_le_most_gates c = c.requires.gates_le_most_gates
-
 pub link_gates-requires-clause-constants_le_most_constants : goal.link_gates-requires-clause-constants_le_most_constants
 link_gates-requires-clause-constants_le_most_constants c = c.requires.constants_le_most_constants
 

@@ -13,11 +13,11 @@ use Rattle.linking.proofs.gate_words.gates_within.Goals as goal
 pub loop-g-init : goal.loop-g-init
 loop-g-init c = below_first _ 0 refl
 
-pub overflow_add-gates : goal.overflow_add-gates
-overflow_add-gates c = let q = bits_fit _ _ (λ h. get_or (words c.args.circuit.now) (c.args.kinds + h) 0) _ _ _ _ (search rules) c.loop-g.invariant c.read-kind.ensures c.gate_bit-gates.ensures in record { fits = q }
+pub overflow_add-found : goal.overflow_add-found
+overflow_add-found c = let q = bits_fit _ _ (λ h. get_or (words c.args.gates.circuit.now) (c.args.gates.kinds + h) 0) _ _ _ _ (search rules) c.loop-g.invariant c.read-kind.ensures c.gate_bit-found.ensures in record { fits = q }
 
 pub loop-g-preserved : goal.loop-g-preserved
-loop-g-preserved c = bits_next _ _ (λ h. get_or (words c.args.circuit.now) (c.args.kinds + h) 0) _ _ _ _ c.loop-g.invariant c.read-kind.ensures c.gate_bit-gates.ensures
+loop-g-preserved c = bits_next _ _ (λ h. get_or (words c.args.gates.circuit.now) (c.args.gates.kinds + h) 0) _ _ _ _ c.loop-g.invariant c.read-kind.ensures c.gate_bit-found.ensures
 
 pub returns : goal.returns
 unfolding bits_of

@@ -6,4 +6,4 @@ use Rattle.linking.specs.Building.{below, gate_bit}
 use Rattle.linking.proofs.gate_words.gates_within.Given as goal
 
 abbrev pub invariant-loop-g : goal.invariant-loop-g
-invariant-loop-g l = l.gates ≡ below (λ h. gate_bit l.low l.high (get_or (words l.circuit) (l.kinds + h) 0) h) l.g
+invariant-loop-g l = l.found ≡ below (λ h. gate_bit l.low l.high (get_or (words l.gates.circuit.now) (l.gates.kinds + h) 0) h) l.g

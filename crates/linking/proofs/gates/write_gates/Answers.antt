@@ -12,10 +12,10 @@ pub loop-g-init : goal.loop-g-init
 loop-g-init c = (below_first _ 0 refl, below_first _ 0 refl, cells_first _ _ _ _)
 
 pub overflow_mul-kind_and_body : goal.overflow_mul-kind_and_body
-overflow_mul-kind_and_body c = let p = word_small (words c.args.circuit.now) (c.args.kinds + c.args.n) _ _ _ _ c.requires.small_2 c.loop-g-test.true c.word-place.ensures in omega arith
+overflow_mul-kind_and_body c = let p = word_small (words c.args.gates.circuit.now) (c.args.gates.kinds + c.args.gates.count) _ _ _ _ c.requires.small_2 c.loop-g-test.true c.word-place.ensures in omega arith
 
 pub overflow_add-kind_and_body : goal.overflow_add-kind_and_body
-overflow_add-kind_and_body c = let p = word_small (words c.args.circuit.now) (c.args.kinds + c.args.n) _ _ _ _ c.requires.small_2 c.loop-g-test.true c.word-place.ensures in let k = word_small (words c.args.circuit.now) c.args.kinds _ _ _ _ c.requires.small c.loop-g-test.true c.word-kind.ensures in omega arith
+overflow_add-kind_and_body c = let p = word_small (words c.args.gates.circuit.now) (c.args.gates.kinds + c.args.gates.count) _ _ _ _ c.requires.small_2 c.loop-g-test.true c.word-place.ensures in let k = word_small (words c.args.gates.circuit.now) c.args.gates.kinds _ _ _ _ c.requires.small c.loop-g-test.true c.word-kind.ensures in omega arith
 
 pub overflow_mul-input_and_entry : goal.overflow_mul-input_and_entry
 overflow_mul-input_and_entry c = let e = entry_small c.args.entries.now _ _ _ c.requires.gates c.loop-g-test.true c.at-entry.ensures in omega arith
@@ -25,8 +25,8 @@ overflow_add-input_and_entry c = let e = entry_small c.args.entries.now _ _ _ c.
 
 pub pack-gate-requires : goal.pack-gate-requires
 pack-gate-requires c =
-    let p = word_small (words c.args.circuit.now) (c.args.kinds + c.args.n) _ _ _ _ c.requires.small_2 c.loop-g-test.true c.word-place.ensures in
-    let k = word_small (words c.args.circuit.now) c.args.kinds _ _ _ _ c.requires.small c.loop-g-test.true c.word-kind.ensures in
+    let p = word_small (words c.args.gates.circuit.now) (c.args.gates.kinds + c.args.gates.count) _ _ _ _ c.requires.small_2 c.loop-g-test.true c.word-place.ensures in
+    let k = word_small (words c.args.gates.circuit.now) c.args.gates.kinds _ _ _ _ c.requires.small c.loop-g-test.true c.word-kind.ensures in
     let e = entry_small c.args.entries.now _ _ _ c.requires.gates c.loop-g-test.true c.at-entry.ensures in
     let a = ins_below _ _ _ _ c.loop-g.invariant.0 in
     let b = outs_below _ _ _ _ c.loop-g.invariant.1 in

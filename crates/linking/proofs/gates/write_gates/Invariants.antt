@@ -8,6 +8,6 @@ use Rattle.linking.specs.Building.{written, below, ins_at, outs_at, gate_cell}
 use Rattle.linking.proofs.gates.write_gates.Given as goal
 
 abbrev pub invariant-loop-g : goal.invariant-loop-g
-invariant-loop-g l = (l.inputs ≡ below (ins_at (words l.circuit) l.kinds) l.g)
-    × (l.outputs ≡ below (outs_at (words l.circuit) l.kinds) l.g)
-    × (sets l.cells (l.base + l.g) (map (gate_cell (words l.circuit) l.kinds l.n l.entries) (from l.g (l.n - l.g))) ≡ written l.initial.cells l.base l.n (gate_cell (words l.circuit) l.kinds l.n l.entries))
+invariant-loop-g l = (l.inputs ≡ below (ins_at (words l.gates.circuit.now) l.gates.kinds) l.g)
+    × (l.outputs ≡ below (outs_at (words l.gates.circuit.now) l.gates.kinds) l.g)
+    × (sets l.cells (l.base + l.g) (map (gate_cell (words l.gates.circuit.now) l.gates.kinds l.gates.count l.entries) (from l.g (l.gates.count - l.g))) ≡ written l.initial.cells l.base l.gates.count (gate_cell (words l.gates.circuit.now) l.gates.kinds l.gates.count l.entries))

@@ -9,5 +9,5 @@ use Rattle.links.specs.Links.{listed}
 use Rattle.linking.proofs.gates.write_outputs.Given as goal
 
 abbrev pub invariant-loop-g : goal.invariant-loop-g
-invariant-loop-g l = (l.done ≡ below (outs_at (words l.circuit) l.kinds) l.g)
-    × (sets l.cells (l.base + l.done) (joined (map (output_cells (words l.circuit) l.kinds) (from l.g (l.n - l.g)))) ≡ sets l.initial.cells l.base (joined (listed l.n (output_cells (words l.circuit) l.kinds))))
+invariant-loop-g l = (l.done ≡ below (outs_at (words l.gates.circuit.now) l.gates.kinds) l.g)
+    × (sets l.cells (l.base + l.done) (joined (map (output_cells (words l.gates.circuit.now) l.gates.kinds) (from l.g (l.gates.count - l.g)))) ≡ sets l.initial.cells l.base (joined (listed l.gates.count (output_cells (words l.gates.circuit.now) l.gates.kinds))))
