@@ -15,9 +15,8 @@ use Rattle.model.specs.Kinds.{kind_at, pure}
 use Rattle.model.specs.Circuit.{Circuit, kind_of_gate, input, inputs_of, source, gate_at_output, gates}
 use Rattle.model.specs.Questions.{source_placed, place, place_on, question_6}
 use Rattle.model.proofs.Placing.{placed, place_on_suc, placed_length}
-use Rattle.links.specs.declared.Read.{Read}
-use Rattle.links.specs.declared.Read.TheVariants.{Output, Nothing as NoOutput}
-use Rattle.links.specs.Links.{output_read}
+use Rattle.std.specs.Prelude.{Option as Perhaps, Some, None}
+use Rattle.words.specs.Options.{option_of}
 use Rattle.circuit.specs.Gates.{word_of_bits, gates_where, gate_bit, source_bit, with_source, awaited, waits}
 use Rattle.circuit.proofs.Unplaced.{unplaced, gate_apart, all_apart, rounds_next, rounds_over, rounds_last}
 
@@ -67,16 +66,16 @@ module _ (c : Circuit) where
   -- ---- the code's ways to these words
 
   pub source_some :
-      (i o h b : ℕ) (r : Read) → output_read r ≡ source c i → r ≡ Output o → h ≡ gate_at_output c o → b ≡ gate_bit h → b ≡ source_bit c i
-  unfolding source_bit output_read
+      (i o h b : ℕ) (r : Perhaps ℕ) → option_of r ≡ source c i → r ≡ Some o → h ≡ gate_at_output c o → b ≡ gate_bit h → b ≡ source_bit c i
+  unfolding source_bit
   source_some i o h b r e er eh eb =
-      let q : source c i ≡ some o = sym e ∙ ap output_read er in
+      let q : source c i ≡ some o = sym e ∙ ap option_of er in
       rw (q, source_bit) (eb ∙ ap gate_bit eh)
 
-  pub source_none : (i : ℕ) (r : Read) → output_read r ≡ source c i → r ≡ NoOutput → 0 ≡ source_bit c i
-  unfolding source_bit output_read
+  pub source_none : (i : ℕ) (r : Perhaps ℕ) → option_of r ≡ source c i → r ≡ None → 0 ≡ source_bit c i
+  unfolding source_bit
   source_none i r e er =
-      let q : source c i ≡ none = sym e ∙ ap output_read er in
+      let q : source c i ≡ none = sym e ∙ ap option_of er in
       rw (q, source_bit)
 
   pub awaited_none : (g k : ℕ) (t : Bool) → k ≡ kind_of_gate c g → t ≡ pure k → not t ≡ true → 0 ≡ awaited c g

@@ -7,7 +7,6 @@ ghost use Rattle.links.specs.Lent.{Linked, net_of};
 ghost use Rattle.circuit.specs.Gates.{gates_where, source_bit, awaited};
 
 use crate::sets::{gate_bit, round, with_bit};
-use links::Read;
 use links::layout::MOST_GATES;
 
 // The word of the gate that input i reads; 0 where it reads none.
@@ -16,8 +15,8 @@ fn source_bit(links: &[usize], i: usize) -> u64
     ensures { result ≡ source_bit (net_of links.now) i }
 {
     match links::source(links, i) {
-        Read::Output(o) => gate_bit(links::gate_at_output(links, o)),
-        Read::Nothing => 0,
+        Some(o) => gate_bit(links::gate_at_output(links, o)),
+        None => 0,
     }
 }
 

@@ -3,7 +3,7 @@ use Prim.Native.Nat.{ℕ, zero, suc, ◌+◌, ◌-◌, ◌/◌, ◌%◌, ◌≤�
 use mathlib.Core.Path.{◌≡◌, refl, sym, ap, ap₂, ◌∙◌}
 use mathlib.Core.Bool.{true, false}
 use mathlib.Core.List.{List, [], ◌∷◌, map}
-use mathlib.Core.Option.{Option, none, some}
+use mathlib.Core.Option.{none, some}
 use native.Mathlib.Omega.{arith}
 use native.Mathlib.Numerals.{add-one}
 use lib.Dec.{eqb}
@@ -16,9 +16,7 @@ use Rattle.model.specs.declared.Value.TheVariants.{Nothing}
 use Rattle.model.specs.Value.{value_of}
 use Rattle.model.specs.Kinds.{In, value, Out, fires, kind_at}
 use Rattle.model.proofs.Lists.{map_from, from_length}
-use Rattle.links.specs.Links.{gates_at, sources_at, stored_kinds_at, stored_contents_at, inputs_at, outputs_at, rows_at, readers_at, calls_at, constant_kinds_at, constant_contents_at, entries, digit, listed, cell, gate_digit, gate_kind as kind_digit, gate_body as body_digit, gate_first, gate_entry, input_digit, row_digit, kind_in, net, row_at, first_reader, reader_count, reader_at, first_call, call_count, target, call_of, gates_of_word, output_read}
-use Rattle.links.specs.declared.Read.{Read}
-use Rattle.links.specs.declared.Read.TheVariants.{Output, Nothing as NoOutput}
+use Rattle.links.specs.Links.{gates_at, sources_at, stored_kinds_at, stored_contents_at, inputs_at, outputs_at, rows_at, readers_at, calls_at, constant_kinds_at, constant_contents_at, entries, digit, listed, cell, gate_digit, gate_kind as kind_digit, gate_body as body_digit, gate_first, gate_entry, input_digit, row_digit, kind_in, net, row_at, first_reader, reader_count, reader_at, first_call, call_count, target, call_of, gates_of_word}
 
 -- ---- a list by its elements
 
@@ -151,15 +149,6 @@ module _ (l : List ℕ) (i x : ℕ) (e : x ≡ get_or (entries l 2 640 sources_a
   pub source_some : (x ≡ minus_one → ⊥) → some x ≡ source (net l) i
   unfolding source_of if◌then◌otherwise◌
   source_some h = let q : eqb x minus_one ≡ false = ne_eqb x minus_one h in sym (rw q) ∙ source_known
-
--- for a caller that looks at the answer: what its case says of the circuit
-pub reads_output : (s : Read) (x : Option ℕ) (o : ℕ) → output_read s ≡ x → s ≡ Output o → x ≡ some o
-unfolding output_read
-reads_output s x o h e = sym h ∙ ap output_read e
-
-pub reads_nothing : (s : Read) (x : Option ℕ) → output_read s ≡ x → s ≡ NoOutput → x ≡ none
-unfolding output_read
-reads_nothing s x h e = sym h ∙ ap output_read e
 
 pub output_gate :
     (l : List ℕ) (o x : ℕ) → x ≡ get_or (entries l 3 576 outputs_at) o 0 → x ≡ gate_at_output (net l) o

@@ -4,8 +4,6 @@ use Rattle.std.specs.Prelude.{ℕ, ◌+◌, ◌-◌, ◌*◌, ◌/◌, ◌%◌, 
 use Rattle.std.proofs.Math.Option.{Option, none, some}
 use Rattle.model.specs.declared.Value.{Value}
 use Rattle.model.specs.declared.Value.TheVariants.{Nothing}
-use Rattle.links.specs.declared.Read.{Read}
-use Rattle.links.specs.declared.Read.TheVariants.{Output, Nothing as NoOutput}
 use Rattle.model.specs.Base.{keep, joined, both, from, starts}
 use Rattle.model.specs.Value.{value_of, kind_of, content_of, bit}
 use Rattle.model.specs.Kinds.{value, fires, Kind, kind_at}
@@ -240,11 +238,6 @@ module _ (l : List ℕ) where
 
 -- ---- what the code looks up beside the circuit itself
 
--- the output that an input reads
-unfoldable pub output_read : Read → Option ℕ
-output_read (Output o) = some o
-output_read NoOutput = none
-
 module _ (l : List ℕ) where
   -- digit n of the row of output o; a row that is missing is 0
   unfoldable pub row_at : ℕ → ℕ → ℕ
@@ -273,5 +266,5 @@ module _ (l : List ℕ) where
   target k = cell l (calls_at + k)
 
 unfoldable pub links_opened : ℕ
-unfolding packed digit paired word_of_gates gates_of_word table_of source_cell call_cell gate_cells row_cells named count_cells cells listed gate_digit gate_kind gate_body gate_first gate_entry input_digit row_digit kind_in net output_read row_at first_reader reader_count first_call call_count
+unfolding packed digit paired word_of_gates gates_of_word table_of source_cell call_cell gate_cells row_cells named count_cells cells listed gate_digit gate_kind gate_body gate_first gate_entry input_digit row_digit kind_in net row_at first_reader reader_count first_call call_count
 links_opened = 0

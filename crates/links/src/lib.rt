@@ -2,11 +2,12 @@
 #![tactic(auto)]
 
 ghost use Rattle.std.specs.Prelude.{◌≡◌, ◌+◌, ◌<◌, ◌≤◌, min, length, get_or, drop};
+ghost use Rattle.words.specs.Options.{option_of};
 ghost use Rattle.model.specs.Circuit.{kind_of_gate, rank_of_gate, body_of_gate, entry_of_loop, input, output, gate_at_input, gate_at_output, watching, source, stored_in, setting, most_gates, most_inputs};
 ghost use Rattle.model.specs.declared.Value.TheVariants.{Nothing};
 ghost use Rattle.model.specs.Kinds.{value, fires};
 ghost use Rattle.kinds.specs.Pins.{in_of, out_of};
-ghost use Rattle.links.specs.Links.{total, gates_at, inputs_at, rows_at, entries, call_of, cell, first_reader, reader_count, reader_at, first_call, call_count, target, output_read, gates_of_word, most_outputs};
+ghost use Rattle.links.specs.Links.{total, gates_at, inputs_at, rows_at, entries, call_of, cell, first_reader, reader_count, reader_at, first_call, call_count, target, gates_of_word, most_outputs};
 ghost use Rattle.links.specs.Lent.{Linked, net_of, Short};
 
 use crate::layout::*;
@@ -15,13 +16,6 @@ use value::value_of;
 use words::counting::less;
 
 pub mod layout;
-
-// What an input reads.
-#[derive(Clone, Copy)]
-pub enum Read {
-    Output(usize),
-    Nothing,
-}
 
 // ---- cells
 
@@ -219,16 +213,16 @@ pub fn watching(links: &[usize], i: usize) -> bool
     input_entry(links, i) / SECOND % DIGIT == 1
 }
 
-// What input i reads.
-pub fn source(links: &[usize], i: usize) -> Read
+// The output that input i reads.
+pub fn source(links: &[usize], i: usize) -> Option<usize>
     requires { Linked links.now }
-    ensures { output_read result ≡ source (net_of links.now) i }
+    ensures { option_of result ≡ source (net_of links.now) i }
 {
     let o = entry(links, INPUT_COUNT, MOST_INPUTS, SOURCES, i, NO_SOURCE);
     if o == NO_SOURCE {
-        return Read::Nothing;
+        return None;
     }
-    Read::Output(o)
+    Some(o)
 }
 
 // The value stored in input i.

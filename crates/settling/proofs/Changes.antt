@@ -23,10 +23,9 @@ use Rattle.model.specs.Exec.{count_changed, delay, delay≔, with_countdown, cou
 use Rattle.model.specs.Settle.{Settled, calm, raise, last_value, unchanged, pulse, edge, detect, compared, check}
 use Rattle.links.specs.Links.{sources_at, stored_kinds_at, stored_contents_at, inputs_at, entries, net}
 use Rattle.links.proofs.Reading.{entry_out, input_gate, source_none, input_stored}
-use Rattle.wires.specs.declared.Remembered.{Remembered}
-use Rattle.wires.specs.declared.Remembered.TheVariants.{Read, Nothing as NoRead}
+use Rattle.std.specs.Prelude.{Option, Some, None}
+use Rattle.words.specs.Options.{option_of}
 use Rattle.wires.specs.View.{Values, with_wires}
-use Rattle.wires.specs.Checks.{remembered}
 use Rattle.states.specs.View.{Delays, starting}
 use Rattle.units.specs.View.{entry_of, row_of, act_of, Units}
 use Rattle.units.proofs.Parts.{act_of_entry}
@@ -316,8 +315,8 @@ acts_after c v v₂ w d e f k r x ev h a u when = (
   ap (λ (z : Settled). settled c when z.state r) (sym (h u when)) ∙ (a u when).1 ∙ h u when,
 )
 
-module _ (l : List ℕ) (v v₁ v₂ : Values) (d : Delays) (i : ℕ) (m : Remembered) (now : Value)
-    (el : remembered m ≡ get_or v.wires.last i none)
+module _ (l : List ℕ) (v v₁ v₂ : Values) (d : Delays) (i : ℕ) (m : Option Value) (now : Value)
+    (el : option_of m ≡ get_or v.wires.last i none)
     (er : v₁ ≡ with_wires v (ready (net l) v.wires i))
     (eo : now ≡ look (net l) v₁.wires i)
     (es : v₂ ≡ with_wires v₁ (last≔ v₁.wires (set v₁.wires.last i (some now)))) where
@@ -326,38 +325,38 @@ module _ (l : List ℕ) (v v₁ v₂ : Values) (d : Delays) (i : ℕ) (m : Remem
 
   checked :
       (u : Units) (when : When) →
-      (if unchanged (remembered m) now then calm (together v₂ u d).state otherwise acted (net l) i (last_value (remembered m)) now when (together v₂ u d).state)
+      (if unchanged (option_of m) now then calm (together v₂ u d).state otherwise acted (net l) i (last_value (option_of m)) now when (together v₂ u d).state)
       ≡ check (net l) when (together v u d).state i
   unfolding check compared acted wires≔
   checked u when = rw (es, eo, er, el)
 
   module _ (v₃ : Values) (e : Delays) (r : Raised) where
     pub check_first :
-        m ≡ NoRead → ((truthy now ≡ true → i < 640) → Acts (net l) v₂ d v₃ e (acted (net l) i Nothing now) r) → Acts (net l) v d v₃ e (λ when s. check (net l) when s i) r
-    unfolding remembered unchanged last_value if◌then◌otherwise◌
+        m ≡ None → ((truthy now ≡ true → i < 640) → Acts (net l) v₂ d v₃ e (acted (net l) i Nothing now) r) → Acts (net l) v d v₃ e (λ when s. check (net l) when s i) r
+    unfolding unchanged last_value if◌then◌otherwise◌
     check_first em a =
         acts_after (net l) v v₂ v₃ d e (acted (net l) i Nothing now) (λ when s. check (net l) when s i) r _ noted
-        (λ u when. ap (λ (x : Remembered). if unchanged (remembered x) now then calm (together v₂ u d).state otherwise acted (net l) i (last_value (remembered x)) now when (together v₂ u d).state) (sym em) ∙ checked u when)
+        (λ u when. ap (λ (x : Option Value). if unchanged (option_of x) now then calm (together v₂ u d).state otherwise acted (net l) i (last_value (option_of x)) now when (together v₂ u d).state) (sym em) ∙ checked u when)
         (a (look_true l v₁.wires i now eo))
 
     pub check_new :
-        (was : Value) (t : Bool) → m ≡ Read was → t ≡ same was now → t ≡ false →
+        (was : Value) (t : Bool) → m ≡ Some was → t ≡ same was now → t ≡ false →
         ((truthy now ≡ true → i < 640) → Acts (net l) v₂ d v₃ e (acted (net l) i was now) r) → Acts (net l) v d v₃ e (λ when s. check (net l) when s i) r
-    unfolding remembered unchanged last_value if◌then◌otherwise◌
+    unfolding unchanged last_value if◌then◌otherwise◌
     check_new was t em et h a =
         acts_after (net l) v v₂ v₃ d e (acted (net l) i was now) (λ when s. check (net l) when s i) r _ noted
         (λ u when.
         ap (λ (b : Bool). if b then calm (together v₂ u d).state otherwise acted (net l) i was now when (together v₂ u d).state) (sym h ∙ et)
-        ∙ ap (λ (x : Remembered). if unchanged (remembered x) now then calm (together v₂ u d).state otherwise acted (net l) i (last_value (remembered x)) now when (together v₂ u d).state) (sym em)
+        ∙ ap (λ (x : Option Value). if unchanged (option_of x) now then calm (together v₂ u d).state otherwise acted (net l) i (last_value (option_of x)) now when (together v₂ u d).state) (sym em)
         ∙ checked u when)
         (a (look_true l v₁.wires i now eo))
 
-  pub check_same : (was : Value) (t : Bool) → m ≡ Read was → t ≡ same was now → t ≡ true → Acts (net l) v d v₂ d (λ when s. check (net l) when s i) NoRaise
-  unfolding remembered unchanged last_value if◌then◌otherwise◌ settled calm
+  pub check_same : (was : Value) (t : Bool) → m ≡ Some was → t ≡ same was now → t ≡ true → Acts (net l) v d v₂ d (λ when s. check (net l) when s i) NoRaise
+  unfolding unchanged last_value if◌then◌otherwise◌ settled calm
   check_same was t em et h =
       acts_by (net l) v v₂ d d (λ when s. check (net l) when s i) NoRaise (λ u when. (
         ap (λ (b : Bool). if b then calm (together v₂ u d).state otherwise acted (net l) i was now when (together v₂ u d).state) (sym h ∙ et)
-            ∙ ap (λ (x : Remembered). if unchanged (remembered x) now then calm (together v₂ u d).state otherwise acted (net l) i (last_value (remembered x)) now when (together v₂ u d).state) (sym em)
+            ∙ ap (λ (x : Option Value). if unchanged (option_of x) now then calm (together v₂ u d).state otherwise acted (net l) i (last_value (option_of x)) now when (together v₂ u d).state) (sym em)
             ∙ checked u when,
         ap (λ (y : Values). with_state (together y u d) (together v₂ u d).state) noted,
       ))

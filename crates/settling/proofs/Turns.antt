@@ -16,10 +16,11 @@ use Rattle.model.specs.Circuit.{Circuit}
 use Rattle.model.specs.State.{State, Wires, wires≔}
 use Rattle.model.specs.Wires.{refresh_all}
 use Rattle.model.specs.Settle.{Settled, calm, taken, when_checked, check, check_on, most_checks, settle}
-use Rattle.wires.specs.declared.Waiting.{Waiting}
-use Rattle.wires.specs.declared.Waiting.TheVariants.{Input, Nothing as NoInput}
+use Rattle.std.specs.Prelude.{Option as Perhaps, Some, None}
+use Rattle.words.specs.Options.{option_of}
+use Rattle.wires.specs.declared.checks.Check.{Check}
 use Rattle.wires.specs.View.{Values, with_wires}
-use Rattle.wires.specs.Checks.{waiting, for_late, oldest, oldest_late, oldest_taken}
+use Rattle.wires.specs.Checks.{oldest, oldest_check, oldest_taken}
 use Rattle.states.specs.View.{Delays}
 use Rattle.units.specs.declared.Place.{Place}
 use Rattle.units.specs.declared.Place.TheVariants.{Late, Pending, After}
@@ -110,41 +111,59 @@ none_taken w e = go w.to_check e
     go [] h = refl
     go (i ∷ is) h = cc
 
--- the input that waits longest raises what may wait by its mark
-marked_so : (w : Wires) (i : ℕ) (late : Bool) → some i ≡ oldest w → late ≡ oldest_late w → (if late then put_off otherwise by_rank) ≡ when_checked w i
-unfolding oldest oldest_late when_checked
-marked_so w i late e h = go w.to_check e h
+-- what a check taken says of the input that waits longest
+check_taken :
+    (w : Wires) (i : ℕ) (late : Bool) → some (record { input = i; late = late }) ≡ oldest_check w → (some i ≡ oldest w) × (late ≡ get_or w.late_checks i false)
+unfolding oldest_check
+check_taken w i late e = go (oldest w) e
   where
     go :
-        (x : List ℕ) → some i ≡ first_on x none (λ j is. some j) → late ≡ first_on x false (λ j is. get_or w.late_checks j false) →
-        (if late then put_off otherwise by_rank) ≡ (if get_or w.late_checks i false then put_off otherwise by_rank)
-    go [] p q = cc
-    go (j ∷ is) p q = let k : i ≡ j = cc in rw (q, k) refl
+        (x : Option ℕ) →
+        ◌≡◌ {A = Option Check} (some (record { input = i; late = late })) (elim x [ none ↦ none | some j ↦ some (record { input = j; late = get_or w.late_checks j false }) ]) →
+        (some i ≡ x) × (late ≡ get_or w.late_checks i false)
+    go none h = cc
+    go (some j) h =
+        let q : ◌≡◌ {A = Check} (record { input = i; late = late }) (record { input = j; late = get_or w.late_checks j false }) = cc in
+        let p : i ≡ j = ap (λ (k : Check). k.input) q in
+        (ap (λ (k : ℕ). some k) p, ap (λ (k : Check). k.late) q ∙ ap (λ (k : ℕ). get_or w.late_checks k false) (sym p))
+
+no_check : (w : Wires) → none ≡ oldest_check w → none ≡ oldest w
+unfolding oldest_check
+no_check w e = go (oldest w) e
+  where
+    go :
+        (x : Option ℕ) →
+        ◌≡◌ {A = Option Check} none (elim x [ none ↦ none | some j ↦ some (record { input = j; late = get_or w.late_checks j false }) ]) → none ≡ x
+    go none h = refl
+    go (some j) h = cc
 
 -- one round, by what waits and what the check raises
-module _ (c : Circuit) (to : Place) (v v₁ : Values) (u : Units) (d : Delays) (n : Waiting) (en : (waiting n ≡ oldest v.wires) × (v₁ ≡ with_wires v (oldest_taken v.wires))) where
+module _ (c : Circuit) (to : Place) (v v₁ : Values) (u : Units) (d : Delays) (n : Perhaps Check) (en : option_of n ≡ oldest_check v.wires) (ev : v₁ ≡ with_wires v (oldest_taken v.wires)) where
   pub next_idle :
-      n ≡ NoInput →
+      n ≡ None →
       (Idle ≡ round_answer (round_of c to (together v u d).state u.lists)) × (together v₁ u d ≡ after_round (together v u d) (round_of c to (together v u d).state u.lists))
-  unfolding round_of round_answer after_round waiting
+  unfolding round_of round_answer after_round
   next_idle e =
-      let q : none ≡ oldest v.wires = ap waiting (sym e) ∙ en.0 in
+      let q : none ≡ oldest v.wires = no_check v.wires (ap option_of (sym e) ∙ en) in
       let p : round_of c to (together v u d).state u.lists ≡ none = rw (← q, round_of) in
-      (ap round_answer (sym p), ap (λ (y : Values). together y u d) en.1 ∙ ap (λ (w : Wires). together (with_wires v w) u d) (none_taken v.wires q) ∙ ap (after_round (together v u d)) (sym p))
+      (ap round_answer (sym p), ap (λ (y : Values). together y u d) ev ∙ ap (λ (w : Wires). together (with_wires v w) u d) (none_taken v.wires q) ∙ ap (after_round (together v u d)) (sym p))
 
-  module _ (i : ℕ) (late : Bool) (v₂ : Values) (e : Delays) (r : Raised) (ei : n ≡ Input i late) (ec : Acts c v₁ d v₂ e (λ when s. check c when s i) r) where
+  module _ (i : ℕ) (late : Bool) (v₂ : Values) (e : Delays) (r : Raised) (ei : n ≡ Some (record { input = i; late = late })) (ec : Acts c v₁ d v₂ e (λ when s. check c when s i) r) where
     -- what the check leads to
     abbrev found : Settled
     found = check c (when_checked v.wires i) (wires≔ (together v u d).state (oldest_taken v.wires)) i
 
     -- in the state in which it is made
     acts : Acts c (with_wires v (oldest_taken v.wires)) d v₂ e (λ when s. check c when s i) r
-    acts = subst (λ (y : Values). Acts c y d v₂ e (λ when s. check c when s i) r) en.1 ec
+    acts = subst (λ (y : Values). Acts c y d v₂ e (λ when s. check c when s i) r) ev ec
 
     -- so the round comes to what it raises, filed
+    waited : (some i ≡ oldest v.wires) × (late ≡ get_or v.wires.late_checks i false)
+    waited = check_taken v.wires i late (ap option_of (sym ei) ∙ en)
+
     round_is : round_of c to (together v u d).state u.lists ≡ some (filed_into c to found u.lists)
-    unfolding round_of waiting
-    round_is = let q : some i ≡ oldest v.wires = ap waiting (sym ei) ∙ en.0 in rw (← q, round_of)
+    unfolding round_of
+    round_is = rw (← waited.0, round_of)
 
     pub next_calm :
         r ≡ NoRaise →
@@ -189,26 +208,26 @@ module _ (c : Circuit) (to : Place) (v v₁ : Values) (u : Units) (d : Delays) (
     next_entry x q u₂ er = filed_so x by_rank to q u₂ (ap (settled c (when_checked v.wires i) found.state) er) (ranked_for to)
 
     -- how it raises what may wait, by its mark
-    raises_so : for_late n ≡ oldest_late v.wires → (if late then put_off otherwise by_rank) ≡ when_checked v.wires i
-    unfolding waiting for_late
-    raises_so el = marked_so v.wires i late (ap waiting (sym ei) ∙ en.0) (ap for_late (sym ei) ∙ el)
+    raises_so : (if late then put_off otherwise by_rank) ≡ when_checked v.wires i
+    unfolding when_checked
+    raises_so = ap (λ (b : Bool). if b then put_off otherwise by_rank) waited.1
 
     pub next_put_off :
-        (x : ℕ) (y : Place) (q : Round) (u₂ : Units) → r ≡ MayWait x → for_late n ≡ oldest_late v.wires → late ≡ true → y ≡ place_for put_off to →
+        (x : ℕ) (y : Place) (q : Round) (u₂ : Units) → r ≡ MayWait x → late ≡ true → y ≡ place_for put_off to →
         (q ≡ answer_of (answer (activate c y (act_of c x) u.lists))) × (u₂ ≡ with_lists u (lists_after u.lists (activate c y (act_of c x) u.lists))) →
         (q ≡ round_answer (round_of c to (together v u d).state u.lists)) × (together v₂ u₂ e ≡ after_round (together v u d) (round_of c to (together v u d).state u.lists))
     unfolding settled if◌then◌otherwise◌
-    next_put_off x y q u₂ er el h ey =
-        let p : put_off ≡ when_checked v.wires i = ap (λ (b : Bool). if b then put_off otherwise by_rank) (sym h) ∙ raises_so el in
+    next_put_off x y q u₂ er h ey =
+        let p : put_off ≡ when_checked v.wires i = ap (λ (b : Bool). if b then put_off otherwise by_rank) (sym h) ∙ raises_so in
         filed_so x (when_checked v.wires i) y q u₂ (ap (settled c (when_checked v.wires i) found.state) er) (ap (λ (w : When). place_for w to) (sym p) ∙ sym ey)
 
     pub next_ranked :
-        (x : ℕ) (q : Round) (u₂ : Units) → r ≡ MayWait x → for_late n ≡ oldest_late v.wires → late ≡ false →
+        (x : ℕ) (q : Round) (u₂ : Units) → r ≡ MayWait x → late ≡ false →
         (q ≡ answer_of (answer (activate c to (act_of c x) u.lists))) × (u₂ ≡ with_lists u (lists_after u.lists (activate c to (act_of c x) u.lists))) →
         (q ≡ round_answer (round_of c to (together v u d).state u.lists)) × (together v₂ u₂ e ≡ after_round (together v u d) (round_of c to (together v u d).state u.lists))
     unfolding settled if◌then◌otherwise◌
-    next_ranked x q u₂ er el h =
-        let p : by_rank ≡ when_checked v.wires i = ap (λ (b : Bool). if b then put_off otherwise by_rank) (sym h) ∙ raises_so el in
+    next_ranked x q u₂ er h =
+        let p : by_rank ≡ when_checked v.wires i = ap (λ (b : Bool). if b then put_off otherwise by_rank) (sym h) ∙ raises_so in
         filed_so x (when_checked v.wires i) to q u₂ (ap (settled c (when_checked v.wires i) found.state) er) (ap (λ (w : When). place_for w to) (sym p) ∙ ranked_for to)
 
 -- ---- one turn of the loop

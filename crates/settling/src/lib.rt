@@ -28,11 +28,10 @@ use units::Place;
 use units::entries::entry;
 use units::raising::activate;
 use value::{as_float, same, truthy};
-use wires::checks::{last, set_last, take_check};
+use wires::checks::{Check, last, set_last, take_check};
 use wires::pulses::pulse;
 use wires::reading::look;
 use wires::refreshing::ready;
-use wires::{Remembered, Waiting};
 use words::counting::less;
 
 // No rank is above this.
@@ -168,8 +167,8 @@ pub fn check(links: &[usize], values: &mut [u8], delays: &mut [u8], i: usize) ->
     let v = look(links, values, i);
     set_last(links, values, i, v);
     match was {
-        Remembered::Nothing => detect(links, values, delays, i, Value::Nothing, v),
-        Remembered::Read(u) => {
+        None => detect(links, values, delays, i, Value::Nothing, v),
+        Some(u) => {
             if same(u, v) {
                 return Raised::Nothing;
             }
@@ -215,9 +214,9 @@ fn check_next(
 {
     let next = take_check(links, values);
     match next {
-        Waiting::Nothing => Round::Idle,
-        Waiting::Input(i, late) => {
-            let raised = check(links, values, delays, i);
+        None => Round::Idle,
+        Some(Check { input, late }) => {
+            let raised = check(links, values, delays, input);
             match raised {
                 Raised::Nothing => Round::Done,
                 Raised::Entry(x) => file(links, units, to, x),

@@ -16,9 +16,8 @@ use Rattle.model.specs.Record.{listed, units_at}
 use Rattle.model.specs.Questions.{within, yes_all}
 use Rattle.kinds.specs.Pins.{in_of}
 use Rattle.kinds.specs.declared.Pin.{Pin}
-use Rattle.links.specs.Links.{output_read}
-use Rattle.links.specs.declared.Read.{Read}
-use Rattle.links.specs.declared.Read.TheVariants.{Output, Nothing}
+use Rattle.std.specs.Prelude.{Option, Some, None, is_some}
+use Rattle.words.specs.Options.{option_of}
 use Rattle.records.specs.Whole.{firing, driven, can_have, good_unit}
 
 -- ---- kinds
@@ -42,14 +41,13 @@ module _ (k : ℕ) (n : k ≡ ChangeDetector → ⊥) where
 
 -- ---- sources
 
-module _ (c : Circuit) (i : ℕ) (r : Read) (e : output_read r ≡ source c i) where
-  pub source_there : (o : ℕ) → r ≡ Output o → true ≡ has_source (source c i)
-  unfolding has_source output_read
-  source_there o h = let q : source c i ≡ some o = sym e ∙ ap output_read h in rw q
-
-  pub source_missing : r ≡ Nothing → false ≡ has_source (source c i)
-  unfolding has_source output_read
-  source_missing h = let q : source c i ≡ none = sym e ∙ ap output_read h in rw q
+pub source_known : (c : Circuit) (i : ℕ) (r : Option ℕ) (b : Bool) → option_of r ≡ source c i → b ≡ is_some r → b ≡ has_source (source c i)
+unfolding has_source
+source_known c i r b e h = h ∙ go r ∙ ap has_source e
+  where
+    go : (x : Option ℕ) → is_some x ≡ has_source (option_of x)
+    go (Some o) = refl
+    go None = refl
 
 -- whether an input is an E
 unfoldable pub is_e : In → Bool

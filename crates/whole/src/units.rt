@@ -11,7 +11,7 @@ ghost use Rattle.records.specs.Whole.{firing, driven, can_have, good_unit};
 
 use kinds::Pin;
 use kinds::numbers::*;
-use links::{Read, kind_of_gate};
+use links::kind_of_gate;
 use records::forms::{BY_OUTPUT, BY_PIN, EVENT, FIRE, STIMULUS};
 use words::get;
 
@@ -43,10 +43,7 @@ fn has_source(links: &[usize], i: usize) -> bool
     requires { Linked links.now }
     ensures { result ≡ has_source (source (net_of links.now) i) }
 {
-    match links::source(links, i) {
-        Read::Output(_) => true,
-        Read::Nothing => false,
-    }
+    links::source(links, i).is_some()
 }
 
 // Whether input p of gate g is an E that a value drives.

@@ -1,6 +1,6 @@
 -- Taking the input that waits longest, and what the last check read.
 use Rattle.std.proofs.Common.{◌≡◌, ℕ, ◌+◌, ◌-◌, ◌%◌, ◌<◌, ◌≤◌, Bool, false, List, ◌∷◌, map, length, get_or, sym, ap, ◌∙◌, arith, get_or-set_same}
-use mathlib.Core.Option.{some}
+use mathlib.Core.Option.{none, some}
 use lib.Seq.{set_out}
 use Rattle.words.specs.Words.{words, Stored}
 use Rattle.words.specs.Tables.{marked, ring}
@@ -8,19 +8,15 @@ use Rattle.words.proofs.Tables.{take_set, map_marked_set, ring_length, ring_pop}
 use Rattle.model.specs.Circuit.{Circuit}
 use Rattle.model.specs.State.{Wires, to_check≔, late_checks≔}
 use Rattle.model.specs.Settle.{taken}
-use Rattle.wires.specs.declared.Waiting.TheVariants.{Input, Nothing as NoInput}
 use Rattle.wires.specs.View.{cut, Values, with_wires, values}
-use Rattle.wires.specs.Checks.{waiting, for_late, oldest, oldest_late, oldest_taken}
+use Rattle.wires.specs.Checks.{oldest, oldest_check, oldest_taken}
 use Rattle.wires.proofs.Area.{cut_poke, cut_peek, sized}
 use Rattle.wires.proofs.Leaves.{Counts, queued_few, late_few}
 
-took_oldest : (w : Wires) (i : ℕ) (is : List ℕ) → w.to_check ≡ i ∷ is → some i ≡ oldest w
-unfolding oldest
-took_oldest w i is e = rw (e, oldest)
-
-took_late : (w : Wires) (i : ℕ) (is : List ℕ) → w.to_check ≡ i ∷ is → get_or w.late_checks i false ≡ oldest_late w
-unfolding oldest_late
-took_late w i is e = rw (e, oldest_late)
+took_oldest :
+    (w : Wires) (i : ℕ) (is : List ℕ) → w.to_check ≡ i ∷ is → some (record { input = i; late = get_or w.late_checks i false }) ≡ oldest_check w
+unfolding oldest oldest_check
+took_oldest w i is e = rw (e, oldest, oldest_check)
 
 took_rest : (w : Wires) (i : ℕ) (is : List ℕ) → w.to_check ≡ i ∷ is → taken w i is ≡ oldest_taken w
 unfolding oldest_taken taken to_check≔ late_checks≔
@@ -58,11 +54,11 @@ module _ (c : Circuit) (bs : List ℕ) (n : ℕ) (l : 65536 ≤ length bs) (en :
   unfolding values
   so_many_wait = en ∙ cut_peek (words bs) 6 0 (omega arith) ∙ sym (ring_length _ _ (cut (words bs)).slots)
 
-  pub take_none : n ≡ 0 → ((waiting NoInput ≡ oldest (values c bs).wires) × (values c bs ≡ with_wires (values c bs) (oldest_taken (values c bs).wires))) × (for_late NoInput ≡ oldest_late (values c bs).wires)
-  unfolding values ring oldest oldest_taken oldest_late waiting for_late
+  pub take_none : n ≡ 0 → (none ≡ oldest_check (values c bs).wires) × (values c bs ≡ with_wires (values c bs) (oldest_taken (values c bs).wires))
+  unfolding values ring oldest oldest_check oldest_taken
   take_none z =
       let p : get_or (cut (words bs)).count 0 0 ≡ 0 = sym (cut_peek (words bs) 6 0 (omega arith)) ∙ sym en ∙ z in
-      ((rw p, rw p), rw p)
+      (rw p, rw p)
 
   module _ (p i : ℕ) (z : n ≡ 0 → ⊥) (ep : p ≡ get_or (words bs) 5 0) (ei : i ≡ get_or (words bs) (1800 + p % 1024) 0) where
     -- what waits is i and the rest
@@ -94,12 +90,10 @@ module _ (c : Circuit) (bs : List ℕ) (n : ℕ) (l : 65536 ≤ length bs) (en :
       pub take_some :
           (v : Values) (b : Bool) → b ≡ get_or (values c bs₂).wires.late_checks i false →
           v ≡ with_wires (values c bs₂) (taken (values c bs₂).wires i (values c bs₂).wires.to_check) →
-          ((waiting (Input i b) ≡ oldest (values c bs).wires) × (v ≡ with_wires (values c bs) (oldest_taken (values c bs).wires))) × (for_late (Input i b) ≡ oldest_late (values c bs).wires)
-      unfolding taken to_check≔ late_checks≔ waiting for_late
+          (some (record { input = i; late = b }) ≡ oldest_check (values c bs).wires) × (v ≡ with_wires (values c bs) (oldest_taken (values c bs).wires))
+      unfolding taken to_check≔ late_checks≔
       take_some v b eb e = (
-        (
-          took_oldest (values c bs).wires i _ waits,
-          e ∙ ap (λ (u : Values). with_wires u (taken u.wires i u.wires.to_check)) moved ∙ ap (with_wires (values c bs)) (took_rest (values c bs).wires i _ waits),
-        ),
-        eb ∙ ap (λ (u : Values). get_or u.wires.late_checks i false) moved ∙ took_late (values c bs).wires i _ waits,
+        ap (λ (x : Bool). some (record { input = i; late = x })) (eb ∙ ap (λ (u : Values). get_or u.wires.late_checks i false) moved)
+            ∙ took_oldest (values c bs).wires i _ waits,
+        e ∙ ap (λ (u : Values). with_wires u (taken u.wires i u.wires.to_check)) moved ∙ ap (with_wires (values c bs)) (took_rest (values c bs).wires i _ waits),
       )

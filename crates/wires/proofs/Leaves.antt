@@ -5,7 +5,7 @@ use borrow.Author.Tests.{lt-leb}
 use lib.Bits.{bit_or, bit_xor}
 use lib.ListN.{get_or-eq_default}
 use lib.Seq.{set_out, set-get_or}
-use Rattle.words.specs.Words.{words, tail, Stored}
+use Rattle.words.specs.Words.{words, Stored}
 use Rattle.words.specs.Tables.{marked, digits}
 use Rattle.words.proofs.Tables.{take_set, digits_length, digits_get, digits_or, digits_xor, one_digit, map_marked_set, map_marked_get, ring_length, ring_push}
 use Rattle.model.specs.declared.Value.{Value}

@@ -6,7 +6,7 @@ use borrow.Author.Tests.{lt-leb}
 use lib.Bits.{bit_or}
 use lib.ListN.{get_or-eq_default}
 use lib.Seq.{set_out}
-use Rattle.words.specs.Words.{words, tail, Stored}
+use Rattle.words.specs.Words.{words, Stored}
 use Rattle.words.specs.Tables.{marked, digits}
 use Rattle.words.proofs.Tables.{take_set, digits_length, digits_get, digits_none}
 use Rattle.model.specs.declared.Value.{Value}
@@ -24,9 +24,7 @@ use Rattle.model.proofs.Sized.{mark_readers_for_keeps}
 use Rattle.value.proofs.Laws.{made_again}
 use Rattle.links.specs.Links.{cell, net}
 use Rattle.links.proofs.Reading.{gates_counted}
-use Rattle.wires.specs.declared.Remembered.TheVariants.{Read, Nothing as NoRead}
 use Rattle.wires.specs.View.{cut, last_of, Values, with_wires, values}
-use Rattle.wires.specs.Checks.{remembered}
 use Rattle.wires.proofs.Lists.{both_set, both_get}
 use Rattle.wires.proofs.Area.{cut_poke, cut_peek, sized}
 use Rattle.wires.proofs.Leaves.{Counts, one_mark, unmarked_at}
@@ -58,18 +56,16 @@ module _ (c : Circuit) (bs : List ℕ) (i n : ℕ) (en : Counts 640 n (length c.
       ∙ both_get last_of t.last_kinds t.last_contents i 0 0 none (omega arith) (omega arith)
       ∙ sym (ap₂ last_of pk eb)
 
-  pub last_past : n ≤ i → remembered NoRead ≡ get_or (values c bs).wires.last i none
-  unfolding remembered
+  pub last_past : n ≤ i → none ≡ get_or (values c bs).wires.last i none
   last_past h = sym (get_or-eq_default (values c bs).wires.last none {n = i} (omega (arith, last_few)))
 
-  pub last_none : (k : ℕ) → 65536 ≤ length bs → i < n → k ≡ get_or (words bs) (2824 + i) 0 → k ≡ 0 → remembered NoRead ≡ get_or (values c bs).wires.last i none
-  unfolding remembered last_of
+  pub last_none : (k : ℕ) → 65536 ≤ length bs → i < n → k ≡ get_or (words bs) (2824 + i) 0 → k ≡ 0 → none ≡ get_or (values c bs).wires.last i none
+  unfolding last_of
   last_none k l h ek z = sym (last_word k _ l h ek refl ∙ ap (λ (x : ℕ). last_of x (get_or (cut (words bs)).last_contents i 0)) z)
 
   pub last_some :
       (k b : ℕ) (v : Value) → 65536 ≤ length bs → i < n → k ≡ get_or (words bs) (2824 + i) 0 → (k ≡ 0 → ⊥) → b ≡ get_or (words bs) (3464 + i) 0 → v ≡ value_of (k - 1) b →
-      remembered (Read v) ≡ get_or (values c bs).wires.last i none
-  unfolding remembered
+      some v ≡ get_or (values c bs).wires.last i none
   last_some k b v l h ek f eb ev = ap (λ (x : Value). some x) ev ∙ some_of k b f ∙ sym (last_word k b l h ek (eb ∙ cut_peek (words bs) 13 i (omega arith)))
     where
       some_of : (k b : ℕ) → (k ≡ 0 → ⊥) → some (value_of (k - 1) b) ≡ last_of k b

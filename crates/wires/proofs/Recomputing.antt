@@ -2,6 +2,8 @@
 use Rattle.std.proofs.Common.{◌≡◌, ℕ, zero, suc, ◌-◌, ◌/◌, ◌<◌, ◌≤◌, min, Bool, true, false, leb, List, [], ◌∷◌, length, get_or, set, sym, refl, ap, ◌∙◌, arith, ne_eqb, leb-true}
 use mathlib.Core.Option.{none, some}
 use lib.ListN.{get_or-eq_default}
+use Rattle.std.specs.Prelude.{Option, Some, None}
+use Rattle.words.specs.Options.{option_of}
 use Rattle.words.specs.Words.{words}
 use Rattle.words.specs.Tables.{digits}
 use Rattle.words.proofs.Tables.{places, digits_length}
@@ -15,9 +17,7 @@ use Rattle.model.specs.State.{Wires, outs≔, dirty≔}
 use Rattle.model.specs.Wires.{shown, show, is_dirty, clean, look, compute, recompute, behind, refresh_to, refresh, refresh_all, ready}
 use Rattle.model.proofs.Lists.{both_true}
 use Rattle.model.proofs.Sized.{refresh_keeps}
-use Rattle.links.specs.declared.Read.{Read}
-use Rattle.links.specs.declared.Read.TheVariants.{Output, Nothing as NoOutput}
-use Rattle.links.specs.Links.{cell, net, output_read}
+use Rattle.links.specs.Links.{cell, net}
 use Rattle.links.proofs.Reading.{gates_counted}
 use Rattle.wires.specs.View.{Values, with_wires, values}
 use Rattle.wires.proofs.Area.{cut_peek}
@@ -27,14 +27,14 @@ use Rattle.wires.proofs.Steps.{step, each_step}
 
 -- ---- what stands at an input
 
-module _ (c : Circuit) (w : Wires) (i : ℕ) (r : Value) (s : Read) (e : output_read s ≡ source c i) where
-  pub look_output : (o : ℕ) → s ≡ Output o → r ≡ shown w o → r ≡ look c w i
-  unfolding look output_read
-  look_output o es er = let q : source c i ≡ some o = sym e ∙ ap output_read es in rw (q, look) er
+module _ (c : Circuit) (w : Wires) (i : ℕ) (r : Value) (s : Option ℕ) (e : option_of s ≡ source c i) where
+  pub look_output : (o : ℕ) → s ≡ Some o → r ≡ shown w o → r ≡ look c w i
+  unfolding look
+  look_output o es er = let q : source c i ≡ some o = sym e ∙ ap option_of es in rw (q, look) er
 
-  pub look_stored : s ≡ NoOutput → r ≡ stored_in c i → r ≡ look c w i
-  unfolding look output_read
-  look_stored es er = let q : source c i ≡ none = sym e ∙ ap output_read es in rw (q, look) er
+  pub look_stored : s ≡ None → r ≡ stored_in c i → r ≡ look c w i
+  unfolding look
+  look_stored es er = let q : source c i ≡ none = sym e ∙ ap option_of es in rw (q, look) er
 
 -- ---- what a pure gate gives
 
@@ -93,18 +93,18 @@ unfolding refresh_to
 refresh_fresh c zero w g e = refl
 refresh_fresh c (suc n) w g e = rw (e, refresh_to)
 
-module _ (c : Circuit) (f : Wires → ℕ → Wires) (v : Values) (i : ℕ) (s : Read) (e : output_read s ≡ source c i) where
-  pub behind_none : s ≡ NoOutput → v ≡ with_wires v (behind c f v.wires i)
-  unfolding behind output_read
-  behind_none es = let q : source c i ≡ none = sym e ∙ ap output_read es in rw (q, behind)
+module _ (c : Circuit) (f : Wires → ℕ → Wires) (v : Values) (i : ℕ) (s : Option ℕ) (e : option_of s ≡ source c i) where
+  pub behind_none : s ≡ None → v ≡ with_wires v (behind c f v.wires i)
+  unfolding behind
+  behind_none es = let q : source c i ≡ none = sym e ∙ ap option_of es in rw (q, behind)
 
   pub behind_output :
-      (v₁ : Values) (o g : ℕ) → s ≡ Output o → g ≡ gate_at_output c o → v₁ ≡ with_wires v (f v.wires g) → v₁ ≡ with_wires v (behind c f v.wires i)
-  unfolding behind output_read
-  behind_output v₁ o g es eg ev = let q : source c i ≡ some o = sym e ∙ ap output_read es in rw (q, behind, ← eg) ev
+      (v₁ : Values) (o g : ℕ) → s ≡ Some o → g ≡ gate_at_output c o → v₁ ≡ with_wires v (f v.wires g) → v₁ ≡ with_wires v (behind c f v.wires i)
+  unfolding behind
+  behind_output v₁ o g es eg ev = let q : source c i ≡ some o = sym e ∙ ap option_of es in rw (q, behind, ← eg) ev
 
 pub behind_fresh :
-    (c : Circuit) (deep : ℕ) (v : Values) (i : ℕ) (s : Read) (o g : ℕ) (r : Bool) → output_read s ≡ source c i → s ≡ Output o → g ≡ gate_at_output c o →
+    (c : Circuit) (deep : ℕ) (v : Values) (i : ℕ) (s : Option ℕ) (o g : ℕ) (r : Bool) → option_of s ≡ source c i → s ≡ Some o → g ≡ gate_at_output c o →
     r ≡ is_dirty v.wires g → r ≡ false → v ≡ with_wires v (behind c (refresh_to c deep) v.wires i)
 behind_fresh c deep v i s o g r e es eg er h =
     behind_output c (refresh_to c deep) v i s e v o g es eg (ap (with_wires v) (sym (refresh_fresh c deep v.wires g (sym er ∙ h))))

@@ -5,16 +5,23 @@ ghost use Rattle.model.specs.State.{last≔};
 ghost use Rattle.model.specs.Wires.{watch};
 ghost use Rattle.model.specs.Settle.{taken};
 ghost use Rattle.links.specs.Lent.{Linked, Room};
-ghost use Rattle.wires.specs.Checks.{waiting, for_late, oldest, oldest_late, oldest_taken, remembered};
+ghost use Rattle.words.specs.Options.{option_of};
+ghost use Rattle.wires.specs.Checks.{oldest_check, oldest_taken};
 ghost use Rattle.wires.specs.Lent.{wires_in, Turns, TurnsBesideStack};
 
 use crate::layout::{COUNT, HEAD, LAST_CONTENTS, LAST_KINDS, LATE_CHECKS, PLACES, QUEUED, SLOTS};
-use crate::{Remembered, Waiting};
 use links::inputs;
 use links::layout::MOST_INPUTS;
 use model::Value;
 use value::{content_of, kind_of, value_of};
 use words::{get, put};
+
+// An input that is to be checked, and whether it is marked for a late check.
+#[derive(Clone, Copy)]
+pub struct Check {
+    pub input: usize,
+    pub late: bool,
+}
 
 // Watched input i waits to be checked; one that waits already keeps its place. The marking stack stays as it is.
 pub fn watch(links: &[usize], values: &mut [u8], i: usize)
@@ -58,38 +65,37 @@ fn unqueue(links: &[usize], values: &mut [u8], i: usize) -> bool
 }
 
 // The input that waits longest is taken, and may be queued again.
-pub fn take_check(links: &[usize], values: &mut [u8]) -> Waiting
+pub fn take_check(links: &[usize], values: &mut [u8]) -> Option<Check>
     requires { Linked links.now × Room values.old }
-    ensures result_value { (waiting result ≡ oldest (wires_in links.now values.old)) × Turns links.now (values.old, values.new) (λ _ w. oldest_taken w) }
-    ensures result_value_2 { for_late result ≡ oldest_late (wires_in links.now values.old) }
+    ensures value { option_of result ≡ oldest_check (wires_in links.now values.old) }
+    ensures turns { Turns links.now (values.old, values.new) (λ _ w. oldest_taken w) }
 {
     let n = get(values, COUNT);
     if n == 0 {
-        return Waiting::Nothing;
+        return None;
     }
     let h = get(values, HEAD) as usize % PLACES;
-    let i = get(values, SLOTS + h) as usize;
+    let input = get(values, SLOTS + h) as usize;
     put(values, HEAD, h as u64 + 1);
     put(values, COUNT, n - 1);
-    let late = unqueue(links, values, i);
-    Waiting::Input(i, late)
+    let late = unqueue(links, values, input);
+    Some(Check { input, late })
 }
 
 // What the last check of input i read.
-pub fn last(links: &[usize], values: &[u8], i: usize) -> Remembered
+pub fn last(links: &[usize], values: &[u8], i: usize) -> Option<Value>
     requires { Linked links.now × Room values.now }
-    ensures { remembered result ≡ slice_index_or (wires_in links.now values.now).last i none }
+    ensures { option_of result ≡ slice_index_or (wires_in links.now values.now).last i none }
 {
     if inputs(links) <= i {
-        return Remembered::Nothing;
+        return None;
     }
     let kind = get(values, LAST_KINDS + i);
     if kind == 0 {
-        return Remembered::Nothing;
+        return None;
     }
     let content = get(values, LAST_CONTENTS + i);
-    let v = value_of(kind - 1, content);
-    Remembered::Read(v)
+    Some(value_of(kind - 1, content))
 }
 
 // The last check of input i read v.

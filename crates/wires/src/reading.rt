@@ -6,7 +6,7 @@ ghost use Rattle.wires.specs.Lent.{wires_in, Turns};
 
 use crate::held::{tag_of, value_held};
 use crate::layout::{OUT_CONTENTS, OUT_TAGS};
-use links::{Read, outputs, source, stored_in};
+use links::{outputs, source, stored_in};
 use model::Value;
 use value::content_of;
 use words::{get, put};
@@ -41,9 +41,8 @@ pub fn look(links: &[usize], values: &[u8], i: usize) -> Value
     requires { Linked links.now × Room values.now }
     ensures { result ≡ look (net_of links.now) (wires_in links.now values.now) i }
 {
-    let s = source(links, i);
-    match s {
-        Read::Output(o) => shown(links, values, o),
-        Read::Nothing => stored_in(links, i),
+    match source(links, i) {
+        Some(o) => shown(links, values, o),
+        None => stored_in(links, i),
     }
 }

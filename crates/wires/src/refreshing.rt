@@ -11,7 +11,7 @@ use crate::layout::{DIRTY, DT, UPTIME};
 use crate::reading::{look, show};
 use crate::stale::{clean, is_dirty};
 use kinds;
-use links::{Read, gate_at_output, gates, input, kind_of_gate, output, source};
+use links::{gate_at_output, gates, input, kind_of_gate, output, source};
 use model::Value;
 use value::truthy;
 use words::get;
@@ -93,16 +93,12 @@ fn refresh_behind(links: &[usize], values: &mut [u8], deep: usize, i: usize)
     requires { Linked links.now × Room values.old }
     ensures { Turns links.now (values.old, values.new) (λ c w. behind c (refresh_to c deep) w i) }
 {
-    let s = source(links, i);
-    match s {
-        Read::Output(o) => {
-            let g = gate_at_output(links, o);
-            // most are fresh, and need no call
-            if is_dirty(links, values, g) {
-                refresh_to(links, values, deep, g);
-            }
+    if let Some(o) = source(links, i) {
+        let behind = gate_at_output(links, o);
+        // most are fresh, and need no call
+        if is_dirty(links, values, behind) {
+            refresh_to(links, values, deep, behind);
         }
-        Read::Nothing => {}
     }
 }
 

@@ -9,4 +9,4 @@ pub returns-then-kind-eq0 : goal.returns-then-kind-eq0
 returns-then-kind-eq0 c = last_none _ _ _ _ c.inputs.ensures _ (search rules) c.if-inputs-i.false c.get-kind.ensures c.if-kind-eq0.true
 
 pub returns : goal.returns
-returns c = last_some _ _ _ _ c.inputs.ensures _ _ _ (search rules) c.if-inputs-i.false c.get-kind.ensures c.if-kind-eq0.false c.get-content.ensures c.value_of-v.ensures
+returns c = last_some _ _ _ _ c.inputs.ensures _ _ _ (search rules) c.if-inputs-i.false c.get-kind.ensures c.if-kind-eq0.false c.get-content.ensures c.value_of.ensures

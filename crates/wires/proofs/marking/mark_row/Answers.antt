@@ -1,4 +1,4 @@
-use Rattle.std.proofs.Common.{◌-◌, rules}
+use Rattle.std.proofs.Common.{rules}
 use Rattle.wires.proofs.Lists.{turn_last}
 use Rattle.wires.proofs.Marks.{row_first, row_next, reader_to_do}
 use Rattle.wires.proofs.marking.mark_row.Goals as goal

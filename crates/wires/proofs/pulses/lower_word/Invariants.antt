@@ -1,5 +1,5 @@
 use Rattle.model.specs.Opening.{lower as lower_pulse}
-use Rattle.std.proofs.Common.{◌≡◌, ℕ, ◌+◌, ◌-◌, ◌*◌, ◌^◌, ◌<◌, length}
+use Rattle.std.proofs.Common.{◌≡◌, ℕ, ◌+◌, ◌*◌, ◌^◌, ◌<◌, length}
 use Rattle.words.specs.Tables.{digits}
 use Rattle.words.proofs.Tables.{places}
 use Rattle.model.specs.Base.{each, from}

@@ -1,5 +1,4 @@
-use Rattle.std.proofs.Common.{◌-◌, rules}
-use Rattle.model.specs.Wires.{refresh_to}
+use Rattle.std.proofs.Common.{rules}
 use Rattle.links.specs.Links.{net}
 use Rattle.wires.specs.View.{values as view}
 use Rattle.wires.proofs.Lists.{turn_next, turn_last}
@@ -8,13 +7,13 @@ use Rattle.wires.proofs.Recomputing.{behind_none, behind_output, behind_fresh, r
 use Rattle.wires.proofs.refreshing.+refresh_behind_refresh_sources_refresh_to.Goals as goal
 
 pub refresh_behind-returns-then-is_dirty : goal.refresh_behind-returns-then-is_dirty
-refresh_behind-returns-then-is_dirty t c = behind_output _ _ _ _ _ c.source-s.ensures _ _ _ c.in-Output.is c.gate_at_output-g.ensures c.refresh_to.ensures
+refresh_behind-returns-then-is_dirty t c = behind_output _ _ _ _ _ c.source.ensures _ _ _ c.in-Some.is c.gate_at_output-behind.ensures c.refresh_to.ensures
 
 pub refresh_behind-returns-else-is_dirty : goal.refresh_behind-returns-else-is_dirty
-refresh_behind-returns-else-is_dirty t c = behind_fresh _ _ _ _ _ _ _ _ c.source-s.ensures c.in-Output.is c.gate_at_output-g.ensures c.is_dirty.ensures c.if-is_dirty.false
+refresh_behind-returns-else-is_dirty t c = behind_fresh _ _ _ _ _ _ _ _ c.source.ensures c.in-Some.is c.gate_at_output-behind.ensures c.is_dirty.ensures c.if-is_dirty.false
 
-pub refresh_behind-returns-in-Nothing : goal.refresh_behind-returns-in-Nothing
-refresh_behind-returns-in-Nothing t c = behind_none _ _ _ _ _ c.source-s.ensures c.in-Nothing.is
+pub refresh_behind-returns-in_default : goal.refresh_behind-returns-in_default
+refresh_behind-returns-in_default t c = behind_none _ _ _ _ _ c.source.ensures c.in_default.is
 
 pub refresh_sources-loop-k-init : goal.refresh_sources-loop-k-init
 refresh_sources-loop-k-init t c = (search rules, search rules, steps_first _ _ _ _)

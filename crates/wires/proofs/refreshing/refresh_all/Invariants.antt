@@ -1,4 +1,4 @@
-use Rattle.std.proofs.Common.{◌≡◌, ◌-◌, ◌^◌, ◌<◌, length}
+use Rattle.std.proofs.Common.{◌≡◌, ◌^◌, ◌<◌, length}
 use Rattle.words.specs.Tables.{digits}
 use Rattle.words.proofs.Tables.{places}
 use Rattle.model.specs.Base.{each}

@@ -1,4 +1,4 @@
-use Rattle.std.proofs.Common.{◌-◌, refl, rules}
+use Rattle.std.proofs.Common.{refl, rules}
 use Rattle.wires.proofs.Lists.{turn_zero, turn_last}
 use Rattle.wires.proofs.Steps.{steps_counted}
 use Rattle.wires.proofs.start.await_checks.Goals as goal

@@ -1,5 +1,4 @@
-use Rattle.std.proofs.Common.{◌-◌, refl, ◌∙◌, rules}
-use Rattle.words.specs.Words.{tail}
+use Rattle.std.proofs.Common.{refl, ◌∙◌, rules}
 use Rattle.wires.proofs.Starting.{clear_first, clear_next, clear_last}
 use Rattle.wires.proofs.start.clear.Goals as goal
 

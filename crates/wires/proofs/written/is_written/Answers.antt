@@ -1,4 +1,4 @@
-use Rattle.std.proofs.Common.{◌-◌, refl, rules}
+use Rattle.std.proofs.Common.{refl, rules}
 use Rattle.wires.proofs.Memory.{written_found, written_next, written_not}
 use Rattle.wires.proofs.written.is_written.Goals as goal
 

@@ -1,4 +1,4 @@
-use Rattle.std.proofs.Common.{◌-◌, refl, rules}
+use Rattle.std.proofs.Common.{refl, rules}
 use Rattle.wires.proofs.Memory.{writes_first, writes_kept, writes_next, writes_last}
 use Rattle.wires.proofs.written.mark_written.Goals as goal
 
