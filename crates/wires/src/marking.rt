@@ -75,10 +75,8 @@ fn mark_row(links: &[usize], values: &mut [u8], n: usize, o: usize) -> usize
     let first = first_reader(links, o);
     let count = reader_count(links, o);
     let mut h = n;
-    let mut k = 0;
-    while k < count {
+    for k in 0..count {
         h = mark_reader(links, values, h, reader(links, first + k));
-        k += 1;
     }
     h
 }
@@ -90,14 +88,12 @@ fn mark_on(links: &[usize], values: &mut [u8], n: usize, rounds: usize)
     ensures { Turns links.now (values.old, values.new) (λ c _. mark_on c rounds (marking_in links.now values.old n)) }
 {
     let mut h = n;
-    let mut m = rounds;
-    while m > 0 {
+    for m in (0..rounds).rev() {
         if h == 0 {
             return;
         }
         let o = get(values, STACK + (h - 1)) as usize;
         h = mark_row(links, values, h - 1, o);
-        m -= 1;
     }
 }
 

@@ -106,9 +106,7 @@ pub fn lower_all(links: &[usize], values: &mut [u8])
     ensures { Turns links.now (values.old, values.new) (λ c w. each (lower c) w (from 0 (length c.outputs))) }
 {
     let n = (outputs(links) + 63) / 64;
-    let mut j = 0;
-    while j < n {
+    for j in 0..n {
         lower_word(links, values, j);
-        j += 1;
     }
 }

@@ -80,10 +80,8 @@ fn refresh_sources(links: &[usize], values: &mut [u8], deep: usize, a: usize, n:
     requires { Linked links.now × Room values.old × (a + n < 262144) }
     ensures { Turns links.now (values.old, values.new) (λ c w. each (behind c (refresh_to c deep)) w (from a n)) }
 {
-    let mut k = 0;
-    while k < n {
+    for k in 0..n {
         refresh_behind(links, values, deep, a + k);
-        k += 1;
     }
 }
 

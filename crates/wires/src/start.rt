@@ -21,10 +21,8 @@ fn clear(links: &[usize], values: &mut [u8])
     requires { Linked links.now × Room values.old }
     ensures { Turns links.now (values.old, values.new) (λ c _. blank c) }
 {
-    let mut k = 0;
-    while k < TABLES {
+    for k in 0..TABLES {
         put(values, k, 0);
-        k += 1;
     }
 }
 
@@ -49,10 +47,8 @@ fn prepare_all(links: &[usize], values: &mut [u8])
     ensures { Turns links.now (values.old, values.new) (λ c w. each (prepared c) w (from 0 (length c.kinds))) }
 {
     let n = gates(links);
-    let mut g = 0;
-    while g < n {
+    for g in 0..n {
         prepare(links, values, g);
-        g += 1;
     }
 }
 
@@ -72,10 +68,8 @@ fn await_checks(links: &[usize], values: &mut [u8])
     ensures { Turns links.now (values.old, values.new) (λ c w. each (awaited c) w (from 0 (length c.pins))) }
 {
     let n = inputs(links);
-    let mut i = 0;
-    while i < n {
+    for i in 0..n {
         await_check(links, values, i);
-        i += 1;
     }
 }
 

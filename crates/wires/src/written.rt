@@ -21,12 +21,10 @@ fn is_written(values: &[u8], n: usize, o: usize) -> bool
     requires { Room values.now × (n ≤ 64) }
     ensures { result ≡ among o (take n (cut (words values.now)).written) }
 {
-    let mut k = 0;
-    while k < n {
+    for k in 0..n {
         if get(values, WRITTEN + k) as usize == o {
             return true;
         }
-        k += 1;
     }
     false
 }
@@ -111,10 +109,8 @@ fn mark_written(links: &[usize], values: &mut [u8])
     ensures { Turns links.now (values.old, values.new) (λ c w. each (publish_write c) w w.written) }
 {
     let n = written(links, values);
-    let mut k = 0;
-    while k < n {
+    for k in 0..n {
         publish_write(links, values, get(values, WRITTEN + k) as usize);
-        k += 1;
     }
 }
 

@@ -8,6 +8,3 @@ use Rattle.wires.proofs.marking.mark_on.Given as goal
 
 abbrev pub invariant-loop-m : goal.invariant-loop-m
 invariant-loop-m l = (length l.values ≡ length l.initial.values) × (to_do (marking (net l.links) l.values l.h).marking ≤ 65) × (ended (net l.links) l.m (marking (net l.links) l.values l.h) ≡ with_wires (view (net l.links) l.initial.values) (mark_rounds (net l.links) l.rounds (marking (net l.links) l.initial.values l.n).marking))
-
-abbrev pub decreases-loop-m : goal.decreases-loop-m
-decreases-loop-m l = l.m

@@ -16,13 +16,13 @@ pub refresh_behind-returns-in_default : goal.refresh_behind-returns-in_default
 refresh_behind-returns-in_default t c = behind_none _ _ _ _ _ c.source.ensures c.in_default.is
 
 pub refresh_sources-loop-k-init : goal.refresh_sources-loop-k-init
-refresh_sources-loop-k-init t c = (search rules, search rules, steps_first _ _ _ _)
+refresh_sources-loop-k-init t c = (search rules, steps_first _ _ _ _)
 
 pub refresh_sources-loop-k-preserved : goal.refresh_sources-loop-k-preserved
-refresh_sources-loop-k-preserved t c = (search rules, search rules, turn_next _ _ _ _ _ _ _ c.loop-k-test.true c.refresh_behind.ensures c.loop-k.invariant.2)
+refresh_sources-loop-k-preserved t c = (search rules, turn_next _ _ _ _ _ _ _ c.loop-k-test.true c.refresh_behind.ensures c.loop-k.invariant.1)
 
 pub refresh_sources-returns : goal.refresh_sources-returns
-refresh_sources-returns t c = turn_last _ _ _ _ _ _ c.loop-k-test.false c.loop-k.invariant.2
+refresh_sources-returns t c = turn_last _ _ _ _ _ _ c.loop-k-test.false c.loop-k.invariant.1
 
 pub refresh_to-returns-then-is_dirty : goal.refresh_to-returns-then-is_dirty
 refresh_to-returns-then-is_dirty t c = let a = c.args in refresh_stale (net a.links.now) (view (net a.links.now) a.values.now) a.g a.deep _ _ _ _ _ c.if-deep-gt0.true c.is_dirty.ensures c.if-is_dirty.true c.input-a.ensures c.inputs_of-n.ensures c.refresh_sources.ensures c.recompute.ensures

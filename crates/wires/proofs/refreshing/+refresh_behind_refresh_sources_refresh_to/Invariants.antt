@@ -1,4 +1,4 @@
-use Rattle.std.proofs.Common.{◌≡◌, ◌+◌, ◌-◌, ◌*◌, ◌≤◌, length}
+use Rattle.std.proofs.Common.{◌≡◌, ◌+◌, ◌*◌, length}
 use Rattle.model.specs.Base.{each, from}
 use Rattle.model.specs.Wires.{behind, refresh_to}
 use Rattle.links.specs.Links.{net}
@@ -17,7 +17,4 @@ abbrev pub decreases-refresh_to : goal.decreases-refresh_to
 decreases-refresh_to l = 3 * l.deep
 
 abbrev pub invariant-refresh_sources-loop-k : goal.invariant-refresh_sources-loop-k
-invariant-refresh_sources-loop-k l = (length l.values ≡ length l.initial.values) × (l.k ≤ l.n) × (left_of (step (behind (net l.links) (refresh_to (net l.links) l.deep))) (view (net l.links) l.values) l.a l.n l.k ≡ with_wires (view (net l.links) l.initial.values) (each (behind (net l.links) (refresh_to (net l.links) l.deep)) (view (net l.links) l.initial.values).wires (from l.a l.n)))
-
-abbrev pub decreases-refresh_sources-loop-k : goal.decreases-refresh_sources-loop-k
-decreases-refresh_sources-loop-k l = l.n - l.k
+invariant-refresh_sources-loop-k l = (length l.values ≡ length l.initial.values) × (left_of (step (behind (net l.links) (refresh_to (net l.links) l.deep))) (view (net l.links) l.values) l.a l.n l.k ≡ with_wires (view (net l.links) l.initial.values) (each (behind (net l.links) (refresh_to (net l.links) l.deep)) (view (net l.links) l.initial.values).wires (from l.a l.n)))

@@ -1,10 +1,7 @@
-use Rattle.std.proofs.Common.{◌≡◌, ◌-◌, ◌≤◌, ◌++◌, length, drop}
+use Rattle.std.proofs.Common.{◌≡◌, ◌++◌, length, drop}
 use Rattle.words.specs.Words.{words, tail}
 use Rattle.wires.proofs.Starting.{zeros}
 use Rattle.wires.proofs.start.clear.Given as goal
 
 abbrev pub invariant-loop-k : goal.invariant-loop-k
-invariant-loop-k l = (length l.values ≡ length l.initial.values) × (l.k ≤ 5462) × (words l.values ≡ zeros l.k ++ drop l.k (words l.initial.values)) × (tail l.values ≡ tail l.initial.values)
-
-abbrev pub decreases-loop-k : goal.decreases-loop-k
-decreases-loop-k l = 5462 - l.k
+invariant-loop-k l = (length l.values ≡ length l.initial.values) × (words l.values ≡ zeros l.k ++ drop l.k (words l.initial.values)) × (tail l.values ≡ tail l.initial.values)

@@ -1,4 +1,4 @@
-use Rattle.std.proofs.Common.{◌≡◌, ◌-◌, ◌≤◌, length}
+use Rattle.std.proofs.Common.{◌≡◌, length}
 use Rattle.model.specs.Base.{each, from}
 use Rattle.links.specs.Links.{net}
 use Rattle.wires.specs.View.{with_wires, values as view}
@@ -8,7 +8,4 @@ use Rattle.wires.proofs.Steps.{step}
 use Rattle.wires.proofs.start.prepare_all.Given as goal
 
 abbrev pub invariant-loop-g : goal.invariant-loop-g
-invariant-loop-g l = (length l.values ≡ length l.initial.values) × (l.g ≤ l.n) × (left_of (step (prepared (net l.links))) (view (net l.links) l.values) 0 l.n l.g ≡ with_wires (view (net l.links) l.initial.values) (each (prepared (net l.links)) (view (net l.links) l.initial.values).wires (from 0 (length (net l.links).kinds))))
-
-abbrev pub decreases-loop-g : goal.decreases-loop-g
-decreases-loop-g l = l.n - l.g
+invariant-loop-g l = (length l.values ≡ length l.initial.values) × (left_of (step (prepared (net l.links))) (view (net l.links) l.values) 0 l.n l.g ≡ with_wires (view (net l.links) l.initial.values) (each (prepared (net l.links)) (view (net l.links) l.initial.values).wires (from 0 (length (net l.links).kinds))))
