@@ -2,7 +2,7 @@
 use Rattle.std.proofs.Common.{◌≡◌, ℕ, zero, suc, ◌/◌, ◌%◌, ◌^◌, ◌<◌, eqb, List, ◌∷◌, sym, refl, ap, ◌∙◌, pow-suc, arith}
 use native.Mathlib.Nat.{div-div-eq-div-mul}
 use Rattle.words.specs.Tables.{marked, digits}
-use Rattle.words.proofs.Tables.{places}
+use Rattle.words.specs.Bits.{places}
 use Rattle.model.specs.Base.{if◌then◌otherwise◌, keep, each, from}
 use Rattle.model.specs.Wires.{invalidate}
 use Rattle.links.specs.Links.{cell, net, gates_of_word}

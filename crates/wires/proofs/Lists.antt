@@ -1,9 +1,6 @@
 -- Laws of parallel lists and of loops over numbers in a row.
-use Rattle.std.proofs.Common.{◌≡◌, ℕ, zero, suc, ◌+◌, ◌-◌, ◌*◌, ◌/◌, ◌^◌, ◌<◌, ◌≤◌, Bool, true, false, List, [], ◌∷◌, map, length, get_or, set, sym, refl, ap, ◌∙◌, add_comm, pow-suc, mul-zero, mul-suc, arith}
-use lib.Bits.{bit_and}
-use lib.Count.{ones, ones_step, count_trailing_zeros}
-use Rattle.words.specs.Tables.{digits}
-use Rattle.words.proofs.Tables.{places, next_place, last_place}
+use Rattle.std.proofs.Common.{◌≡◌, ℕ, zero, suc, ◌+◌, ◌-◌, ◌*◌, ◌<◌, ◌≤◌, Bool, true, false, List, [], ◌∷◌, map, length, get_or, set, sym, refl, ap, ◌∙◌, add_comm, mul-zero, mul-suc, arith}
+use Rattle.words.specs.Bits.{places}
 use Rattle.model.proofs.Lists.{each_keeps}
 use Rattle.model.specs.Base.{each, from, both}
 
@@ -127,35 +124,16 @@ each_blocks f b s m (suc k) =
     let e : s * suc k ≡ s + s * k = mul-suc s k ∙ add_comm (s * k) s in
     rw (e, each_cut f b (s * m) s (s * k)) (each_blocks f (each f b (from (s * m) s)) s (suc m) k ∙ rw (mul-suc s m))
 
--- ---- loops over the marks of a word, the lowest first
+-- ---- loops over the items of an iterator
 
-module _ {B : Type 0} (f : B → ℕ → B) (b x : B) (d : ℕ) where
-  pub marks_next :
-      (b₁ : B) → d < 2 ^ 64 → 0 < d → each f b (places 0 (digits 64 d)) ≡ x → b₁ ≡ f b (count_trailing_zeros 64 d) →
-      each f b₁ (places 0 (digits 64 (bit_and d (d - 1)))) ≡ x
+module _ {B : Type 0} (f : B → ℕ → B) (b x : B) (is : List ℕ) where
+  pub items_first : (js : List ℕ) → js ≡ is → each f b is ≡ x → each f b js ≡ x
+  items_first js e h = ap (each f b) e ∙ h
+
+  pub item_next : (b₁ : B) (i : ℕ) (js : List ℕ) → is ≡ i ∷ js → b₁ ≡ f b i → each f b is ≡ x → each f b₁ js ≡ x
   unfolding each
-  marks_next b₁ h p i e = ap (λ (u : B). each f u (places 0 (digits 64 (bit_and d (d - 1))))) e ∙ sym (ap (each f b) (next_place d (count_trailing_zeros 64 d) h p refl).0) ∙ i
+  item_next b₁ i js e q h = ap (λ (u : B). each f u js) q ∙ sym (ap (each f b) e) ∙ h
 
-  pub marks_last : d ≤ 0 → each f b (places 0 (digits 64 d)) ≡ x → b ≡ x
+  pub items_over : is ≡ [] → each f b is ≡ x → b ≡ x
   unfolding each
-  marks_last h i = sym (ap (each f b) (last_place d (omega arith))) ∙ i
-
--- ---- how many marks a word has
-
--- some: it is not 0
-pub ones_some : (d : ℕ) → 0 < ones d → 0 < d
-unfolding ones
-ones_some zero h = h
-ones_some (suc d) h = omega arith
-
-no_ones : (k d : ℕ) → d < 2 ^ k → ones d ≤ 0 → d ≤ 0
-no_ones zero d h l = omega arith
-no_ones (suc k) d h l =
-    let e = ones_step d in
-    let p : 2 ^ suc k ≡ 2 ^ k * 2 = pow-suc 2 k in
-    let q : d / 2 ≤ 0 = no_ones k (d / 2) (omega arith) (omega arith) in
-    omega arith
-
--- none: it is 0
-pub ones_none : (d : ℕ) → d < 2 ^ 64 → ones d ≤ 0 → d ≤ 0
-ones_none d h l = no_ones 64 d h l
+  items_over e h = sym (ap (each f b) e) ∙ h

@@ -6,7 +6,8 @@ use lib.ListN.{get_or-eq_default}
 use lib.Seq.{set_out, set-get_or}
 use Rattle.words.specs.Words.{words, Stored}
 use Rattle.words.specs.Tables.{marked, digits, marks}
-use Rattle.words.proofs.Tables.{take_set, places, digits_length, digits_get, digits_or, digits_xor, one_digit, marks_length, marks_set, marks_get}
+use Rattle.words.specs.Bits.{places}
+use Rattle.words.proofs.Tables.{take_set, digits_length, digits_get, digits_or, digits_xor, one_digit, marks_length, marks_set, marks_get}
 use Rattle.model.specs.declared.Value.{Value}
 use Rattle.model.specs.declared.Value.TheVariants.{Bool as Truth}
 use Rattle.model.specs.Base.{if◌then◌otherwise◌, both, each, from}

@@ -6,7 +6,8 @@ use Rattle.std.specs.Prelude.{Option, Some, None}
 use Rattle.words.specs.Options.{option_of}
 use Rattle.words.specs.Words.{words}
 use Rattle.words.specs.Tables.{digits}
-use Rattle.words.proofs.Tables.{places, digits_length}
+use Rattle.words.specs.Bits.{places}
+use Rattle.words.proofs.Tables.{digits_length}
 use Rattle.model.specs.declared.Value.{Value}
 use Rattle.model.specs.declared.Value.TheVariants.{Float}
 use Rattle.model.specs.Base.{if◌then◌otherwise◌, all, each, from, base_opened}

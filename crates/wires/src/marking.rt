@@ -20,6 +20,7 @@ use links::{
 };
 use model::Value;
 use value::same;
+use words::bits::Bits;
 use words::{get, put};
 
 // Input i is marked for a late check, if marking is for one.
@@ -150,10 +151,8 @@ pub fn invalidate_all(links: &[usize], values: &mut [u8])
     requires { Linked links.now × Room values.old }
     ensures { Turns links.now (values.old, values.new) (λ c w. each (invalidate c) w c.time_sources) }
 {
-    let mut d = time_sources(links) as u64;
-    while d > 0 {
-        invalidate(links, values, u64::trailing_zeros(d) as usize);
-        d = d & (d - 1);
+    for g in Bits::of(time_sources(links) as u64) {
+        invalidate(links, values, g);
     }
 }
 

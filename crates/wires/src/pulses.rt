@@ -11,6 +11,7 @@ use crate::layout::{TICK, TICKS, UP};
 use crate::marking::set_out;
 use links::outputs;
 use model::Value;
+use words::bits::Bits;
 use words::{get, put};
 
 // The tick in which the pulse of output o was last raised, 0 for none.
@@ -93,10 +94,8 @@ fn lower_word(links: &[usize], values: &mut [u8], j: usize)
     requires { Linked links.now × Room values.old × (j < 9) }
     ensures { Turns links.now (values.old, values.new) (λ c w. each (lower c) w (from (64 * j) 64)) }
 {
-    let mut d = get(values, UP + j);
-    while d > 0 {
-        lower(links, values, 64 * j + u64::trailing_zeros(d) as usize);
-        d = d & (d - 1);
+    for b in Bits::of(get(values, UP + j)) {
+        lower(links, values, 64 * j + b);
     }
 }
 

@@ -14,6 +14,7 @@ use kinds;
 use links::{gate_at_output, gates, input, kind_of_gate, output, source};
 use model::Value;
 use value::truthy;
+use words::bits::Bits;
 use words::get;
 
 // What pure gate g gives.
@@ -121,9 +122,7 @@ pub fn refresh_all(links: &[usize], values: &mut [u8])
     requires { Linked links.now × Room values.old }
     ensures { Turns links.now (values.old, values.new) (λ c w. refresh_all c w) }
 {
-    let mut d = get(values, DIRTY);
-    while u64::count_ones(d) > 0 {
-        refresh(links, values, u64::trailing_zeros(d) as usize);
-        d = d & (d - 1);
+    for g in Bits::of(get(values, DIRTY)) {
+        refresh(links, values, g);
     }
 }

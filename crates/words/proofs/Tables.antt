@@ -13,6 +13,7 @@ use lib.Dec.{T}
 use lib.ListN.{length, get_or, set, take, drop, length-append, length-drop, get_or-append}
 use lib.Pow.{pow_mono}
 use lib.Seq.{length-take-le, take_at, drop_at, take-add, drop-drop, take-set-lt, drop-set-lt, take-set-le, drop-set-add, set-append_left, get_or-append-add, get_or-take, get_or-drop, get_or-set_same, get_or-set_other}
+use Rattle.words.specs.Bits.{places}
 use Rattle.words.specs.Tables.{tables, base, marked, digits, marks, ring, stack}
 
 -- ---- tables
@@ -159,12 +160,6 @@ lowest [] = 0
 lowest (true ∷ bs) = 0
 lowest (false ∷ bs) = suc (lowest bs)
 
--- The places of the marks, counted from n on.
-unfoldable pub places : ℕ → List Bool → List ℕ
-places n [] = []
-places n (true ∷ bs) = n ∷ places (suc n) bs
-places n (false ∷ bs) = places (suc n) bs
-
 zeros_digits : (n d : ℕ) → count_trailing_zeros n d ≡ lowest (digits n d)
 unfolding digits lowest count_trailing_zeros
 zeros_digits zero d = refl
@@ -181,6 +176,16 @@ places_first n (true ∷ bs) h = rw (add-zero n)
 places_first n (false ∷ bs) h =
     let e : n + suc (lowest bs) ≡ suc n + lowest bs = omega arith in
     rw e (places_first (suc n) bs (omega arith))
+
+-- None is beyond the marks.
+places_below : (n : ℕ) (bs : List Bool) (g : ℕ) (r : List ℕ) → places n bs ≡ g ∷ r → g < n + length bs
+unfolding places
+places_below n [] g r h = cc
+places_below n (true ∷ bs) g r h = let e : n ≡ g = cc in omega arith
+places_below n (false ∷ bs) g r h = omega (arith, places_below (suc n) bs g r h)
+
+pub bit_below : (d g : ℕ) (r : List ℕ) → places 0 (digits 64 d) ≡ g ∷ r → g < 64
+bit_below d g r h = omega (arith, places_below 0 (digits 64 d) g r h, digits_length 64 d)
 
 no_places : (n m : ℕ) → places m (digits n 0) ≡ []
 unfolding digits places

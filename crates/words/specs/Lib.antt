@@ -1,5 +1,6 @@
 pub mod Words
 pub mod Tables
+pub mod Bits
 pub mod Slices
 pub mod Options
 pub mod Examples

@@ -4,6 +4,7 @@
 ghost use Rattle.std.specs.Prelude.{◌≡◌, ◌+◌, ◌*◌, ◌<◌, ◌≤◌, length, get_or};
 ghost use Rattle.words.specs.Words.{words, Stored, signed, unsigned};
 
+pub mod bits;
 pub mod counting;
 pub mod rows;
 pub mod told;

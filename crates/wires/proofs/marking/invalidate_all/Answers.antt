@@ -1,21 +1,14 @@
-use Rattle.std.proofs.Common.{◌-◌, arith, rules}
-use lib.Bits.{and_le_l, and_le_r}
-use lib.Count.{trailing_le}
-use Rattle.wires.proofs.Lists.{marks_next, marks_last}
+use Rattle.std.proofs.Common.{ap, ◌∙◌, rules}
+use Rattle.words.specs.Bits.{bits_left}
+use Rattle.wires.proofs.Lists.{items_first, item_next, items_over}
 use Rattle.wires.proofs.Gates.{times_first}
 use Rattle.wires.proofs.marking.invalidate_all.Goals as goal
 
-pub loop-d-init : goal.loop-d-init
-loop-d-init c = (search rules, search rules, times_first _ _ _ c.time_sources-d.ensures)
+pub loop-g-init : goal.loop-g-init
+loop-g-init c = (search rules, items_first _ _ _ _ _ (ap bits_left c.into_iter-g-iterator.ensures.into_iter_gives ∙ c.of-g-items.ensures) (times_first _ _ _ c.time_sources.ensures))
 
-pub overflow_cast-d : goal.overflow_cast-d
-overflow_cast-d c = omega (arith, trailing_le 64 c.loop-d.d)
-
-pub loop-d-smaller : goal.loop-d-smaller
-loop-d-smaller c = omega (arith, and_le_r c.loop-d.d (c.loop-d.d - 1))
-
-pub loop-d-preserved : goal.loop-d-preserved
-loop-d-preserved c = (search rules, omega (arith, and_le_l c.loop-d.d (c.loop-d.d - 1)), marks_next _ _ _ _ _ c.loop-d.invariant.1 c.loop-d-test.true c.loop-d.invariant.2 c.invalidate.ensures)
+pub loop-g-preserved : goal.loop-g-preserved
+loop-g-preserved c = (search rules, item_next _ _ _ _ _ _ _ c.in-Some.ensures.steps c.invalidate.ensures c.loop-g.invariant.1)
 
 pub returns : goal.returns
-returns c = marks_last _ _ _ _ c.loop-d-test.false c.loop-d.invariant.2
+returns c = items_over _ _ _ _ c.in-None.ensures.steps.0 c.loop-g.invariant.1

@@ -1,24 +1,18 @@
-use Rattle.std.proofs.Common.{◌-◌, arith, rules}
-use lib.Bits.{and_le_l, and_le_r}
-use lib.Count.{trailing_le}
-use Rattle.wires.proofs.Lists.{marks_next, marks_last}
+use Rattle.std.proofs.Common.{ap, ◌∙◌, arith, rules}
+use Rattle.words.specs.Bits.{bits_left}
+use Rattle.words.proofs.Tables.{bit_below}
+use Rattle.wires.proofs.Lists.{items_first, item_next, items_over}
 use Rattle.wires.proofs.Pulsing.{word_first}
 use Rattle.wires.proofs.pulses.lower_word.Goals as goal
 
-pub loop-d-init : goal.loop-d-init
-loop-d-init c = (search rules, search rules, word_first _ _ _ _ (search rules) (search rules) c.get-d.ensures)
+pub loop-b-init : goal.loop-b-init
+loop-b-init c = (search rules, items_first _ _ _ _ _ (ap bits_left c.into_iter-b-iterator.ensures.into_iter_gives ∙ c.of-b-items.ensures) (word_first _ _ _ _ (search rules) (search rules) c.get.ensures))
 
-pub overflow_cast-d : goal.overflow_cast-d
-overflow_cast-d c = omega (arith, trailing_le 64 c.loop-d.d)
+pub overflow_add-j-in-loop-b : goal.overflow_add-j-in-loop-b
+overflow_add-j-in-loop-b c = omega (arith, bit_below _ _ _ c.in-Some.ensures.steps, c.requires.2)
 
-pub overflow_add-j-in-loop-d : goal.overflow_add-j-in-loop-d
-overflow_add-j-in-loop-d c = omega (arith, trailing_le 64 c.loop-d.d, c.requires.2)
-
-pub loop-d-smaller : goal.loop-d-smaller
-loop-d-smaller c = omega (arith, and_le_r c.loop-d.d (c.loop-d.d - 1))
-
-pub loop-d-preserved : goal.loop-d-preserved
-loop-d-preserved c = (search rules, omega (arith, and_le_l c.loop-d.d (c.loop-d.d - 1)), marks_next _ _ _ _ _ c.loop-d.invariant.1 c.loop-d-test.true c.loop-d.invariant.2 c.lower.ensures)
+pub loop-b-preserved : goal.loop-b-preserved
+loop-b-preserved c = (search rules, item_next _ _ _ _ _ _ _ c.in-Some.ensures.steps c.lower.ensures c.loop-b.invariant.1)
 
 pub returns : goal.returns
-returns c = marks_last _ _ _ _ c.loop-d-test.false c.loop-d.invariant.2
+returns c = items_over _ _ _ _ c.in-None.ensures.steps.0 c.loop-b.invariant.1
