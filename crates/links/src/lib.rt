@@ -35,10 +35,7 @@ fn counted(links: &[usize], n: usize, most: usize) -> usize
     requires { Linked links.now × (n < 16) }
     ensures { result ≡ min (cell links.now n) most }
 {
-    if links[n] < most {
-        return links[n];
-    }
-    most
+    links[n].min(most)
 }
 
 // Cell i of the table that begins at `at`, of which cell n says how many are in use, and `missing` past those.

@@ -1,5 +1,5 @@
 -- What the functions that read and write the tables come to: one law for each way out of one.
-use Rattle.std.proofs.Common.{◌≡◌, ℕ, ◌+◌, ◌*◌, ◌/◌, ◌%◌, ◌^◌, ◌<◌, ◌≤◌, min, Bool, true, false, not, ◌||◌, eqb, leb, List, map, length, get_or, take, set, sym, refl, ap, ◌∙◌, ap₂, add-one, arith, length-take, get_or-take, get_or-set_same, ne_eqb, le-leb}
+use Rattle.std.proofs.Common.{◌≡◌, ℕ, ◌+◌, ◌*◌, ◌/◌, ◌%◌, ◌^◌, ◌<◌, ◌≤◌, min, Bool, true, false, not, ◌||◌, eqb, leb, List, map, length, get_or, take, set, sym, subst, refl, ap, ◌∙◌, ap₂, add-one, arith, length-take, get_or-take, get_or-set_same, ne_eqb, le-leb}
 use mathlib.Core.Bool.{or-true}
 use borrow.Author.Tests.{lt-leb}
 use lib.Bits.{bit_or, bit_xor}
@@ -35,8 +35,10 @@ flag_at : (k i x : ℕ) (xs : List ℕ) (d : Bool) → i < k → i < length xs �
 flag_at k i x xs d h l e = get_or-take k (map marked xs) i d h ∙ map_marked_get xs i d l ∙ ap marked (sym e)
 
 -- one mark more in a word of marks
-pub one_mark : (k g d : ℕ) → g < 64 → digits k (bit_or d (1 * 2 ^ g % 2 ^ 64)) ≡ set (digits k d) g true
-one_mark k g d h = ap (λ (x : ℕ). digits k (bit_or d x)) (one_digit g h) ∙ digits_or k d g
+pub bit_set :
+    (bs bs₁ : List ℕ) (i b d : ℕ) → b < 64 → d ≡ get_or (words bs) i 0 → Stored bs bs₁ i (bit_or d (1 * 2 ^ b % 2 ^ 64)) →
+    Stored bs bs₁ i (bit_or (get_or (words bs) i 0) (2 ^ b))
+bit_set bs bs₁ i b d h e s = subst (Stored bs bs₁ i) (ap₂ bit_or e (one_digit b h)) s
 
 -- no mark there, where its digit is 0
 pub unmarked_at : (k g d : ℕ) (b : Bool) → g < k → eqb (d / 2 ^ g % 2) 0 ≡ not (get_or (digits k d) g b)
@@ -134,13 +136,13 @@ module _ (c : Circuit) (bs : List ℕ) (g n : ℕ) (en : Counts 64 n (length c.k
   clean_out h = ap not (sym (get_or-eq_default (values c bs).wires.dirty true {n = g} (omega (arith, dirty_length))))
 
   pub soil_in :
-      (bs₁ : List ℕ) (d : ℕ) → 65536 ≤ length bs → g < n → d ≡ get_or (words bs) 3 0 → Stored bs bs₁ 3 (bit_or d (1 * 2 ^ g % 2 ^ 64)) →
+      (bs₁ : List ℕ) → 65536 ≤ length bs → g < n → Stored bs bs₁ 3 (bit_or (get_or (words bs) 3 0) (2 ^ g)) →
       area c bs₁ ≡ area_with (area c bs) (soil (area c bs).values.wires g)
   unfolding soil area
-  soil_in bs₁ d l h e s =
-      dirty_put c bs bs₁ (bit_or d (1 * 2 ^ g % 2 ^ 64)) l s
+  soil_in bs₁ l h s =
+      dirty_put c bs bs₁ (bit_or (get_or (words bs) 3 0) (2 ^ g)) l s
       ∙ ap (λ (x : List Bool). area_with (area c bs) (dirty≔ (values c bs).wires x))
-      (one_mark (length c.kinds) g d (omega arith) ∙ ap (λ (x : List Bool). set x g true) (the_dirty c bs d e))
+      (digits_or (length c.kinds) (get_or (words bs) 3 0) g ∙ ap (λ (x : List Bool). set x g true) (the_dirty c bs (get_or (words bs) 3 0) refl))
 
   pub soil_out : n ≤ g → area c bs ≡ area_with (area c bs) (soil (area c bs).values.wires g)
   unfolding soil area dirty≔

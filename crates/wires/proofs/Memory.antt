@@ -1,8 +1,8 @@
 -- What is remembered of wires: last values, Unions passed, Breaks, runs of bodies, the tick, and Vars written; one law for each way out of a function.
-use Rattle.std.proofs.Common.{◌≡◌, ℕ, zero, suc, ◌+◌, ◌-◌, ◌*◌, ◌/◌, ◌%◌, ◌^◌, ◌<◌, ◌≤◌, min, Bool, true, false, not, ◌||◌, eqb, leb, List, map, length, get_or, take, drop, set, sym, refl, ap, ◌∙◌, ap₂, add-one, arith, drop_of_length-le, length-take, length-take-le, drop-cons, get_or-take, get_or-set_same, take-suc-set, eq-eqb, ne_eqb, le-leb}
+use Rattle.std.proofs.Common.{◌≡◌, ℕ, zero, suc, ◌+◌, ◌-◌, ◌/◌, ◌%◌, ◌^◌, ◌<◌, ◌≤◌, min, Bool, true, false, not, ◌||◌, eqb, leb, List, map, length, get_or, take, drop, set, sym, refl, ap, ◌∙◌, ap₂, add-one, arith, drop_of_length-le, length-take, length-take-le, drop-cons, get_or-take, get_or-set_same, take-suc-set, eq-eqb, ne_eqb, le-leb}
 use mathlib.Core.Bool.{or-true}
 use mathlib.Core.Option.{none, some}
-use borrow.Author.Tests.{lt-leb}
+use borrow.Author.Tests.{lt-leb, leb-true, leb-false}
 use lib.Bits.{bit_or}
 use lib.ListN.{get_or-eq_default}
 use lib.Seq.{set_out}
@@ -27,7 +27,8 @@ use Rattle.links.proofs.Reading.{gates_counted}
 use Rattle.wires.specs.View.{cut, last_of, Values, with_wires, values}
 use Rattle.wires.proofs.Lists.{both_set, both_get}
 use Rattle.wires.proofs.Area.{cut_poke, cut_peek, sized}
-use Rattle.wires.proofs.Leaves.{Counts, one_mark, unmarked_at}
+use Rattle.words.proofs.Tables.{digits_or}
+use Rattle.wires.proofs.Leaves.{Counts, unmarked_at}
 use Rattle.wires.proofs.Steps.{step, each_step}
 
 -- ---- last values
@@ -130,12 +131,12 @@ module _ (c : Circuit) (bs : List ℕ) (g n : ℕ) (en : Counts 64 n (length c.k
   passed_past h = sym (get_or-eq_default (values c bs).wires.unions_passed false {n = g} (omega (arith, passed_length)))
 
   pub pass_in :
-      (bs₁ : List ℕ) (d : ℕ) → 65536 ≤ length bs → g < n → d ≡ get_or (words bs) 4 0 → Stored bs bs₁ 4 (bit_or d (1 * 2 ^ g % 2 ^ 64)) →
+      (bs₁ : List ℕ) → 65536 ≤ length bs → g < n → Stored bs bs₁ 4 (bit_or (get_or (words bs) 4 0) (2 ^ g)) →
       values c bs₁ ≡ with_wires (values c bs) (unions_passed≔ (values c bs).wires (set (values c bs).wires.unions_passed g true))
-  pass_in bs₁ d l h e s =
-      passed_put c bs bs₁ l (bit_or d (1 * 2 ^ g % 2 ^ 64)) s
+  pass_in bs₁ l h s =
+      passed_put c bs bs₁ l (bit_or (get_or (words bs) 4 0) (2 ^ g)) s
       ∙ ap (λ (x : List Bool). with_wires (values c bs) (unions_passed≔ (values c bs).wires x))
-      (one_mark (length c.kinds) g d (omega arith) ∙ ap (λ (x : List Bool). set x g true) (passed_word c bs d e))
+      (digits_or (length c.kinds) (get_or (words bs) 4 0) g ∙ ap (λ (x : List Bool). set x g true) (passed_word c bs (get_or (words bs) 4 0) refl))
 
   pub pass_past : n ≤ g → values c bs ≡ with_wires (values c bs) (unions_passed≔ (values c bs).wires (set (values c bs).wires.unions_passed g true))
   unfolding unions_passed≔
@@ -259,11 +260,12 @@ module _ (c : Circuit) (bs : List ℕ) (n : ℕ) (l : 65536 ≤ length bs) (en :
   written_few : n ≤ 64 → length (values c bs).wires.written ≡ n
   written_few h = ap (λ (x : List ℕ). length x) written_are ∙ few_written bs n l h
 
-  pub counted_few : n < 64 → (n ≡ length (values c bs).wires.written) × (n ≤ 64)
-  counted_few h = (sym (written_few (omega arith)), omega arith)
-
-  pub counted_many : 64 ≤ n → (64 ≡ length (values c bs).wires.written) × (64 ≤ 64)
-  counted_many h = (sym (written_many h), omega arith)
+  pub counted : (m : ℕ) → m ≡ min n 64 → (m ≡ length (values c bs).wires.written) × (m ≤ 64)
+  counted m e = go (leb 64 n) refl
+    where
+      go : (b : Bool) → leb 64 n ≡ b → (m ≡ length (values c bs).wires.written) × (m ≤ 64)
+      go true h = let q = leb-true 64 n h in (omega (arith, written_many q), omega arith)
+      go false h = let q = leb-false 64 n h in (omega (arith, written_few (omega arith)), omega arith)
 
   module _ (o : ℕ) where
     kept : (among o (values c bs).wires.written || leb 64 (length (values c bs).wires.written)) ≡ true → values c bs ≡ with_wires (values c bs) (write_once c (values c bs).wires o)
@@ -328,20 +330,21 @@ module _ (l bs : List ℕ) (o g : ℕ) (inside : Bool) (q : inside ≡ false) (e
   outside_marked w = if inside then w otherwise written_outside≔ w (set w.written_outside (gate_at_output (net l) o) true)
 
   pub mark_outside_in :
-      (bs₁ : List ℕ) (d : ℕ) → 65536 ≤ length bs → g < 64 → d ≡ get_or (words bs) 5458 0 → Stored bs bs₁ 5458 (bit_or d (1 * 2 ^ g % 2 ^ 64)) →
+      (bs₁ : List ℕ) → 65536 ≤ length bs → Stored bs bs₁ 5458 (bit_or (get_or (words bs) 5458 0) (2 ^ g)) →
       values (net l) bs₁ ≡ with_wires (values (net l) bs) (outside_marked (values (net l) bs).wires)
   unfolding values written_outside≔ if◌then◌otherwise◌
-  mark_outside_in bs₁ d r h e s =
+  mark_outside_in bs₁ r s =
+      let d = get_or (words bs) 5458 0 in
       let m : length (cut (words bs)).written_outside ≡ 1 = sized bs 19 r (omega arith) (omega arith) in
-      let p : d ≡ get_or (cut (words bs)).written_outside 0 0 = e ∙ cut_peek (words bs) 19 0 (omega arith) in
+      let p : d ≡ get_or (cut (words bs)).written_outside 0 0 = cut_peek (words bs) 19 0 (omega arith) in
       rw (
         q,
         ← eg,
         s.words,
-        cut_poke (words bs) 19 0 (bit_or d (1 * 2 ^ g % 2 ^ 64)) (omega arith),
+        cut_poke (words bs) 19 0 (bit_or d (2 ^ g)) (omega arith),
         s.tail,
-        get_or-set_same (cut (words bs)).written_outside 0 (bit_or d (1 * 2 ^ g % 2 ^ 64)) 0 (omega arith),
-        one_mark (length (net l).kinds) g d h,
+        get_or-set_same (cut (words bs)).written_outside 0 (bit_or d (2 ^ g)) 0 (omega arith),
+        digits_or (length (net l).kinds) d g,
         ← p,
       )
 

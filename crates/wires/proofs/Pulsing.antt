@@ -1,6 +1,5 @@
 -- Pulses: raised, ended, and lowered by the words that say which are up; one law for each way out of a function.
-use Rattle.std.proofs.Common.{◌≡◌, ℕ, zero, suc, ◌+◌, ◌-◌, ◌*◌, ◌/◌, ◌%◌, ◌^◌, ◌<◌, ◌≤◌, Bool, true, false, not, ◌&&◌, ltb, leb, List, [], ◌∷◌, length, get_or, take, set, sym, refl, ap, ◌∙◌, ap₂, arith, length-take, get_or-take, lt-ltb, ne_eqb, le-leb, leb-false, leb-true}
-use borrow.Author.Tests.{lt-leb}
+use Rattle.std.proofs.Common.{◌≡◌, ℕ, zero, suc, ◌+◌, ◌*◌, ◌/◌, ◌%◌, ◌^◌, ◌<◌, ◌≤◌, Bool, true, false, not, ◌&&◌, ltb, leb, List, [], ◌∷◌, length, get_or, take, set, sym, refl, ap, ◌∙◌, ap₂, arith, length-take, get_or-take, ne_eqb}
 use lib.Bits.{bit_or, bit_xor}
 use lib.ListN.{get_or-eq_default}
 use lib.Seq.{set_out, set-get_or}
@@ -98,19 +97,19 @@ module _ (c : Circuit) (bs : List ℕ) (o n : ℕ) (en : Counts 576 n (length c.
         rw q
 
     pub pulse_set :
-        (bs₁ bs₂ : List ℕ) (t : ℕ) → t ≡ get_or (words bs) 0 0 → Stored bs bs₁ (4104 + o) t → Stored bs₁ bs₂ (4680 + o / 64) (bit_or d (1 * 2 ^ (o % 64) % 2 ^ 64)) →
+        (bs₁ bs₂ : List ℕ) (t : ℕ) → t ≡ get_or (words bs) 0 0 → Stored bs bs₁ (4680 + o / 64) (bit_or d (2 ^ (o % 64))) → Stored bs₁ bs₂ (4104 + o) t →
         values c bs₂ ≡ with_wires (values c bs) (pulses≔ (values c bs).wires (set (values c bs).wires.pulses o (values c bs).wires.tick))
     unfolding values pulses≔ pulse_of
     pulse_set bs₁ bs₂ t et e₁ e₂ =
         let r = cut (words bs) in
-        let x = bit_or d (1 * 2 ^ (o % 64) % 2 ^ 64) in
-        let q : digits 64 x ≡ set (digits 64 d) (o % 64) true = ap (λ (y : ℕ). digits 64 (bit_or d y)) (one_digit (o % 64) (omega arith)) ∙ digits_or 64 d (o % 64) in
+        let x = bit_or d (2 ^ (o % 64)) in
+        let q : digits 64 x ≡ set (digits 64 d) (o % 64) true = digits_or 64 d (o % 64) in
         let p : t ≡ get_or r.tick 0 0 = et ∙ cut_peek (words bs) 0 0 (omega arith) in
         rw (
           e₂.words,
-          cut_poke (words bs₁) 15 (o / 64) x (omega (arith, en.1)),
+          cut_poke (words bs₁) 14 o t (omega (arith, en.1)),
           e₁.words,
-          cut_poke (words bs) 14 o t (omega (arith, en.1)),
+          cut_poke (words bs) 15 (o / 64) x (omega (arith, en.1)),
           e₂.tail,
           e₁.tail,
           up_set x true q,
@@ -133,28 +132,6 @@ unfolding pulse
 pulsed c v v₁ v₂ o e₁ e₂ = rw (e₂, e₁)
 
 -- ---- whether it has ended
-
-module _ (at tick : ℕ) where
-  pub ended_none : at ≡ 0 → false ≡ (ltb 0 at && leb (at + 2) tick)
-  ended_none e = rw e
-
-  pub ended_early : tick < 2 → false ≡ (ltb 0 at && leb (at + 2) tick)
-  ended_early h = rw (lt-leb (at + 2) tick (omega arith)) (go (ltb 0 at))
-    where
-      go : (b : Bool) → false ≡ (b && false)
-      go true = refl
-      go false = refl
-
-  pub ended_late : (at ≡ 0 → ⊥) → 2 ≤ tick → leb at (tick - 2) ≡ (ltb 0 at && leb (at + 2) tick)
-  ended_late f h = rw (lt-ltb 0 at (above at f)) (sym (go (leb at (tick - 2)) refl))
-    where
-      above : (x : ℕ) → (x ≡ 0 → ⊥) → 0 < x
-      above zero f = absurd (f refl)
-      above (suc x) f = omega arith
-
-      go : (b : Bool) → leb at (tick - 2) ≡ b → leb (at + 2) tick ≡ b
-      go true e = let q = leb-true at (tick - 2) e in le-leb (at + 2) tick (omega arith)
-      go false e = let q = leb-false at (tick - 2) e in lt-leb (at + 2) tick (omega arith)
 
 module _ (c : Circuit) (bs : List ℕ) (o at t : ℕ) (b : Bool) (ea : at ≡ get_or (values c bs).wires.pulses o 0) (et : t ≡ get_or (words bs) 0 0) (eb : b ≡ (ltb 0 at && leb (at + 2) t)) where
   the_test : (ltb 0 (get_or (values c bs).wires.pulses o 0) && leb (get_or (values c bs).wires.pulses o 0 + 2) (values c bs).wires.tick) ≡ b

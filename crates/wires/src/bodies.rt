@@ -46,11 +46,7 @@ pub fn set_breaking(links: &[usize], values: &mut [u8], ran: bool)
     requires { Linked links.now × Room values.old }
     ensures { Turns links.now (values.old, values.new) (λ _ w. breaking≔ w ran) }
 {
-    if ran {
-        put(values, BREAKING, 1);
-    } else {
-        put(values, BREAKING, 0);
-    }
+    put(values, BREAKING, u64::from(ran));
 }
 
 // How often bodies may still be run in this tick.

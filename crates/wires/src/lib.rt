@@ -1,6 +1,7 @@
 // The wires of the machine, in the lent area `values`: reading, refreshing pure gates, marking what a change reaches, and what is remembered of wires.
 #![tactic(auto)]
 
+mod bits;
 pub mod bodies;
 pub mod checks;
 pub mod held;

@@ -112,11 +112,7 @@ fn set_marking(links: &[usize], values: &mut [u8], late: bool)
     requires { Linked links.now × Room values.old }
     ensures { area (net_of links.now) values.new ≡ area_for (area (net_of links.now) values.old) late }
 {
-    if late {
-        put(values, MARKING_LATE, 1);
-    } else {
-        put(values, MARKING_LATE, 0);
-    }
+    put(values, MARKING_LATE, u64::from(late));
 }
 
 // All that reads output o, for a late check if `late` says so: of a Var written only inside bodies.

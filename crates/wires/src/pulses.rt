@@ -7,6 +7,7 @@ ghost use Rattle.model.specs.Opening.{lower};
 ghost use Rattle.links.specs.Lent.{Linked, Room};
 ghost use Rattle.wires.specs.Lent.{wires_in, Turns};
 
+use crate::bits::set_bit;
 use crate::layout::{TICK, TICKS, UP};
 use crate::marking::set_out;
 use links::outputs;
@@ -36,9 +37,8 @@ fn set_pulse(links: &[usize], values: &mut [u8], o: usize)
 {
     if o < outputs(links) {
         let tick = get(values, TICK);
-        let d = get(values, UP + o / 64);
+        set_bit(values, UP + o / 64, o % 64);
         put(values, TICKS + o, tick);
-        put(values, UP + o / 64, d | 1 << (o % 64));
     }
 }
 
@@ -68,13 +68,7 @@ pub fn pulse(links: &[usize], values: &mut [u8], o: usize)
 fn has_ended(at: u64, tick: u64) -> bool
     ensures { result ≡ (nat_lt 0 at && nat_le (at + 2) tick) }
 {
-    if at == 0 {
-        return false;
-    }
-    if tick < 2 {
-        return false;
-    }
-    at <= tick - 2
+    0 < at && 2 <= tick && at <= tick - 2
 }
 
 // The pulse of output o falls, if it has ended.

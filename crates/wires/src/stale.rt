@@ -4,6 +4,7 @@ ghost use Rattle.model.specs.Wires.{is_dirty, is_clean, soil, clean};
 ghost use Rattle.links.specs.Lent.{Linked, Room};
 ghost use Rattle.wires.specs.Lent.{wires_in, Turns, TurnsBesideStack};
 
+use crate::bits::set_bit;
 use crate::layout::DIRTY;
 use links::gates;
 use words::{get, put};
@@ -13,11 +14,7 @@ pub fn is_dirty(links: &[usize], values: &[u8], g: usize) -> bool
     requires { Linked links.now × Room values.now }
     ensures { result ≡ is_dirty (wires_in links.now values.now) g }
 {
-    if g < gates(links) {
-        (get(values, DIRTY) >> g) % 2 != 0
-    } else {
-        false
-    }
+    g < gates(links) && (get(values, DIRTY) >> g) % 2 != 0
 }
 
 // Whether gate g is in the circuit and not stale.
@@ -25,11 +22,7 @@ pub fn is_clean(links: &[usize], values: &[u8], g: usize) -> bool
     requires { Linked links.now × Room values.now }
     ensures { result ≡ is_clean (wires_in links.now values.now) g }
 {
-    if g < gates(links) {
-        (get(values, DIRTY) >> g) % 2 == 0
-    } else {
-        false
-    }
+    g < gates(links) && (get(values, DIRTY) >> g) % 2 == 0
 }
 
 // Gate g becomes stale. The marking stack stays as it is.
@@ -38,8 +31,7 @@ pub fn soil(links: &[usize], values: &mut [u8], g: usize)
     ensures { TurnsBesideStack links.now (values.old, values.new) (λ _ w. soil w g) }
 {
     if g < gates(links) {
-        let d = get(values, DIRTY);
-        put(values, DIRTY, d | 1 << g);
+        set_bit(values, DIRTY, g);
     }
 }
 

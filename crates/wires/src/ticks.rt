@@ -5,6 +5,7 @@ ghost use Rattle.model.specs.Opening.{next_tick};
 ghost use Rattle.links.specs.Lent.{Linked, Room};
 ghost use Rattle.wires.specs.Lent.{wires_in, Turns, TickFits};
 
+use crate::bits::set_bit;
 use crate::layout::{DT, RUNS_LEFT, TICK, UNIONS_PASSED, UPTIME};
 use floats::plus64;
 use links::gates;
@@ -15,11 +16,7 @@ pub fn passed(links: &[usize], values: &[u8], g: usize) -> bool
     requires { Linked links.now × Room values.now }
     ensures { result ≡ slice_index_or (wires_in links.now values.now).unions_passed g false }
 {
-    if g < gates(links) {
-        (get(values, UNIONS_PASSED) >> g) % 2 != 0
-    } else {
-        false
-    }
+    g < gates(links) && (get(values, UNIONS_PASSED) >> g) % 2 != 0
 }
 
 // Union g passes.
@@ -28,8 +25,7 @@ pub fn pass(links: &[usize], values: &mut [u8], g: usize)
     ensures { Turns links.now (values.old, values.new) (λ _ w. unions_passed≔ w (slice_set w.unions_passed g true)) }
 {
     if g < gates(links) {
-        let d = get(values, UNIONS_PASSED);
-        put(values, UNIONS_PASSED, d | 1 << g);
+        set_bit(values, UNIONS_PASSED, g);
     }
 }
 

@@ -10,6 +10,7 @@ ghost use Rattle.links.specs.Lent.{Linked, net_of, Room};
 ghost use Rattle.wires.specs.View.{cut};
 ghost use Rattle.wires.specs.Lent.{wires_in, Turns};
 
+use crate::bits::set_bit;
 use crate::layout::{MOST_WRITTEN, WRITTEN, WRITTEN_COUNT, WRITTEN_OUTSIDE};
 use crate::marking::mark_readers_for;
 use links::layout::MOST_GATES;
@@ -55,8 +56,7 @@ fn mark_outside(links: &[usize], values: &mut [u8], o: usize, inside: bool)
     }
     let g = gate_at_output(links, o);
     if g < MOST_GATES {
-        let d = get(values, WRITTEN_OUTSIDE);
-        put(values, WRITTEN_OUTSIDE, d | 1 << g);
+        set_bit(values, WRITTEN_OUTSIDE, g);
     }
 }
 
@@ -75,11 +75,7 @@ fn only_inside(links: &[usize], values: &[u8], o: usize) -> bool
     ensures { result ≡ not (slice_index_or (wires_in links.now values.now).written_outside (gate_at_output (net_of links.now) o) false) }
 {
     let g = gate_at_output(links, o);
-    if g < gates(links) {
-        (get(values, WRITTEN_OUTSIDE) >> g) % 2 == 0
-    } else {
-        true
-    }
+    gates(links) <= g || (get(values, WRITTEN_OUTSIDE) >> g) % 2 == 0
 }
 
 // The Var of output o, which was written, reaches what reads it, for a late check if it was written only inside bodies.
@@ -96,11 +92,7 @@ fn written(links: &[usize], values: &[u8]) -> usize
     requires { Linked links.now × Room values.now }
     ensures { (result ≡ length (wires_in links.now values.now).written) × (result ≤ most_gates) }
 {
-    let n = get(values, WRITTEN_COUNT) as usize;
-    if n < MOST_WRITTEN {
-        return n;
-    }
-    MOST_WRITTEN
+    (get(values, WRITTEN_COUNT) as usize).min(MOST_WRITTEN)
 }
 
 // All that reads the Vars written is marked, in the order of their first write.

@@ -1,3 +1,5 @@
+use Rattle.std.proofs.Common.{◌∙◌}
+use borrow.Author.Tests.{le-ltb}
 use Rattle.wires.proofs.Leaves.{clean_in, clean_out}
 use Rattle.wires.proofs.stale.is_clean.Goals as goal
 
@@ -5,4 +7,4 @@ pub returns-then-g-gates : goal.returns-then-g-gates
 returns-then-g-gates c = clean_in _ _ _ _ c.gates.ensures _ c.if-g-gates.true c.get.ensures
 
 pub returns-else-g-gates : goal.returns-else-g-gates
-returns-else-g-gates c = clean_out _ _ _ _ c.gates.ensures c.if-g-gates.false
+returns-else-g-gates c = le-ltb _ _ c.if-g-gates.false ∙ clean_out _ _ _ _ c.gates.ensures c.if-g-gates.false

@@ -3,7 +3,7 @@ use Rattle.std.proofs.Common.{rules}
 use Rattle.wires.proofs.ticks.pass.Goals as goal
 
 pub returns-then-g-gates : goal.returns-then-g-gates
-returns-then-g-gates c = pass_in _ _ _ _ c.gates.ensures _ _ (search rules) c.if-g-gates.true c.get-d.ensures c.put.ensures
+returns-then-g-gates c = pass_in _ _ _ _ c.gates.ensures _ (search rules) c.if-g-gates.true c.set_bit.ensures
 
 pub returns-else-g-gates : goal.returns-else-g-gates
 returns-else-g-gates c = pass_past _ _ _ _ c.gates.ensures c.if-g-gates.false
