@@ -1,13 +1,14 @@
 -- Laws of countdowns: each way out of the functions of countdown.rt, what a word gives back, and which countdowns count seconds.
-use Prim.Native.Nat.{ℕ, ◌+◌, ◌-◌, ◌*◌, ◌/◌, ◌%◌, ◌^◌, ◌<◌, ◌≤◌, max}
+use Prim.Native.Nat.{ℕ, ◌+◌, ◌-◌, ◌*◌, ◌/◌, ◌%◌, ◌^◌, ◌<◌, max}
 use mathlib.Core.Path.{◌≡◌, refl, sym, ap, ◌∙◌, subst}
-use mathlib.Core.Bool.{Bool, true, false, not, ◌&&◌}
+use mathlib.Core.Bool.{Bool, true, false, not, ◌&&◌, cond}
 use native.Mathlib.Omega.{arith}
-use lib.Dec.{T, eqb, leb}
+use lib.Dec.{eqb, leb, ltb}
 use lib.IntN.{ℤ, pos, negsuc, nat_abs}
-use lib.Signed.{lt_z, le_z, non_neg}
+use Rattle.std.specs.Int.{int_max}
+use lib.Signed.{le_z}
 use mir.Syntax.{w64}
-use mir.Val.{to_z, of_z, Fits, SFits}
+use mir.Val.{to_z, of_z, SFits}
 use mir.Facts.{to_z-of_z}
 use borrow.Author.Tests.{ltb-true, ltb-false}
 use Rattle.model.specs.declared.Value.{Value}
@@ -24,41 +25,25 @@ use Rattle.delays.specs.States.{counted, started, counts_seconds, word_of, of_wo
 
 -- ---- at the start
 
-one_tick : (t : ℤ) → lt_z t (pos 1) ≡ true → 1 ≡ max 1 (nat t)
+at_least_one : (t : ℤ) → nat_abs (int_max t (pos 1)) ≡ max 1 (nat t)
 unfolding nat
-one_tick (pos n) h = omega (arith, ltb-true n 1 h)
-one_tick (negsuc n) h = refl
-
-more_ticks : (t : ℤ) → lt_z t (pos 1) ≡ false → (T (non_neg t)) × (nat_abs t ≡ max 1 (nat t))
-unfolding nat
-more_ticks (pos n) h = (tt, omega (arith, ltb-false n 1 h))
-more_ticks (negsuc n) h = absurd (subst T h tt)
-
-fits_abs : (t : ℤ) → SFits w64 t → T (non_neg t) → Fits w64 (nat_abs t)
-fits_abs (pos n) f h = let s : n < 2 ^ 63 = f.sfits in record { fits = omega arith }
-fits_abs (negsuc n) f h = absurd h
+at_least_one (pos n) = go (ltb 1 n) refl
+  where
+    go : (b : Bool) → ltb 1 n ≡ b → nat_abs (cond b (pos n) (pos 1)) ≡ max 1 n
+    go true h = omega (arith, ltb-true 1 n h)
+    go false h = omega (arith, ltb-false 1 n h)
+at_least_one (negsuc n) = refl
 
 -- a countdown of n ticks starts
 abbrev ticking : ℕ → Starting
 ticking n = record { left = Ticks n; changed = false }
 
-ticks_start : (t : ℤ) (n : ℕ) → n ≡ max 1 (nat t) → started (ticking n) ≡ in_ticks t
+-- a wait of t ticks, at least 1: a cast loses nothing
+pub ticks_start : (t m : ℤ) → SFits w64 t → SFits w64 m → m ≡ int_max (to_z w64 (of_z w64 t)) (pos 1) → started (ticking (nat_abs (to_z w64 (of_z w64 m)))) ≡ in_ticks t
 unfolding started counted in_ticks
-ticks_start t n e = ap (λ (m : ℕ). record { left = ticks_left m; changed = false }) e
-
--- a wait of t ticks, where t is below 1
-pub ticks_few : (t : ℤ) → SFits w64 t → lt_z (to_z w64 (of_z w64 t)) (pos 1) ≡ true → started (ticking 1) ≡ in_ticks t
-ticks_few t f h = ticks_start t 1 (one_tick t (rw (to_z-of_z f) at h))
-
--- and where it is not: a cast loses nothing
-pub ticks_cast : (t : ℤ) → SFits w64 t → lt_z (to_z w64 (of_z w64 t)) (pos 1) ≡ false
-    → T (non_neg (to_z w64 (of_z w64 t))) × Fits w64 (nat_abs (to_z w64 (of_z w64 t)))
-ticks_cast t f h =
-    let n = (more_ticks t (rw (to_z-of_z f) at h)).0 in
-    rw (to_z-of_z f) (n, fits_abs t f n)
-
-pub ticks_more : (t : ℤ) → SFits w64 t → lt_z (to_z w64 (of_z w64 t)) (pos 1) ≡ false → started (ticking (nat_abs (to_z w64 (of_z w64 t)))) ≡ in_ticks t
-ticks_more t f h = ticks_start t _ (rw (to_z-of_z f) (more_ticks t (rw (to_z-of_z f) at h)).1)
+ticks_start t m f g e =
+    let q : to_z w64 (of_z w64 m) ≡ int_max t (pos 1) = to_z-of_z g ∙ e ∙ ap (λ (x : ℤ). int_max x (pos 1)) (to_z-of_z f) in
+    ap (λ (n : ℕ). record { left = ticks_left n; changed = false }) (ap nat_abs q ∙ at_least_one t)
 
 pub seconds_in : (wait w : ℕ) (x : Bool) → (w ≡ narrow wait) × (x ≡ narrow_changes wait) → started (record { left = Seconds w 0; changed = x }) ≡ in_seconds wait
 unfolding started counted in_seconds
@@ -136,10 +121,6 @@ of_gate c g rising = refl
 pub one_less : (k : Counting) (n dt : ℕ) → k ≡ Ticks n → counted (Ticks (n - 1)) ≡ tick_down dt (counted k)
 unfolding counted tick_down
 one_less k n dt e = rw e
-
-pub none_less : (k : Counting) (n dt : ℕ) → k ≡ Ticks n → n ≤ 0 → counted (Ticks n) ≡ tick_down dt (counted k)
-unfolding counted tick_down
-none_less k n dt e l = let m : n ≡ n - 1 = omega arith in rw e (ap ticks_left m)
 
 pub more_seconds : (k : Counting) (wait elapsed dt r : ℕ) → k ≡ Seconds wait elapsed → r ≡ plus32 elapsed dt → counted (Seconds wait r) ≡ tick_down dt (counted k)
 unfolding counted tick_down

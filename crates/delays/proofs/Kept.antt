@@ -17,7 +17,8 @@ use Rattle.delays.specs.declared.buffer.Buffer.{Buffer}
 use Rattle.delays.specs.declared.fires.Fires.{Fires}
 use Rattle.delays.specs.declared.clock.Clock.{Clock}
 use Rattle.delays.specs.declared.stopwatch.Stopwatch.{Stopwatch}
-use Rattle.delays.specs.States.{flight_of, later_of, row_of, buffer, buffer_moved, fires_of, fires, fires_moved, add_fire, clock, clock_moved, stopwatch, stopwatch_moved}
+use Rattle.words.specs.Options.{option_of}
+use Rattle.delays.specs.States.{flight_of, row_of, buffer, buffer_moved, fires_of, fires, fires_moved, add_fire, clock, clock_moved, stopwatch, stopwatch_moved}
 use Rattle.delays.proofs.Firing.{with_fires, moved_fires, drop_kept}
 
 -- a Delay by its parts
@@ -79,18 +80,18 @@ flight_kept start dt = by_parts (λ e. advance_flight start dt e ≡ moved_fligh
     go (some x) l ks t r qs = flown_kept start (made (some x) l ks t r qs) x.what (tick_down dt x.left)
 
 -- the same for code: d's part is held by b, and r came of it
-module _ (d : Delay) (b r : Buffer) (e : flight_of b.flight ≡ d.flight) (f : later_of b.later ≡ d.later) where
+module _ (d : Delay) (b r : Buffer) (e : flight_of b.flight ≡ d.flight) (f : option_of b.later ≡ d.later) where
   buffer_only : buffer b ≡ only_flight d
   unfolding buffer only_flight
   buffer_only = λ j. flight≔ idle (e j) (f j)
 
   pub buffer_stored : (start : Value → Started) (dt : ℕ) → buffer_moved r ≡ advance_flight start dt (buffer b)
-      → record { state = flight≔ d (flight_of r.flight) (later_of r.later); row = row_of r.landed; fires = 0; changed = r.changed } ≡ advance_flight start dt d
+      → record { state = flight≔ d (flight_of r.flight) (option_of r.later); row = row_of r.landed; fires = 0; changed = r.changed } ≡ advance_flight start dt d
   unfolding moved_flight with_flight buffer_moved buffer flight≔ moved
   buffer_stored start dt h = ap (moved_flight d) (h ∙ ap (advance_flight start dt) buffer_only) ∙ sym (flight_kept start dt d)
 
   pub input_stored : (v : Value) (k : Countdown) → buffer_moved r ≡ moved (buffer_input (buffer b) v k) [] 0
-      → flight≔ d (flight_of r.flight) (later_of r.later) ≡ buffer_input d v k
+      → flight≔ d (flight_of r.flight) (option_of r.later) ≡ buffer_input d v k
   unfolding with_flight buffer_moved buffer flight≔ moved
   input_stored v k h =
       ap (λ (m : Moved). with_flight d m.state) h ∙ ap (λ (x : Delay). with_flight d (buffer_input x v k)) buffer_only ∙ sym (input_kept d v k)

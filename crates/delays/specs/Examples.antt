@@ -1,5 +1,5 @@
 -- Examples, by computation.
-use Rattle.std.specs.Prelude.{◌+◌, ◌*◌, ◌^◌, ◌≡◌, refl, true, false, [], ◌∷◌, map, pos, replicate, set}
+use Rattle.std.specs.Prelude.{◌+◌, ◌*◌, ◌^◌, ◌≡◌, refl, true, false, [], ◌∷◌, map, pos, replicate, set, None, Some}
 use Rattle.model.specs.Base.{base_opened}
 use Rattle.model.specs.Value.{value_opened, minus_one_point_zero, one_point_zero}
 use Rattle.model.specs.declared.Value.TheVariants.{Nothing, Int, Float}
@@ -7,8 +7,6 @@ use Rattle.model.specs.State.{state_opened, ticks_left, seconds}
 use Rattle.model.specs.Delays.{delays_opened, in_ticks, tick_down, due, advance_flight, advance_elapsed, advance_time}
 use Rattle.delays.specs.declared.countdown.Countdown.TheVariants.{Ticks}
 use Rattle.delays.specs.declared.buffer.Buffer.{Buffer}
-use Rattle.delays.specs.declared.buffer.Flight.TheVariants.{Of}
-use Rattle.delays.specs.declared.buffer.Optional.TheVariants.{None, Some}
 use Rattle.delays.specs.declared.stopwatch.Stopwatch.{Stopwatch}
 use Rattle.delays.specs.States.{states_opened, word_of, of_word, ring, countdown_by, starts, buffer, buffer_moved, clock, clock_moved, stopwatch, stopwatch_moved}
 
@@ -61,10 +59,10 @@ halves_back = refl
 -- ---- a value buffer: 1 lands, and 0, the last later input, starts with its zero wait
 
 in_flight : Buffer
-in_flight = record { flight = Of (Int 1) (Ticks 1); later = Some (Int 0); landed = None; changed = false }
+in_flight = record { flight = Some (record { what = Int 1; left = Ticks 1 }); later = Some (Int 0); landed = None; changed = false }
 
 one_landed : Buffer
-one_landed = record { flight = Of (Int 0) (Ticks 3); later = None; landed = Some (Int 1); changed = false }
+one_landed = record { flight = Some (record { what = Int 0; left = Ticks 3 }); later = None; landed = Some (Int 1); changed = false }
 
 lands : advance_flight (starts false (Int 9) (Int 3)) 0 (buffer in_flight) ≡ buffer_moved one_landed
 unfolding in_flight one_landed states_opened state_opened delays_opened value_opened base_opened

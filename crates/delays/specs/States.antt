@@ -1,6 +1,7 @@
 -- What each state of the code stands for in the definition.
-use Rattle.std.specs.Prelude.{ℕ, zero, suc, min, ◌+◌, ◌*◌, ◌/◌, ◌%◌, ◌^◌, Bool, true, false, List, [], ◌∷◌, map, ltb, length, get_or}
-use Rattle.std.proofs.Math.Option.{Option, none, some}
+use Rattle.std.specs.Prelude.{ℕ, zero, suc, min, ◌+◌, ◌*◌, ◌/◌, ◌%◌, ◌^◌, Bool, true, false, List, [], ◌∷◌, map, ltb, length, get_or, Option, None, Some}
+use Rattle.std.proofs.Math.Option as math
+use Rattle.words.specs.Options.{option_of}
 use Rattle.model.specs.declared.Value.{Value}
 use Rattle.model.specs.declared.Value.TheVariants.{Float}
 use Rattle.model.specs.Base.{if◌then◌otherwise◌, snoc}
@@ -10,9 +11,6 @@ use Rattle.model.specs.Delays.{Started, countdown_ticks, countdown_seconds, laun
 use Rattle.model.specs.Exec.{most_fires}
 use Rattle.delays.specs.declared.buffer.Buffer.{Buffer}
 use Rattle.delays.specs.declared.buffer.Flight.{Flight}
-use Rattle.delays.specs.declared.buffer.Flight.TheVariants.{Empty, Of}
-use Rattle.delays.specs.declared.buffer.Optional.{Optional}
-use Rattle.delays.specs.declared.buffer.Optional.TheVariants.{None, Some}
 use Rattle.delays.specs.declared.fires.Fires.{Fires}
 use Rattle.delays.specs.declared.clock.Clock.{Clock}
 use Rattle.delays.specs.declared.stopwatch.Stopwatch.{Stopwatch}
@@ -57,23 +55,18 @@ unfoldable pub starts : Bool → Value → Value → Value → Started
 starts by_seconds wait zero_wait v = countdown_by by_seconds (truthy v) wait zero_wait
 
 -- what is in flight
-unfoldable pub flight_of : Flight → Option Flying
-flight_of Empty = none
-flight_of (Of v k) = launch v (counted k)
-
--- a value, or none
-unfoldable pub later_of : Optional → Option Value
-later_of None = none
-later_of (Some v) = some v
+unfoldable pub flight_of : Option Flight → math.Option Flying
+flight_of None = math.none
+flight_of (Some f) = launch f.what (counted f.left)
 
 -- the row of a value, or the row of none
-unfoldable pub row_of : Optional → List Value
+unfoldable pub row_of : Option Value → List Value
 row_of None = []
 row_of (Some v) = v ∷ []
 
 -- a Delay that has the part of a value buffer alone
 unfoldable pub buffer : Buffer → Delay
-buffer b = flight≔ idle (flight_of b.flight) (later_of b.later)
+buffer b = flight≔ idle (flight_of b.flight) (option_of b.later)
 
 -- what a value buffer moved on to, with what landed and whether narrowing changed a wait
 unfoldable pub buffer_moved : Buffer → Moved
@@ -128,5 +121,5 @@ stopwatch_moved s = moved (stopwatch s) (if s.shows then Float s.time ∷ [] oth
 
 -- What a proof by computation opens.
 unfoldable pub states_opened : ℕ
-unfolding counted started counts_seconds word_of of_word countdown_by starts flight_of later_of row_of buffer buffer_moved ring under_way fires_of fires fires_moved add_fire clock clock_moved stopwatch stopwatch_moved
+unfolding counted started counts_seconds word_of of_word countdown_by starts flight_of row_of buffer buffer_moved ring under_way fires_of fires fires_moved add_fire clock clock_moved stopwatch stopwatch_moved
 states_opened = 0

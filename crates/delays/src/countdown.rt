@@ -29,16 +29,9 @@ pub struct Started {
 pub fn in_ticks(t: i64) -> Started
     ensures { started result ≡ in_ticks t }
 {
-    if t < 1 {
-        Started {
-            left: Countdown::Ticks(1),
-            changed: false,
-        }
-    } else {
-        Started {
-            left: Countdown::Ticks(t as u64),
-            changed: false,
-        }
+    Started {
+        left: Countdown::Ticks(t.max(1) as u64),
+        changed: false,
     }
 }
 
@@ -107,20 +100,12 @@ pub fn of_word(seconds: bool, w: u64) -> Countdown
 
 impl Countdown {
     // One tick, of the length dt in f32 bits. What is due stays due.
-    pub fn tick_down(mut self, dt: u32) -> Self
+    pub fn tick_down(self, dt: u32) -> Self
         ensures { counted result ≡ tick_down dt (counted self) }
     {
         match self {
-            Countdown::Ticks(n) => {
-                if 0 < n {
-                    self = Countdown::Ticks(n - 1);
-                }
-                self
-            }
-            Countdown::Seconds(wait, elapsed) => {
-                self = Countdown::Seconds(wait, plus32(elapsed, dt));
-                self
-            }
+            Countdown::Ticks(n) => Countdown::Ticks(n.saturating_sub(1)),
+            Countdown::Seconds(wait, elapsed) => Countdown::Seconds(wait, plus32(elapsed, dt)),
         }
     }
 

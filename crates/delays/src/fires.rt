@@ -32,20 +32,11 @@ fn count_down(
     requires { (first < 32) × (count ≤ 32) }
     ensures { under_way seconds count first result ≡ map (tick_down dt) (under_way seconds count first words) }
 {
-    let mut i: usize = 0;
-    while i < count {
+    for i in 0..count {
         let at = (first + i) % MOST_FIRES;
         words[at] = of_word(seconds, words[at]).tick_down(dt).word();
-        i += 1;
     }
     words
-}
-
-// n, but at most 32.
-fn limited(n: usize) -> usize
-    ensures { result ≡ min most_fires n }
-{
-    if n < MOST_FIRES { n } else { MOST_FIRES }
 }
 
 impl Fires {
@@ -77,6 +68,7 @@ impl Fires {
         ensures { (result.seconds ≡ self.seconds) × (fires_moved result ≡ drop_due idle (fires_of self) 0) }
     {
         self.fired = 0;
+        // Stays: what falls is the ring's own count, as its fires leave.
         while 0 < self.count {
             let at = self.first % MOST_FIRES;
             let front = of_word(self.seconds, self.words[at]);
@@ -84,23 +76,25 @@ impl Fires {
                 return self;
             }
             self.first = at + 1;
-            self.count = self.count - 1;
-            self.fired = self.fired + 1;
+            self.count -= 1;
+            self.fired += 1;
         }
         self
     }
 
     // One tick, of the length dt in f32 bits: all count down, and those due leave from the front and fire.
-    pub fn advance(mut self, dt: u32) -> Self
+    pub fn advance(self, dt: u32) -> Self
         ensures { (result.seconds ≡ self.seconds) × (fires_moved result ≡ advance_fires dt (fires self)) }
     {
         let first = self.first % MOST_FIRES;
-        let count = limited(self.count);
-        let words = self.words;
-        let left = count_down(words, self.seconds, first, count, dt);
-        self.words = left;
-        self.first = first;
-        self.count = count;
-        self.drop_due()
+        let count = self.count.min(MOST_FIRES);
+        let words = count_down(self.words, self.seconds, first, count, dt);
+        Self {
+            first,
+            count,
+            words,
+            ..self
+        }
+        .drop_due()
     }
 }

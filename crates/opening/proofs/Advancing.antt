@@ -6,8 +6,7 @@ use mathlib.Core.List.{List, [], ◌∷◌}
 use mathlib.Core.Logic.{inl, inr}
 use native.Mathlib.Omega.{arith}
 use borrow.Author.Tests.{eqb-true, eqb-false, ne_eqb}
-use denote.Enum.Declared.{tag_of}
-use types.Run.{OneOf, miss}
+use types.Run.{OneOf}
 use lib.Dec.{eqb}
 use lib.ListN.{length}
 use Rattle.schedule.specs.Schedule.{Place, to_late, to_pending}
@@ -15,8 +14,8 @@ use Rattle.lists.specs.declared.Filed.{Filed as Answer}
 use Rattle.lists.specs.declared.Filed.TheVariants.{Done}
 use Rattle.model.specs.declared.Value.{Value}
 use Rattle.model.specs.declared.Value.TheVariants.{Float}
-use Rattle.model.specs.Base.{if◌then◌otherwise◌, both, each, from}
-use Rattle.model.specs.Value.{value_of, truthy, as_float, bit, one_point_zero}
+use Rattle.model.specs.Base.{if◌then◌otherwise◌, each, from}
+use Rattle.model.specs.Value.{truthy, as_float, bit, one_point_zero}
 use Rattle.model.specs.Circuit.{Circuit, kind_of_gate, input, output, setting}
 use Rattle.model.specs.Questions.{within}
 use Rattle.model.specs.State.{Wires, State, wires≔, delays≔, changed≔}
@@ -24,13 +23,11 @@ use Rattle.model.specs.Wires.{look, ready, set_out, set_outs}
 use Rattle.model.specs.Delays.{Moved, moved, advance_flight, advance_fires, advance_records, advance_elapsed, advance_time}
 use Rattle.model.specs.Exec.{count_changed, delay, delay≔, readied, read, countdown}
 use Rattle.model.specs.Opening.{Opened, raised_to, fire, enabled, advanced, advance_buffer, advance_clock, advance_timer}
-use Rattle.delays.specs.declared.buffer.Optional.{Optional}
-use Rattle.delays.specs.declared.buffer.Optional.TheVariants.{None, Some}
-use Rattle.delays.specs.contracts.buffer.Optional.{the_type as Optionals}
+use Rattle.std.specs.Prelude.{Option, None, Some}
 use Rattle.delays.specs.declared.stopwatch.Stopwatch.{Stopwatch}
 use Rattle.delays.specs.States.{row_of, stopwatch_moved}
-use Rattle.queue.specs.declared.Released.{Released}
-use Rattle.queue.specs.Queue.{queued, released}
+use Rattle.queue.specs.declared.Record.{Record}
+use Rattle.queue.specs.Queue.{released}
 use Rattle.wires.specs.View.{Values, with_wires}
 use Rattle.states.specs.View.{is_queue, Delays, delay_in, with_delay, counting, delays, Lent, Moves}
 use Rattle.units.specs.View.{Units}
@@ -74,37 +71,34 @@ fires_none c p u g = puts_none c p u
 -- ---- a value buffer
 
 module _ (c : Circuit) (v v₁ : Values) (d d₁ : Delays) (g o dt : ℕ) where
-  pub lands : (r : Optional) (x : Value) → Moves d d₁ g (advance_flight (λ y. countdown c g (truthy y)) dt (delay_in d g)) (row_of r) 0 → r ≡ Some x → o ≡ output c g 0 →
+  pub lands : (r : Option Value) (x : Value) → Moves d d₁ g (advance_flight (λ y. countdown c g (truthy y)) dt (delay_in d g)) (row_of r) 0 → r ≡ Some x → o ≡ output c g 0 →
       v₁ ≡ with_wires v (set_out c v.wires o x) → MovesOn v v₁ d d₁ (landing c dt g) to_late g 0
   unfolding landing delay row_of set_outs
   lands r x k er eo e u =
-      advanced_by c v v₁ u d d₁ to_late g 0 0 _ (x ∷ []) (subst (λ (y : Optional). Moves d d₁ g (advance_flight (λ w. countdown c g (truthy w)) dt (delay_in d g)) (row_of y) 0) er k)
+      advanced_by c v v₁ u d d₁ to_late g 0 0 _ (x ∷ []) (subst (λ (y : Option Value). Moves d d₁ g (advance_flight (λ w. countdown c g (truthy w)) dt (delay_in d g)) (row_of y) 0) er k)
       (e ∙ ap (λ (i : ℕ). with_wires v (set_out c v.wires i x)) eo)
 
-pub lands_not : (c : Circuit) (v : Values) (d d₁ : Delays) (g dt : ℕ) (r : Optional) → Moves d d₁ g (advance_flight (λ y. countdown c g (truthy y)) dt (delay_in d g)) (row_of r) 0 →
-    OneOf (0 ∷ []) (tag_of Optionals r) → MovesOn v v d d₁ (landing c dt g) to_late g 0
+pub lands_not : (c : Circuit) (v : Values) (d d₁ : Delays) (g dt : ℕ) (r : Option Value) → Moves d d₁ g (advance_flight (λ y. countdown c g (truthy y)) dt (delay_in d g)) (row_of r) 0 →
+    r ≡ None → MovesOn v v d d₁ (landing c dt g) to_late g 0
 unfolding landing delay row_of
-lands_not c v d d₁ g dt None m k u = advanced_nothing c v u d d₁ to_late g 0 _ m
-lands_not c v d d₁ g dt (Some x) m k u = absurd (miss (0 ∷ []) 1 tt k)
+lands_not c v d d₁ g dt r k er u =
+    advanced_nothing c v u d d₁ to_late g 0 _ (subst (λ (y : Option Value). Moves d d₁ g (advance_flight (λ w. countdown c g (truthy w)) dt (delay_in d g)) (row_of y) 0) er k)
 
 -- ---- a Queue
 
 module _ (c : Circuit) (v v₁ : Values) (d d₁ : Delays) (g o dt : ℕ) where
-  pub releases : (r : Released) → Moves d d₁ g (advance_records dt (delay_in d g)) (released r []).row (released r []).fires → r.due ≡ true → o ≡ output c g 1 →
-      v₁ ≡ with_wires v (set_outs c v.wires o (both value_of r.front.kinds r.front.contents)) → MovesOn v v₁ d d₁ (releasing c dt g) to_late g (bit true)
-  unfolding releasing delay released queued moved if◌then◌otherwise◌
-  releases r k er eo e u =
-      advanced_by c v v₁ u d d₁ to_late g 1 (bit true) _ (queued r.front).row
-      (subst (λ (b : Bool). Moves d d₁ g (advance_records dt (delay_in d g)) (if b then (queued r.front).row otherwise []) (bit b)) er k)
-      (e ∙ ap (λ (i : ℕ). with_wires v (set_outs c v.wires i (queued r.front).row)) eo)
+  pub releases : (q : Option Record) (r : Record) → Moves d d₁ g (advance_records dt (delay_in d g)) (released q []).row (released q []).fires → q ≡ Some r → o ≡ output c g 1 →
+      v₁ ≡ with_wires v (set_outs c v.wires o r.row) → MovesOn v v₁ d d₁ (releasing c dt g) to_late g (bit true)
+  unfolding releasing delay released moved bit if◌then◌otherwise◌
+  releases q r k er eo e u =
+      advanced_by c v v₁ u d d₁ to_late g 1 1 _ r.row (subst (λ (y : Option Record). Moves d d₁ g (advance_records dt (delay_in d g)) (released y []).row (released y []).fires) er k)
+      (e ∙ ap (λ (i : ℕ). with_wires v (set_outs c v.wires i r.row)) eo)
 
-pub releases_not : (c : Circuit) (v : Values) (d d₁ : Delays) (g dt : ℕ) (r : Released) → Moves d d₁ g (advance_records dt (delay_in d g)) (released r []).row (released r []).fires →
-    r.due ≡ false → MovesOn v v d d₁ (releasing c dt g) to_late g (bit false)
-unfolding releasing delay released moved if◌then◌otherwise◌ set_outs
-releases_not c v d d₁ g dt r k er u =
-    advanced_by c v v u d d₁ to_late g 1 (bit false) _ []
-    (subst (λ (b : Bool). Moves d d₁ g (advance_records dt (delay_in d g)) (if b then (queued r.front).row otherwise []) (bit b)) er k)
-    refl
+pub releases_not : (c : Circuit) (v : Values) (d d₁ : Delays) (g dt : ℕ) (q : Option Record) → Moves d d₁ g (advance_records dt (delay_in d g)) (released q []).row (released q []).fires →
+    q ≡ None → MovesOn v v d d₁ (releasing c dt g) to_late g (bit false)
+unfolding releasing delay released moved bit if◌then◌otherwise◌ set_outs
+releases_not c v d d₁ g dt q k er u =
+    advanced_by c v v u d d₁ to_late g 1 0 _ [] (subst (λ (y : Option Record). Moves d d₁ g (advance_records dt (delay_in d g)) (released y []).row (released y []).fires) er k) refl
 
 -- ---- its Fires, where it fires once or not
 

@@ -2,8 +2,8 @@
 ghost use Rattle.std.specs.Prelude.{◌≡◌, true, [], ◌∷◌, ◌+◌, ◌^◌, ◌<◌};
 ghost use Rattle.schedule.specs.Schedule.{to_late, to_pending};
 ghost use Rattle.model.specs.declared.Value.TheVariants.{Float};
-ghost use Rattle.model.specs.Base.{if◌then◌otherwise◌, both, each};
-ghost use Rattle.model.specs.Value.{value_of, as_float, bit, one_point_zero};
+ghost use Rattle.model.specs.Base.{if◌then◌otherwise◌, each};
+ghost use Rattle.model.specs.Value.{as_float, bit, one_point_zero};
 ghost use Rattle.model.specs.Circuit.{output, setting};
 ghost use Rattle.model.specs.Wires.{look, set_outs};
 ghost use Rattle.model.specs.Opening.{advance_buffer, advance_clock, advance_timer};
@@ -18,7 +18,6 @@ ghost use Rattle.opening.specs.Stages.{landing, releasing};
 ghost use Rattle.opening.specs.Lent.{MovesGate};
 
 use crate::filing::{fire_late, fire_pending, is_full};
-use delays::buffer::Optional;
 use floats::ONE;
 use links::{
     buffers, clocks, first_gate, input, kind_of_gate, later_gates, output, setting, stopwatches,
@@ -27,7 +26,7 @@ use lists::Filed;
 use model::Value;
 use queues::queue_advance;
 use states::slots::{buffer_advance, clock_advance, fires_advance, stopwatch_advance};
-use value::{as_float, enabled, value_of};
+use value::{as_float, enabled};
 use wires;
 use wires::marking::set_out;
 use wires::reading::look;
@@ -36,15 +35,12 @@ use wires::refreshing::ready;
 // ---- buffers and Queues
 
 // Eight values, to the outputs from o on.
-fn set_row(links: &[usize], values: &mut [u8], o: usize, kinds: [u64; 8], contents: [u64; 8])
+fn set_row(links: &[usize], values: &mut [u8], o: usize, row: [Value; 8])
     requires { Linked links.now × Room values.old × (o + 8 < 2 ^ 64) }
-    ensures { Turns links.now (values.old, values.new) (λ c w. set_outs c w o (both value_of kinds contents)) }
+    ensures { Turns links.now (values.old, values.new) (λ c w. set_outs c w o row) }
 {
-    let mut k = 0;
-    while k < 8 {
-        let v = value_of(kinds[k], contents[k]);
-        set_out(links, values, o + k, v);
-        k += 1;
+    for k in 0..8 {
+        set_out(links, values, o + k, row[k]);
     }
 }
 
@@ -54,10 +50,8 @@ fn land(links: &[usize], values: &mut [u8], delays: &mut [u8], g: usize, dt: u32
     ensures moves_gate { MovesGate links.now (values.old, values.new) (delays.old, delays.new) (λ c. landing c dt g) to_late g 0 }
     ensures slots_stay { SlotsStay links.now delays.new }
 {
-    let landed = buffer_advance(links, delays, g, dt);
-    match landed {
-        Optional::None => {}
-        Optional::Some(v) => set_out(links, values, output(links, g, 0), v),
+    if let Some(v) = buffer_advance(links, delays, g, dt) {
+        set_out(links, values, output(links, g, 0), v);
     }
 }
 
@@ -67,14 +61,11 @@ fn release(links: &[usize], values: &mut [u8], delays: &mut [u8], g: usize, dt: 
     ensures moves_gate { MovesGate links.now (values.old, values.new) (delays.old, delays.new) (λ c. releasing c dt g) to_late g (bit result) }
     ensures slots_stay { SlotsStay links.now delays.new }
 {
-    let r = queue_advance(links, delays, g, dt);
-    if r.due {
-        let kinds = r.front.kinds;
-        let contents = r.front.contents;
-        set_row(links, values, output(links, g, 1), kinds, contents);
-        return true;
-    }
-    false
+    let Some(r) = queue_advance(links, delays, g, dt) else {
+        return false;
+    };
+    set_row(links, values, output(links, g, 1), r.row);
+    true
 }
 
 // Queue g moves on, and fires if a record leaves.

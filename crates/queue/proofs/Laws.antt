@@ -10,15 +10,15 @@ use lib.Dec.{ltb}
 use lib.ListN.{length, get_or, set, length-set}
 use lib.Seq.{append_snoc, get_or-set_same, get_or-set_other}
 use Rattle.model.specs.Base.{if◌then◌otherwise◌, snoc}
-use Rattle.model.specs.Value.{bit}
 use Rattle.model.specs.declared.Value.{Value}
 use Rattle.model.specs.State.{Countdown, Queued, Delay, idle, records≔}
 use Rattle.model.specs.Delays.{Moved, moved, due, queue_record, hand_out, advance_records}
 use Rattle.delays.specs.declared.countdown.Countdown.{Countdown as Counting}
 use Rattle.delays.specs.States.{counted, of_word}
 use Rattle.queue.specs.declared.Record.{Record}
-use Rattle.queue.specs.declared.Released.{Released}
-use Rattle.queue.specs.Queue.{queued, released, blank, front_if_due, ticked, slot, ring, records, Placed}
+use Rattle.std.specs.Prelude.{Option, None, Some}
+use Rattle.std.proofs.Math.Option as math
+use Rattle.queue.specs.Queue.{queued, released, front_if_due, ticked, slot, ring, records, Placed}
 use Rattle.queue.proofs.Ring.{ring_length, ring_first, ring_same, ring_put, ring_behind}
 use Rattle.queue.proofs.Slots.{slot_left}
 
@@ -110,10 +110,10 @@ records_behind seconds w n h l b =
     (λ s. slot_same seconds (set w 0 (h + 1)) 1 (n - 1) s (omega arith) ∙ slot_same seconds w 0 (h + 1) s (omega arith)))
 
 -- there is no front record
-pub take_none : (seconds : Bool) (w : List ℕ) (n : ℕ) (r : Released) → n ≡ min (get_or w 1 0) 256 → n ≡ 0 → (r.due ≡ false) × (queued r.front ≡ blank)
-    → (released r (records seconds w) ≡ hand_out idle (records seconds w)) × (queued r.front ≡ front_if_due (records seconds w))
-unfolding released hand_out front_if_due if◌then◌otherwise◌ bit
-take_none seconds w n r en z e = let c : get_or w 1 0 ≡ 0 = omega arith in rw (records_none seconds w c, e.0) (refl, e.1)
+pub take_none : (seconds : Bool) (w : List ℕ) (n : ℕ) → n ≡ min (get_or w 1 0) 256 → n ≡ 0
+    → (released None (records seconds w) ≡ hand_out idle (records seconds w)) × (math.none ≡ front_if_due (records seconds w))
+unfolding released hand_out front_if_due
+take_none seconds w n en z = let c : get_or w 1 0 ≡ 0 = omega arith in rw (records_none seconds w c) (refl, refl)
 
 -- the front record's countdown, as it is read for itself
 front_due : (seconds : Bool) (w : List ℕ) (h x : ℕ) (k : Counting) (d : Bool) → x ≡ get_or w (2 + h) 0 → counted k ≡ of_word seconds x → d ≡ due (counted k)
@@ -122,22 +122,23 @@ unfolding slot
 front_due seconds w h x k d ex ek ed = sym (ed ∙ ap due (ek ∙ ap (of_word seconds) ex))
 
 -- the front record is not due
-pub take_later : (seconds : Bool) (w : List ℕ) (n h x : ℕ) (k : Counting) (d : Bool) (r : Released) → n ≡ min (get_or w 1 0) 256 → (n ≡ 0 → ⊥) → h ≡ get_or w 0 0 % 256
-    → x ≡ get_or w (2 + h) 0 → counted k ≡ of_word seconds x → d ≡ due (counted k) → not d ≡ true → (r.due ≡ false) × (queued r.front ≡ blank)
-    → (released r (records seconds w) ≡ hand_out idle (records seconds w)) × (queued r.front ≡ front_if_due (records seconds w))
-unfolding released hand_out front_if_due if◌then◌otherwise◌ bit
-take_later seconds w n h x k d r en z eh ex ek ed f e =
-    rw (records_front seconds w n h en z eh, front_due seconds w h x k d ex ek ed, not-true d f, e.0) (refl, e.1)
+pub take_later : (seconds : Bool) (w : List ℕ) (n h x : ℕ) (k : Counting) (d : Bool) → n ≡ min (get_or w 1 0) 256 → (n ≡ 0 → ⊥) → h ≡ get_or w 0 0 % 256
+    → x ≡ get_or w (2 + h) 0 → counted k ≡ of_word seconds x → d ≡ due (counted k) → not d ≡ true
+    → (released None (records seconds w) ≡ hand_out idle (records seconds w)) × (math.none ≡ front_if_due (records seconds w))
+unfolding released hand_out front_if_due if◌then◌otherwise◌
+take_later seconds w n h x k d en z eh ex ek ed f =
+    rw (records_front seconds w n h en z eh, front_due seconds w h x k d ex ek ed, not-true d f) (refl, refl)
 
 -- the front record is due, and is handed out
 pub take_due : (seconds : Bool) (w u v : List ℕ) (n h x : ℕ) (k : Counting) (d : Bool) (q : Record) → 2 ≤ length w → n ≡ min (get_or w 1 0) 256 → (n ≡ 0 → ⊥) → h ≡ get_or w 0 0 % 256
     → x ≡ get_or w (2 + h) 0 → counted k ≡ of_word seconds x → d ≡ due (counted k) → not d ≡ false → queued q ≡ slot seconds w h → u ≡ set w 0 (h + 1) → v ≡ set u 1 (n - 1)
-    → (released (record { due = true; front = q }) (records seconds v) ≡ hand_out idle (records seconds w)) × (queued q ≡ front_if_due (records seconds w))
-unfolding released hand_out front_if_due if◌then◌otherwise◌ bit
+    → (released (Some q) (records seconds v) ≡ hand_out idle (records seconds w)) × (math.some (queued q) ≡ front_if_due (records seconds w))
+unfolding released hand_out front_if_due if◌then◌otherwise◌
 take_due seconds w u v n h x k d q l en z eh ex ek ed f eq eu ev =
     let g : due (slot seconds w h).left ≡ true = front_due seconds w h x k d ex ek ed ∙ not-false d f in
     let b : records seconds v ≡ ring (slot seconds w) (h + 1) (n - 1) = rw (ev, eu) (records_behind seconds w n h l (omega arith)) in
-    rw (records_front seconds w n h en z eh, g, b, eq) (refl, refl)
+    let r : q.row ≡ (slot seconds w h).row = (unfold queued in ap (λ (a : Queued). a.row) eq) in
+    rw (records_front seconds w n h en z eh, g, b, eq, r) (refl, refl)
 
 -- ---- a new record
 
@@ -184,11 +185,11 @@ hand_out_same d rs [] = refl
 hand_out_same d rs (q ∷ qs) = refl
 
 -- all count down, then the front one is handed out if it is due
-pub advance_all : (seconds : Bool) (dt : ℕ) (w u v : List ℕ) (r : Released) → records seconds u ≡ map (ticked dt) (records seconds w)
-    → (released r (records seconds v) ≡ hand_out idle (records seconds u)) × (queued r.front ≡ front_if_due (records seconds u))
-    → (released r (records seconds v) ≡ advance_records dt (records≔ idle (records seconds w))) × (queued r.front ≡ front_if_due (map (ticked dt) (records seconds w)))
+pub advance_all : (seconds : Bool) (dt : ℕ) (w u v : List ℕ) (r : Option Record) (q : math.Option Queued) → records seconds u ≡ map (ticked dt) (records seconds w)
+    → (released r (records seconds v) ≡ hand_out idle (records seconds u)) × (q ≡ front_if_due (records seconds u))
+    → (released r (records seconds v) ≡ advance_records dt (records≔ idle (records seconds w))) × (q ≡ front_if_due (map (ticked dt) (records seconds w)))
 unfolding advance_records ticked records≔
-advance_all seconds dt w u v r e p =
+advance_all seconds dt w u v r q e p =
     (p.0 ∙ ap (hand_out idle) e ∙ sym (hand_out_same idle (records seconds w) (map (ticked dt) (records seconds w))), p.1 ∙ ap front_if_due e)
 
 -- ---- a small state with other parts, which are kept
@@ -214,17 +215,11 @@ unfolding advance_records records≔ ticked
 advance_in dt d =
     hand_out_in d (map (ticked dt) d.records) ∙ ap (moved_in d) (sym (hand_out_same idle d.records (map (ticked dt) d.records)))
 
--- a tick that hands out the front record
-pub advance_due : (dt : ℕ) (d : Delay) (r : Released) (qs : List Queued) → released r qs ≡ advance_records dt (records≔ idle d.records) → r.due ≡ true
-    → advance_records dt d ≡ moved (records≔ d qs) (queued r.front).row 1
-unfolding released moved records≔ if◌then◌otherwise◌ bit
-advance_due dt d r qs e f = advance_in dt d ∙ ap (moved_in d) (sym e) ∙ rw f
-
--- a tick that hands out nothing
-pub advance_none : (dt : ℕ) (d : Delay) (r : Released) (qs : List Queued) → released r qs ≡ advance_records dt (records≔ idle d.records) → r.due ≡ false
-    → advance_records dt d ≡ moved (records≔ d qs) [] 0
-unfolding released moved records≔ if◌then◌otherwise◌ bit
-advance_none dt d r qs e f = advance_in dt d ∙ ap (moved_in d) (sym e) ∙ rw f
+-- what was handed out, beside the records that are left
+pub released_in : (d : Delay) (r : Option Record) (qs : List Queued) → moved_in d (released r qs) ≡ moved (records≔ d qs) (released r []).row (released r []).fires
+unfolding released moved records≔
+released_in d None qs = refl
+released_in d (Some r) qs = refl
 
 -- a new record
 pub queue_record_in : (d : Delay) (row : List Value) (k : Countdown) → queue_record d row k ≡ records≔ d (queue_record (records≔ idle d.records) row k).records

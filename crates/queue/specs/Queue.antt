@@ -1,31 +1,27 @@
 -- The records of one Queue as its part of the area holds them. In words: where the front record stands, how many records there are, 256 countdowns, and 256 rows
 -- of eight kinds and eight contents. The records go round a ring of 256 slots.
-use Rattle.std.specs.Prelude.{ℕ, zero, suc, ◌+◌, ◌*◌, ◌%◌, ◌<◌, min, ◌≡◌, Bool, List, [], ◌∷◌, get_or, take, drop, replicate}
+use Rattle.std.specs.Prelude.{ℕ, zero, suc, ◌+◌, ◌*◌, ◌%◌, ◌<◌, min, ◌≡◌, Bool, List, [], ◌∷◌, get_or, take, drop, Option, None, Some}
+use Rattle.std.proofs.Math.Option as math
 use Rattle.model.specs.Base.{if◌then◌otherwise◌, both}
-use Rattle.model.specs.Value.{bit, value_of}
-use Rattle.model.specs.declared.Value.TheVariants.{Nothing}
-use Rattle.model.specs.State.{ticks_left, Queued, idle, records≔}
+use Rattle.model.specs.Value.{value_of}
+use Rattle.model.specs.State.{Queued, idle, records≔}
 use Rattle.model.specs.Delays.{Moved, moved, tick_down, due}
 use Rattle.delays.specs.States.{counted, of_word}
 use Rattle.queue.specs.declared.Record.{Record}
-use Rattle.queue.specs.declared.Released.{Released}
 
 -- the definition's record
 unfoldable pub queued : Record → Queued
-queued r = record { row = both value_of r.kinds r.contents; left = counted r.left }
+queued r = record { row = r.row; left = counted r.left }
 
 -- what a tick comes to: the records that are left, and the row of the one that is handed out
-unfoldable pub released : Released → List Queued → Moved
-released r qs = moved (records≔ idle qs) (if r.due then (queued r.front).row otherwise []) (bit r.due)
-
--- the record that stands beside a `due` that is false
-unfoldable pub blank : Queued
-blank = record { row = replicate 8 Nothing; left = ticks_left 0 }
+unfoldable pub released : Option Record → List Queued → Moved
+released None qs = moved (records≔ idle qs) [] 0
+released (Some r) qs = moved (records≔ idle qs) r.row 1
 
 -- the front record, if it is due
-unfoldable pub front_if_due : List Queued → Queued
-front_if_due [] = blank
-front_if_due (q ∷ qs) = if due q.left then q otherwise blank
+unfoldable pub front_if_due : List Queued → math.Option Queued
+front_if_due [] = math.none
+front_if_due (q ∷ qs) = if due q.left then math.some q otherwise math.none
 
 -- a record counts down
 unfoldable pub ticked : ℕ → Queued → Queued

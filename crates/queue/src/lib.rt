@@ -2,30 +2,28 @@
 #![tactic(auto)]
 
 ghost use Rattle.words.specs.Words.{words};
-ghost use Rattle.std.specs.Prelude.{◌≡◌, false, map, ◌%◌, ◌<◌, min, get_or, take, drop};
-ghost use Rattle.words.specs.Slices.{HasWords};
+ghost use Rattle.std.specs.Prelude.{ℕ, ◌+◌, ◌*◌, ◌≡◌, map, ◌%◌, ◌<◌, min, get_or, option_map};
+ghost use Rattle.words.specs.Options.{option_of};
+ghost use Rattle.model.specs.declared.Value.TheVariants.{Nothing};
+ghost use Rattle.model.specs.Value.{value_of};
 ghost use Rattle.model.specs.State.{idle, records≔};
 ghost use Rattle.model.specs.Delays.{queue_record, hand_out, advance_records, most_records};
-ghost use Rattle.queue.specs.Queue.{queued, released, blank, front_if_due, ticked, slot, records, Placed};
+ghost use Rattle.queue.specs.Queue.{queued, released, front_if_due, ticked, slot, records, Placed};
 ghost use Rattle.queue.specs.Lent.{Part, HoldsPart, in_seconds};
 
 use delays::countdown::{Countdown, of_word};
+use model::Value;
+use std::array;
+use value::rows::{contents_of, kinds_of};
+use value::value_of;
 use words::rows::put_row;
 use words::{get, put};
 
-// A record: eight values, by their kinds and contents, travel together with their countdown.
+// A record: a row of eight values travels with its countdown.
 #[derive(Clone, Copy)]
 pub struct Record {
-    pub kinds: [u64; 8],
-    pub contents: [u64; 8],
+    pub row: [Value; 8],
     pub left: Countdown,
-}
-
-// What a tick hands out: the front record, if it is due. If not, `front` is blank.
-#[derive(Clone, Copy)]
-pub struct Released {
-    pub due: bool,
-    pub front: Record,
 }
 
 // The slots of the ring.
@@ -67,25 +65,17 @@ fn count_of(queue: &[u8]) -> usize
     requires { HoldsPart queue.now }
     ensures { result ≡ min (get_or (words queue.now) 1 0) most_records }
 {
-    let n = get(queue, COUNT) as usize;
-    if n < SLOTS { n } else { SLOTS }
+    (get(queue, COUNT) as usize).min(SLOTS)
 }
 
-// Eight words from word p on.
-fn get_eight(queue: &[u8], p: usize) -> [u64; 8]
-    requires { HasWords queue.now p 8 }
-    ensures { result ≡ take 8 (drop p (words queue.now)) }
+// The values of the record in slot s.
+fn load_row(queue: &[u8], s: usize) -> [Value; 8]
+    requires { HoldsPart queue.now × (s < most_records) }
+    ensures { (j : ℕ) → j < 8 → get_or result j Nothing ≡ value_of (get_or (words queue.now) (258 + s * 16 + j) 0) (get_or (words queue.now) (266 + s * 16 + j) 0) }
 {
-    [
-        get(queue, p),
-        get(queue, p + 1),
-        get(queue, p + 2),
-        get(queue, p + 3),
-        get(queue, p + 4),
-        get(queue, p + 5),
-        get(queue, p + 6),
-        get(queue, p + 7),
-    ]
+    let kinds = KINDS + s * ROW;
+    let contents = CONTENTS + s * ROW;
+    array::from_fn(|j| value_of(get(queue, kinds + j), get(queue, contents + j)))
 }
 
 // The record in slot s.
@@ -93,14 +83,9 @@ fn load(queue: &[u8], seconds: bool, s: usize) -> Record
     requires { HoldsPart queue.now × (s < most_records) }
     ensures { queued result ≡ slot seconds (words queue.now) s }
 {
-    let kinds = get_eight(queue, KINDS + s * ROW);
-    let contents = get_eight(queue, CONTENTS + s * ROW);
+    let row = load_row(queue, s);
     let left = of_word(seconds, get(queue, COUNTDOWNS + s));
-    Record {
-        kinds,
-        contents,
-        left,
-    }
+    Record { row, left }
 }
 
 // A record goes to slot s.
@@ -108,12 +93,9 @@ fn store(queue: &mut [u8], s: usize, r: Record)
     requires { HoldsPart queue.old × (s < most_records) }
     ensures { Placed (in_seconds r.left) (words queue.old) (words queue.new) s (queued r) }
 {
-    let kinds = r.kinds;
-    let contents = r.contents;
-    let left = r.left;
-    put_row(queue, KINDS + s * ROW, &kinds);
-    put_row(queue, CONTENTS + s * ROW, &contents);
-    put(queue, COUNTDOWNS + s, left.word());
+    put_row(queue, KINDS + s * ROW, &kinds_of(&r.row));
+    put_row(queue, CONTENTS + s * ROW, &contents_of(&r.row));
+    put(queue, COUNTDOWNS + s, r.left.word());
 }
 
 // The record in slot s counts down.
@@ -133,47 +115,30 @@ fn count_down(queue: &mut [u8], seconds: bool, dt: u32)
 {
     let first = first_of(queue);
     let count = count_of(queue);
-    let mut i = 0;
-    while i < count {
+    for i in 0..count {
         count_slot(queue, seconds, dt, (first + i) % SLOTS);
-        i += 1;
     }
 }
 
-// What a tick gives that hands out nothing.
-fn nothing_due() -> Released
-    ensures { (result.due ≡ false) × (queued result.front ≡ blank) }
-{
-    let kinds = [0; 8];
-    let contents = [0; 8];
-    let left = Countdown::Ticks(0);
-    let front = Record {
-        kinds,
-        contents,
-        left,
-    };
-    Released { due: false, front }
-}
-
 // The front record leaves, if it is due.
-fn take_front(queue: &mut [u8], seconds: bool) -> Released
+fn take_front(queue: &mut [u8], seconds: bool) -> Option<Record>
     requires { HoldsPart queue.old }
     ensures queue_value { released result (records seconds (words queue.new)) ≡ hand_out idle (records seconds (words queue.old)) }
-    ensures front_value { queued result.front ≡ front_if_due (records seconds (words queue.old)) }
+    ensures front_value { option_of (option_map queued result) ≡ front_if_due (records seconds (words queue.old)) }
 {
     let count = count_of(queue);
     if count == 0 {
-        return nothing_due();
+        return None;
     }
     let first = first_of(queue);
     let left = of_word(seconds, get(queue, COUNTDOWNS + first));
     if !left.due() {
-        return nothing_due();
+        return None;
     }
     let front = load(queue, seconds, first);
     put(queue, FIRST, (first + 1) as u64);
     put(queue, COUNT, (count - 1) as u64);
-    Released { due: true, front }
+    Some(front)
 }
 
 // A new record, behind the others. With 256 records it is dropped.
@@ -190,10 +155,10 @@ pub fn push(queue: &mut [u8], r: Record)
 }
 
 // A tick of the length dt: all records count down, and the front one alone is handed out, if it is due.
-pub fn advance(queue: &mut [u8], seconds: bool, dt: u32) -> Released
+pub fn advance(queue: &mut [u8], seconds: bool, dt: u32) -> Option<Record>
     requires { Part queue.old }
     ensures queue_value { released result (records seconds (words queue.new)) ≡ advance_records dt (records≔ idle (records seconds (words queue.old))) }
-    ensures front_value { queued result.front ≡ front_if_due (map (ticked dt) (records seconds (words queue.old))) }
+    ensures front_value { option_of (option_map queued result) ≡ front_if_due (map (ticked dt) (records seconds (words queue.old))) }
 {
     count_down(queue, seconds, dt);
     take_front(queue, seconds)

@@ -16,17 +16,18 @@ use mir.Facts.{to_z-of_z}
 use Rattle.words.specs.Words.{words, tail}
 use Rattle.words.proofs.Laws.{words_put, tail_put, words_mid, length_words, words_long}
 use Rattle.model.specs.declared.Value.{Value}
-use Rattle.model.specs.Base.{if◌then◌otherwise◌, both}
-use Rattle.model.specs.Value.{value_of, as_int, as_float}
+use Rattle.model.specs.Base.{if◌then◌otherwise◌}
+use Rattle.model.specs.Value.{as_int, as_float}
 use Rattle.model.specs.Circuit.{Circuit, part, kind_of_gate}
 use Rattle.model.specs.Questions.{queues}
 use Rattle.model.specs.State.{Delay, Queued, idle, records≔}
 use Rattle.model.specs.Delays.{Started, Moved, moved, in_ticks, in_seconds, queue_record, advance_records}
 use Rattle.delays.specs.declared.countdown.Started.{Started as Starting}
 use Rattle.delays.specs.States.{counted, started, counts_seconds}
-use Rattle.queue.specs.declared.Released.{Released}
+use Rattle.queue.specs.declared.Record.{Record}
+use Rattle.std.specs.Prelude.{Option}
 use Rattle.queue.specs.Queue.{released, records}
-use Rattle.queue.proofs.Laws.{moved_in, advance_in, queue_record_in}
+use Rattle.queue.proofs.Laws.{moved_in, advance_in, released_in, queue_record_in}
 use Rattle.states.specs.View.{slot_at, changed_at, queue_at, delay_of, is_queue, number, queue_countdown, records_at, delay_at, Delays, delay_in, with_delay, counting, starting, delays, Lent, Moves}
 use Rattle.states.proofs.Lists.{part_front, part_before, part_behind, drop_behind, Replaced, replaced}
 use Rattle.states.proofs.Lending.{one_changed, delay_here, still}
@@ -153,36 +154,37 @@ module _ (c : Circuit) (bs p : List ℕ) (g x a e : ℕ) (l : Lent c bs) (m : le
       ∙ rw iq (ap (λ (i : ℕ). records (eqb (kind_of_gate c g) 17) (part (words bs) (queue_at i) 4354)) (sym ex) ∙ ap (records (eqb (kind_of_gate c g) 17)) (sym lent_words))
 
   pub record_queue :
-      (fs : List ℕ) (y : ℕ) (ks cs : List ℕ) (j : Starting) (wait : Value) → y ≡ kind_of_gate c g → started j ≡ queue_countdown (eqb y 17) wait →
+      (fs : List ℕ) (y : ℕ) (vs : List Value) (j : Starting) (wait : Value) → y ≡ kind_of_gate c g → started j ≡ queue_countdown (eqb y 17) wait →
       records (counts_seconds (counted j.left)) (words p)
-      ≡ (queue_record (records≔ idle (records (counts_seconds (counted j.left)) (words (take (e - a) (drop a bs))))) (both value_of ks cs) (counted j.left)).records →
+      ≡ (queue_record (records≔ idle (records (counts_seconds (counted j.left)) (words (take (e - a) (drop a bs))))) vs (counted j.left)).records →
       delays c fs ≡ counting (delays c (put_mid a (e - a) bs p)) j.changed →
-      delays c fs ≡ starting (delays c bs) g (λ d left. queue_record d (both value_of ks cs) left) (queue_countdown (eqb (kind_of_gate c g) 17) wait)
+      delays c fs ≡ starting (delays c bs) g (λ d left. queue_record d vs left) (queue_countdown (eqb (kind_of_gate c g) 17) wait)
   unfolding started
-  record_queue fs y ks cs j wait ey el h et =
+  record_queue fs y vs j wait ey el h et =
       let left = counted j.left in
       let k : started j ≡ queue_countdown (eqb (kind_of_gate c g) 17) wait = el ∙ ap (λ (i : ℕ). queue_countdown (eqb i 17) wait) ey in
       let s : counts_seconds left ≡ eqb (kind_of_gate c g) 17 = ap (λ (x : Started). counts_seconds x.left) k ∙ countdown_kind (eqb (kind_of_gate c g) 17) wait in
       let d = delay_in (delays c bs) g in
-      let q : records (eqb (kind_of_gate c g) 17) (words p) ≡ (queue_record (records≔ idle d.records) (both value_of ks cs) left).records =
+      let q : records (eqb (kind_of_gate c g) 17) (words p) ≡ (queue_record (records≔ idle d.records) vs left).records =
       ap (λ (b : Bool). records b (words p)) (sym s) ∙ h
-      ∙ ap (λ (b : Bool). (queue_record (records≔ idle (records b (words (take (e - a) (drop a bs))))) (both value_of ks cs) left).records) s
-      ∙ ap (λ (qs : List Queued). (queue_record (records≔ idle qs) (both value_of ks cs) left).records) (sym own) in
-      let w = back ∙ ap (with_delay (delays c bs) g) (ap (records≔ d) q ∙ sym (queue_record_in d (both value_of ks cs) left)) in
-      et ∙ ap (λ (x : Delays). counting x j.changed) w ∙ ap (starting (delays c bs) g (λ d left. queue_record d (both value_of ks cs) left)) k
+      ∙ ap (λ (b : Bool). (queue_record (records≔ idle (records b (words (take (e - a) (drop a bs))))) vs left).records) s
+      ∙ ap (λ (qs : List Queued). (queue_record (records≔ idle qs) vs left).records) (sym own) in
+      let w = back ∙ ap (with_delay (delays c bs) g) (ap (records≔ d) q ∙ sym (queue_record_in d vs left)) in
+      et ∙ ap (λ (x : Delays). counting x j.changed) w ∙ ap (starting (delays c bs) g (λ d left. queue_record d vs left)) k
 
   pub advance_queue :
-      (y dt : ℕ) (r : Released) → y ≡ kind_of_gate c g →
+      (y dt : ℕ) (r : Option Record) → y ≡ kind_of_gate c g →
       released r (records (eqb y 17) (words p)) ≡ advance_records dt (records≔ idle (records (eqb y 17) (words (take (e - a) (drop a bs))))) →
       Moves (delays c bs) (delays c (put_mid a (e - a) bs p)) g (advance_records dt (delay_in (delays c bs) g)) (released r []).row (released r []).fires
-  unfolding released moved records≔
+  unfolding moved
   advance_queue y dt r ey h =
       let d = delay_in (delays c bs) g in
       let k : released r (records (eqb (kind_of_gate c g) 17) (words p)) ≡ advance_records dt (records≔ idle d.records) =
       ap (λ (i : ℕ). released r (records (eqb i 17) (words p))) (sym ey) ∙ h
       ∙ ap (λ (i : ℕ). advance_records dt (records≔ idle (records (eqb i 17) (words (take (e - a) (drop a bs)))))) ey
       ∙ ap (λ (qs : List Queued). advance_records dt (records≔ idle qs)) (sym own) in
-      let q : advance_records dt d ≡ moved_in d (released r (records (eqb (kind_of_gate c g) 17) (words p))) = advance_in dt d ∙ ap (moved_in d) (sym k) in
+      let qs = records (eqb (kind_of_gate c g) 17) (words p) in
+      let q : advance_records dt d ≡ moved (records≔ d qs) (released r []).row (released r []).fires = advance_in dt d ∙ ap (moved_in d) (sym k) ∙ released_in d r qs in
       record {
         state = back ∙ still _ ∙ ap (λ (o : Moved). counting (with_delay (delays c bs) g o.state) o.changed) (sym q);
         row = ap (λ (o : Moved). o.row) q;

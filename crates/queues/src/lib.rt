@@ -2,10 +2,8 @@
 #![tactic(auto)]
 
 ghost use Rattle.words.specs.Words.{words};
-ghost use Rattle.std.specs.Prelude.{◌≡◌, true, [], ◌≤◌, eqb, length, replicate};
+ghost use Rattle.std.specs.Prelude.{◌≡◌, true, [], ◌+◌, ◌*◌, ◌≤◌, eqb, length, get_or, replicate};
 ghost use Rattle.words.specs.Slices.{SameTail};
-ghost use Rattle.model.specs.Base.{both};
-ghost use Rattle.model.specs.Value.{value_of};
 ghost use Rattle.model.specs.Circuit.{kind_of_gate};
 ghost use Rattle.model.specs.State.{idle};
 ghost use Rattle.model.specs.Delays.{queue_record, advance_records};
@@ -21,7 +19,7 @@ use delays::countdown::{Started, in_seconds, in_ticks};
 use kinds::numbers::{QUEUE_IN_SECONDS, QUEUE_IN_TICKS};
 use links::{gates, kind_of_gate};
 use model::Value;
-use queue::{PART, PART_BYTES, Record, Released, advance, push};
+use queue::{PART, PART_BYTES, Record, advance, push};
 use states::counting::count_changed;
 use states::slots::PARTS;
 use value::{as_float, as_int};
@@ -38,42 +36,34 @@ fn countdown(seconds: bool, wait: Value) -> Started
     }
 }
 
+// Where the part of Queue g begins, in bytes.
+fn part_at(links: &[usize], delays: &[u8], g: usize) -> usize
+    requires { Linked links.now × Slots links.now delays.now × (is_queue (net links.now) g ≡ true) }
+    ensures { (result ≡ queue_at (get_or (words delays.now) g 0) * 8) × (result + 34832 ≤ length delays.now) }
+{
+    let p = get(delays, g) as usize;
+    (PARTS + PART * p) * 8
+}
+
 // A new record of Queue g: eight values and its wait. With 256 records it is dropped.
-pub fn queue_record(
-    links: &[usize],
-    delays: &mut [u8],
-    g: usize,
-    kinds: [u64; 8],
-    contents: [u64; 8],
-    wait: Value,
-)
+pub fn queue_record(links: &[usize], delays: &mut [u8], g: usize, row: [Value; 8], wait: Value)
     requires { Linked links.now × Slots links.now delays.old × (is_queue (net links.now) g ≡ true) }
-    ensures { DelaysChange links.now (delays.old, delays.new) (λ c old new. new ≡ starting old g (λ d left. queue_record d (both value_of kinds contents) left) (queue_countdown (eqb (kind_of_gate c g) 17) wait)) }
+    ensures { DelaysChange links.now (delays.old, delays.new) (λ c old new. new ≡ starting old g (λ d left. queue_record d row left) (queue_countdown (eqb (kind_of_gate c g) 17) wait)) }
 {
     let k = countdown(kind_of_gate(links, g) == QUEUE_IN_SECONDS, wait);
-    let left = k.left;
-    let r = Record {
-        kinds,
-        contents,
-        left,
-    };
-    let p = get(delays, g) as usize;
-    let a = (PARTS + PART * p) * 8;
-    let e = a + PART_BYTES;
-    push(&mut delays[a..e], r);
+    let a = part_at(links, delays, g);
+    push(&mut delays[a..a + PART_BYTES], Record { row, left: k.left });
     count_changed(links, delays, k.changed);
 }
 
 // Queue g moves on by a tick of the length dt in f32 bits: the front record, if it is due.
-pub fn queue_advance(links: &[usize], delays: &mut [u8], g: usize, dt: u32) -> Released
+pub fn queue_advance(links: &[usize], delays: &mut [u8], g: usize, dt: u32) -> Option<Record>
     requires { Linked links.now × Slots links.now delays.old × (is_queue (net links.now) g ≡ true) }
     ensures { DelaysChange links.now (delays.old, delays.new) (λ _ old new. Moves old new g (advance_records dt (delay_in old g)) (released result []).row (released result []).fires) }
 {
     let seconds = kind_of_gate(links, g) == QUEUE_IN_SECONDS;
-    let p = get(delays, g) as usize;
-    let a = (PARTS + PART * p) * 8;
-    let e = a + PART_BYTES;
-    advance(&mut delays[a..e], seconds, dt)
+    let a = part_at(links, delays, g);
+    advance(&mut delays[a..a + PART_BYTES], seconds, dt)
 }
 
 // ---- the start
@@ -83,10 +73,8 @@ fn clear(delays: &mut [u8])
     requires { SlotsFit delays.old }
     ensures { Cleared (queue_at 0) (words delays.old) (words delays.new) × SameTail (delays.old, delays.new) }
 {
-    let mut k: usize = 0;
-    while k < PARTS {
+    for k in 0..PARTS {
         put(delays, k, 0);
-        k += 1;
     }
 }
 
@@ -114,10 +102,8 @@ fn give_parts(links: &[usize], delays: &mut [u8])
 {
     let count = gates(links);
     let mut n: usize = 0;
-    let mut g: usize = 0;
-    while g < count {
+    for g in 0..count {
         n = give_part(links, delays, g, n);
-        g += 1;
     }
 }
 

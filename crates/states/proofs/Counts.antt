@@ -4,6 +4,7 @@ use mathlib.Core.Path.{◌≡◌, refl, sym, ap, ap₂, ◌∙◌}
 use mathlib.Core.Bool.{Bool, true, false, not}
 use mathlib.Core.List.{List, ◌++◌}
 use native.Mathlib.Omega.{arith}
+use mir.Val.{bool_byte}
 use borrow.Author.Tests.{lt-ltb, le-ltb, not-true, not-false}
 use lib.Dec.{leb}
 use lib.ListN.{length, get_or, set, take, drop}
@@ -20,6 +21,7 @@ use Rattle.links.proofs.Reading.{gates_counted}
 use Rattle.states.specs.View.{slot_at, changed_at, queue_at, delay_of, records_at, delay_at, delays, with_changed, counting}
 use Rattle.states.proofs.Lists.{part_front, part_before, part_behind, drop_behind, from_same}
 use Rattle.states.proofs.Lending.{still}
+use Rattle.states.proofs.Stores.{bit_is}
 
 -- another word in its place, and nothing else
 module _ (c : Circuit) (bs ds : List ℕ) (n x : ℕ) (l : queue_at 0 * 8 ≤ length bs) (en : (n ≡ length c.kinds) × (n ≤ 64)) (e : words ds ≡ set (words bs) changed_at x) where
@@ -53,13 +55,8 @@ module _ (l bs : List ℕ) (fit : queue_at 0 * 8 ≤ length bs) where
   put_count ds x p = recounted (net l) bs ds (min (cell l 0) 64) x fit (gates_counted l (min (cell l 0) 64) refl) p.words p.tail
 
   -- a tick begins
-  pub begins_one : (b : Bool) (ds : List ℕ) → b ≡ true → Stored bs ds changed_at 1 → delays (net l) ds ≡ with_changed (delays (net l) bs) (bit b)
-  unfolding bit
-  begins_one b ds e p = rw e (put_count ds 1 p)
-
-  pub begins_none : (b : Bool) (ds : List ℕ) → b ≡ false → Stored bs ds changed_at 0 → delays (net l) ds ≡ with_changed (delays (net l) bs) (bit b)
-  unfolding bit
-  begins_none b ds e p = rw e (put_count ds 0 p)
+  pub begins : (b : Bool) (x : ℕ) (ds : List ℕ) → x ≡ bool_byte b → Stored bs ds changed_at x → delays (net l) ds ≡ with_changed (delays (net l) bs) (bit b)
+  begins b x ds e p = put_count ds x p ∙ ap (with_changed (delays (net l) bs)) (bit_is b x e)
 
   -- none more, one more, or as many as are counted
   pub counts_none : (b : Bool) → not b ≡ true → delays (net l) bs ≡ counting (delays (net l) bs) b

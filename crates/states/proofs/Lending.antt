@@ -20,7 +20,7 @@ use Rattle.model.specs.State.{Countdown, Delay, idle, elapsed≔}
 use Rattle.model.specs.Delays.{Started, Moved, moved, in_ticks, countdown_ticks, advance_flight, advance_elapsed, advance_time}
 use Rattle.model.specs.Exec.{tally, countdown}
 use Rattle.delays.specs.declared.countdown.Started.{Started as Starting}
-use Rattle.delays.specs.declared.buffer.Optional.TheVariants.{None}
+use Rattle.std.specs.Prelude.{None}
 use Rattle.delays.specs.States.{counted, started, counts_seconds, row_of, clock, clock_moved, stopwatch_moved}
 use Rattle.delays.specs.declared.clock.Clock.{Clock}
 use Rattle.delays.proofs.Countdowns.{of_gate, kind_by}

@@ -3,8 +3,10 @@ use Prim.Native.Nat.{ℕ, ◌≤◌}
 use mathlib.Core.Path.{◌≡◌, refl, sym, ap, ap₂, ◌∙◌}
 use mathlib.Core.Bool.{Bool, true, false, not}
 use mathlib.Core.List.{List, [], ◌∷◌}
-use mathlib.Core.Option.{Option, none, some}
+use mathlib.Core.Option as math
+use mathlib.Core.Option.{none, some}
 use native.Mathlib.Omega.{arith}
+use mir.Val.{bool_byte}
 use borrow.Author.Tests.{ne_eqb, not-true, not-false}
 use lib.Dec.{leb, eqb}
 use lib.ListN.{length, get_or, set}
@@ -23,10 +25,9 @@ use Rattle.value.proofs.Laws.{made_again}
 use Rattle.delays.specs.declared.countdown.Countdown.{Countdown as Counting}
 use Rattle.delays.specs.declared.buffer.Buffer.{Buffer}
 use Rattle.delays.specs.declared.buffer.Flight.{Flight as Flying}
-use Rattle.delays.specs.declared.buffer.Flight.TheVariants.{Empty, Of}
-use Rattle.delays.specs.declared.buffer.Optional.{Optional}
-use Rattle.delays.specs.declared.buffer.Optional.TheVariants.{None, Some}
-use Rattle.delays.specs.States.{counted, counts_seconds, word_of, of_word, starts, flight_of, later_of, row_of, buffer, buffer_moved, clock, clock_moved, stopwatch, stopwatch_moved}
+use Rattle.std.specs.Prelude.{Option, None, Some}
+use Rattle.words.specs.Options.{option_of}
+use Rattle.delays.specs.States.{counted, counts_seconds, word_of, of_word, starts, flight_of, row_of, buffer, buffer_moved, clock, clock_moved, stopwatch, stopwatch_moved}
 use Rattle.delays.specs.declared.clock.Clock.{Clock}
 use Rattle.delays.specs.declared.stopwatch.Stopwatch.{Stopwatch}
 use Rattle.delays.proofs.Kept.{buffer_stored, input_stored, clock_stored, stopwatch_stored}
@@ -81,45 +82,45 @@ forgotten s ws h qs =
 
 -- ---- what is loaded
 
-pub loaded_empty : (s : Bool) (ws : List ℕ) (x : ℕ) → x ≡ get_or ws 2 0 → x ≡ 0 → flight_of Empty ≡ flight_in s ws
+pub loaded_empty : (s : Bool) (ws : List ℕ) (x : ℕ) → x ≡ get_or ws 2 0 → x ≡ 0 → flight_of None ≡ flight_in s ws
 unfolding flight_of flight_in if◌then◌otherwise◌
 loaded_empty s ws x e z = let q : get_or ws 2 0 ≡ 0 = sym e ∙ z in rw q
 
 pub loaded_flight :
     (s : Bool) (ws : List ℕ) (x a b y : ℕ) (v : Value) (k : Counting) → x ≡ get_or ws 2 0 → (x ≡ 0 → ⊥) → a ≡ get_or ws 3 0 → b ≡ get_or ws 4 0 → v ≡ value_of a b →
-    y ≡ get_or ws 5 0 → counted k ≡ of_word s y → flight_of (Of v k) ≡ flight_in s ws
+    y ≡ get_or ws 5 0 → counted k ≡ of_word s y → flight_of (Some (record { what = v; left = k })) ≡ flight_in s ws
 unfolding flight_of flight_in if◌then◌otherwise◌
 loaded_flight s ws x a b y v k e n ea eb ev ey ek =
     rw (ne_eqb (get_or ws 2 0) 0 (λ z. n (e ∙ z))) (ap₂ launch (ev ∙ ap₂ value_of ea eb) (ek ∙ ap (of_word s) ey))
 
-pub loaded_none : (ws : List ℕ) (x : ℕ) → x ≡ get_or ws 6 0 → x ≡ 0 → later_of None ≡ later_in ws
-unfolding later_of later_in if◌then◌otherwise◌
+pub loaded_none : (ws : List ℕ) (x : ℕ) → x ≡ get_or ws 6 0 → x ≡ 0 → option_of None ≡ later_in ws
+unfolding later_in if◌then◌otherwise◌
 loaded_none ws x e z = let q : get_or ws 6 0 ≡ 0 = sym e ∙ z in rw q
 
 pub loaded_later :
-    (ws : List ℕ) (x a b : ℕ) (v : Value) → x ≡ get_or ws 6 0 → (x ≡ 0 → ⊥) → a ≡ get_or ws 7 0 → b ≡ get_or ws 8 0 → v ≡ value_of a b → later_of (Some v) ≡ later_in ws
-unfolding later_of later_in if◌then◌otherwise◌
+    (ws : List ℕ) (x a b : ℕ) (v : Value) → x ≡ get_or ws 6 0 → (x ≡ 0 → ⊥) → a ≡ get_or ws 7 0 → b ≡ get_or ws 8 0 → v ≡ value_of a b → option_of (Some v) ≡ later_in ws
+unfolding later_in if◌then◌otherwise◌
 loaded_later ws x a b v e n ea eb ev = rw (ne_eqb (get_or ws 6 0) 0 (λ z. n (e ∙ z))) (ap (λ (y : Value). some y) (ev ∙ ap₂ value_of ea eb))
 
 -- ---- the definition's functions, by what is there
 
 input_first : (d : Delay) (v : Value) (k : Countdown) → d.flight ≡ none → buffer_input d v k ≡ flight≔ d (launch v k) d.later
 unfolding buffer_input
-input_first d v k e = ap (λ (o : Option Flight). elim o [ none ↦ flight≔ d (launch v k) d.later | some f ↦ flight≔ d (some f) (some v) ]) e
+input_first d v k e = ap (λ (o : math.Option Flight). elim o [ none ↦ flight≔ d (launch v k) d.later | some f ↦ flight≔ d (some f) (some v) ]) e
 
 input_later : (d : Delay) (v u : Value) (k j : Countdown) → d.flight ≡ launch u j → buffer_input d v k ≡ flight≔ d d.flight (some v)
 unfolding buffer_input launch
 input_later d v u k j e =
-    ap (λ (o : Option Flight). elim o [ none ↦ flight≔ d (launch v k) d.later | some f ↦ flight≔ d (some f) (some v) ]) e
-    ∙ ap (λ (o : Option Flight). flight≔ d o (some v)) (sym e)
+    ap (λ (o : math.Option Flight). elim o [ none ↦ flight≔ d (launch v k) d.later | some f ↦ flight≔ d (some f) (some v) ]) e
+    ∙ ap (λ (o : math.Option Flight). flight≔ d o (some v)) (sym e)
 
 flight_none : (start : Value → Started) (dt : ℕ) (d : Delay) → d.flight ≡ none → advance_flight start dt d ≡ moved d [] 0
 unfolding advance_flight
-flight_none start dt d e = ap (λ (o : Option Flight). elim o [ none ↦ moved d [] 0 | some f ↦ flown start d f.what (tick_down dt f.left) ]) e
+flight_none start dt d e = ap (λ (o : math.Option Flight). elim o [ none ↦ moved d [] 0 | some f ↦ flown start d f.what (tick_down dt f.left) ]) e
 
 flight_some : (start : Value → Started) (dt : ℕ) (d : Delay) (v : Value) (k : Countdown) → d.flight ≡ launch v k → advance_flight start dt d ≡ flown start d v (tick_down dt k)
 unfolding advance_flight launch
-flight_some start dt d v k e = ap (λ (o : Option Flight). elim o [ none ↦ moved d [] 0 | some f ↦ flown start d f.what (tick_down dt f.left) ]) e
+flight_some start dt d v k e = ap (λ (o : math.Option Flight). elim o [ none ↦ moved d [] 0 | some f ↦ flown start d f.what (tick_down dt f.left) ]) e
 
 -- ---- one law for each way out
 
@@ -147,35 +148,33 @@ remember_stored ws w₁ w₂ w₃ v x y h e₁ ex e₂ ey e₃ s qs =
 
 -- what is in flight
 pub stored_empty :
-    (f : Flying) (ws vs : List ℕ) → 11 ≤ length ws → f ≡ Empty → vs ≡ set ws 2 0 → BecomesBy (flight_of f) ws vs (λ d. flight≔ d (flight_of f) d.later)
+    (f : Option Flying) (ws vs : List ℕ) → 11 ≤ length ws → f ≡ None → vs ≡ set ws 2 0 → BecomesBy (flight_of f) ws vs (λ d. flight≔ d (flight_of f) d.later)
 unfolding flight_of
 stored_empty f ws vs h e es s k qs =
-    ap (λ (t : List ℕ). delay_of s t qs) es ∙ emptied s ws h qs ∙ ap (λ (x : Flying). flight≔ (delay_of s ws qs) (flight_of x) (delay_of s ws qs).later) (sym e)
+    ap (λ (t : List ℕ). delay_of s t qs) es ∙ emptied s ws h qs ∙ ap (λ (x : Option Flying). flight≔ (delay_of s ws qs) (flight_of x) (delay_of s ws qs).later) (sym e)
 
 pub stored_flight :
-    (f : Flying) (ws vs : List ℕ) (v : Value) (k : Counting) → f ≡ Of v k → Becomes (counts_seconds (counted k)) ws vs (λ d. flight≔ d (launch v (counted k)) d.later) →
+    (f : Option Flying) (ws vs : List ℕ) (x : Flying) → f ≡ Some x → Becomes (counts_seconds (counted x.left)) ws vs (λ d. flight≔ d (launch x.what (counted x.left)) d.later) →
     BecomesBy (flight_of f) ws vs (λ d. flight≔ d (flight_of f) d.later)
 unfolding flight_of flies_by launch
-stored_flight f ws vs v k e b s q qs =
-    let j : counts_seconds (counted k) ≡ s = ap (λ (x : Flying). flies_by s (flight_of x)) (sym e) ∙ q in
-    (rw j at b) qs ∙ ap (λ (x : Flying). flight≔ (delay_of s ws qs) (flight_of x) (delay_of s ws qs).later) (sym e)
+stored_flight f ws vs x e b s q qs =
+    let j : counts_seconds (counted x.left) ≡ s = ap (λ (y : Option Flying). flies_by s (flight_of y)) (sym e) ∙ q in
+    (rw j at b) qs ∙ ap (λ (x : Option Flying). flight≔ (delay_of s ws qs) (flight_of x) (delay_of s ws qs).later) (sym e)
 
 -- the later input
 pub stored_none :
-    (o : Optional) (ws vs : List ℕ) → 11 ≤ length ws → o ≡ None → vs ≡ set ws 6 0 → BecomesAny ws vs (λ d. flight≔ d d.flight (later_of o))
-unfolding later_of
+    (o : Option Value) (ws vs : List ℕ) → 11 ≤ length ws → o ≡ None → vs ≡ set ws 6 0 → BecomesAny ws vs (λ d. flight≔ d d.flight (option_of o))
 stored_none o ws vs h e es s qs =
-    ap (λ (t : List ℕ). delay_of s t qs) es ∙ forgotten s ws h qs ∙ ap (λ (x : Optional). flight≔ (delay_of s ws qs) (delay_of s ws qs).flight (later_of x)) (sym e)
+    ap (λ (t : List ℕ). delay_of s t qs) es ∙ forgotten s ws h qs ∙ ap (λ (x : Option Value). flight≔ (delay_of s ws qs) (delay_of s ws qs).flight (option_of x)) (sym e)
 
 pub stored_later :
-    (o : Optional) (ws vs : List ℕ) (v : Value) → o ≡ Some v → BecomesAny ws vs (λ d. flight≔ d d.flight (some v)) →
-    BecomesAny ws vs (λ d. flight≔ d d.flight (later_of o))
-unfolding later_of
-stored_later o ws vs v e b s qs = b s qs ∙ ap (λ (x : Optional). flight≔ (delay_of s ws qs) (delay_of s ws qs).flight (later_of x)) (sym e)
+    (o : Option Value) (ws vs : List ℕ) (v : Value) → o ≡ Some v → BecomesAny ws vs (λ d. flight≔ d d.flight (some v)) →
+    BecomesAny ws vs (λ d. flight≔ d d.flight (option_of o))
+stored_later o ws vs v e b s qs = b s qs ∙ ap (λ (x : Option Value). flight≔ (delay_of s ws qs) (delay_of s ws qs).flight (option_of x)) (sym e)
 
 -- both
 pub stored_buffer :
-    (f : Option Flight) (l : Option Value) (ws w₁ w₂ : List ℕ) → BecomesBy f ws w₁ (λ d. flight≔ d f d.later) →
+    (f : math.Option Flight) (l : math.Option Value) (ws w₁ w₂ : List ℕ) → BecomesBy f ws w₁ (λ d. flight≔ d f d.later) →
     BecomesAny w₁ w₂ (λ d. flight≔ d d.flight l) → BecomesBy f ws w₂ (λ d. flight≔ d f l)
 unfolding flight≔
 stored_buffer f l ws w₁ w₂ b₁ b₂ s q qs = b₂ s qs ∙ ap (λ (d : Delay). flight≔ d d.flight l) (b₁ s q qs)
@@ -194,7 +193,7 @@ input_kind : (s : Bool) (d : Delay) (v : Value) (k : Countdown) → counts_secon
 unfolding flies_by launch flight≔
 input_kind s d v k j q = go d.flight refl
   where
-    go : (o : Option Flight) → d.flight ≡ o → flies_by s (buffer_input d v k).flight ≡ s
+    go : (o : math.Option Flight) → d.flight ≡ o → flies_by s (buffer_input d v k).flight ≡ s
     go none e = ap (λ (x : Delay). flies_by s x.flight) (input_first d v k e) ∙ j
     go (some f) e = ap (λ (x : Delay). flies_by s x.flight) (input_later d v f.what k f.left e) ∙ q
 
@@ -204,7 +203,7 @@ module _ (s : Bool) (start : Value → Started) (w : (v : Value) → counts_seco
   landed_kind d v = go d.later
     where
       go :
-          (o : Option Value) →
+          (o : math.Option Value) →
           flies_by s (elim o as (λ _. Moved) [
             | none ↦ moved (flight≔ d none none) (v ∷ []) 0
             | some u ↦ record { state = flight≔ d (launch u (start u).left) none; row = v ∷ []; fires = 0; changed = (start u).changed }
@@ -224,7 +223,7 @@ module _ (s : Bool) (start : Value → Started) (w : (v : Value) → counts_seco
   unfolding flies_by launch moved
   advance_kind dt d q = go d.flight refl
     where
-      go : (o : Option Flight) → d.flight ≡ o → flies_by s (advance_flight start dt d).state.flight ≡ s
+      go : (o : math.Option Flight) → d.flight ≡ o → flies_by s (advance_flight start dt d).state.flight ≡ s
       go none e = ap (λ (m : Moved). flies_by s m.state.flight) (flight_none start dt d e) ∙ q
       go (some f) e =
           ap (λ (m : Moved). flies_by s m.state.flight) (flight_some start dt d f.what f.left e)
@@ -235,8 +234,8 @@ module _ (s : Bool) (start : Value → Started) (w : (v : Value) → counts_seco
 -- a new input
 pub input_moves :
     (s : Bool) (ws vs : List ℕ) (b r : Buffer) (v : Value) (k : Countdown) → counts_seconds k ≡ s →
-    (flight_of b.flight ≡ flight_in s ws) × (later_of b.later ≡ later_in ws) → buffer_moved r ≡ moved (buffer_input (buffer b) v k) [] 0 →
-    BecomesBy (flight_of r.flight) ws vs (λ d. flight≔ d (flight_of r.flight) (later_of r.later)) → Becomes s ws vs (λ d. buffer_input d v k)
+    (flight_of b.flight ≡ flight_in s ws) × (option_of b.later ≡ later_in ws) → buffer_moved r ≡ moved (buffer_input (buffer b) v k) [] 0 →
+    BecomesBy (flight_of r.flight) ws vs (λ d. flight≔ d (flight_of r.flight) (option_of r.later)) → Becomes s ws vs (λ d. buffer_input d v k)
 unfolding delay_of buffer_moved buffer moved flight≔
 input_moves s ws vs b r v k j l h st qs =
     let kind : flies_by s (flight_of r.flight) ≡ s = ap (λ (m : Moved). flies_by s m.state.flight) h ∙ input_kind s (buffer b) v k j (ap (flies_by s) l.0 ∙ in_kind s ws) in
@@ -251,9 +250,9 @@ fly_empty s ws x dt start e z qs = flight_none start dt (delay_of s ws qs) (sym 
 
 pub fly_moves :
     (c : Circuit) (g : ℕ) (s : Bool) (ws vs : List ℕ) (dt : ℕ) (b r : Buffer) (wait zero_wait : Value) → s ≡ leb 12 (kind_of_gate c g) →
-    (flight_of b.flight ≡ flight_in s ws) × (later_of b.later ≡ later_in ws) → wait ≡ setting c g 1 → zero_wait ≡ setting c g 2 →
+    (flight_of b.flight ≡ flight_in s ws) × (option_of b.later ≡ later_in ws) → wait ≡ setting c g 1 → zero_wait ≡ setting c g 2 →
     buffer_moved r ≡ advance_flight (starts s wait zero_wait) dt (buffer b) →
-    BecomesBy (flight_of r.flight) ws vs (λ d. flight≔ d (flight_of r.flight) (later_of r.later)) →
+    BecomesBy (flight_of r.flight) ws vs (λ d. flight≔ d (flight_of r.flight) (option_of r.later)) →
     Lands s ws vs (advance_flight (λ v. countdown c g (truthy v)) dt) (record { what = r.landed; changed = r.changed })
 unfolding delay_of buffer_moved buffer moved flight≔ starts
 fly_moves c g s ws vs dt b r wait zero_wait es l ew ez h st qs =
@@ -282,13 +281,10 @@ started s y ws h qs =
     eleven (λ t. delay_of s (set t 1 y) qs ≡ elapsed≔ (delay_of s t qs) (delay_of s t qs).elapsed (marked y)) (λ a b c d e f g h i j k r. refl) ws h
 
 -- a mark as a word
-pub bit_one : (b : Bool) → b ≡ true → 1 ≡ bit b
+pub bit_is : (b : Bool) (x : ℕ) → x ≡ bool_byte b → x ≡ bit b
 unfolding bit if◌then◌otherwise◌
-bit_one b e = rw e
-
-pub bit_zero : (b : Bool) → b ≡ false → 0 ≡ bit b
-unfolding bit if◌then◌otherwise◌
-bit_zero b e = rw e
+bit_is true x e = e
+bit_is false x e = e
 
 marked_bit : (b : Bool) → marked (bit b) ≡ b
 unfolding bit if◌then◌otherwise◌

@@ -22,11 +22,7 @@ pub fn begin_count(links: &[usize], delays: &mut [u8], changed: bool)
     requires { Linked links.now × SlotsFit delays.old }
     ensures { DelaysChange links.now (delays.old, delays.new) (λ _ old new. new ≡ with_changed old (bit changed)) }
 {
-    if changed {
-        put(delays, CHANGED, 1);
-    } else {
-        put(delays, CHANGED, 0);
-    }
+    put(delays, CHANGED, u64::from(changed));
 }
 
 // One more, if it changed its number.

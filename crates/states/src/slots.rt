@@ -1,21 +1,22 @@
 // The slot of a gate: value buffers, buffers in exec mode, Clocks and Stopwatches. Each gate has room for all of them, whatever its kind.
 ghost use Rattle.words.specs.Words.{words};
-ghost use Rattle.std.specs.Prelude.{◌≡◌, true, [], ◌≤◌, leb};
+ghost use Rattle.words.specs.Options.{option_of};
+ghost use Rattle.std.specs.Prelude.{◌≡◌, true, [], ◌*◌, ◌≤◌, ◌<◌, leb};
 ghost use Rattle.std.proofs.Math.Option.{some};
 ghost use Rattle.model.specs.Value.{truthy, bit};
 ghost use Rattle.model.specs.Circuit.{part, kind_of_gate};
 ghost use Rattle.model.specs.State.{flight≔, fires≔};
 ghost use Rattle.model.specs.Delays.{launch, buffer_input, advance_flight, advance_fires, advance_elapsed, advance_time, pressed};
 ghost use Rattle.model.specs.Exec.{countdown, most_fires};
-ghost use Rattle.delays.specs.States.{counted, started, counts_seconds, flight_of, later_of, row_of, fires_of, stopwatch_moved};
+ghost use Rattle.delays.specs.States.{counted, started, counts_seconds, flight_of, row_of, fires_of, stopwatch_moved};
 ghost use Rattle.links.specs.Links.{net};
 ghost use Rattle.links.specs.Lent.{Linked, net_of};
-ghost use Rattle.states.specs.View.{flight_in, later_in, fires_in, delay_in, with_delay, starting, Moves};
+ghost use Rattle.states.specs.View.{slot_at, flight_in, later_in, fires_in, delay_in, with_delay, starting, Moves};
 ghost use Rattle.states.specs.Slots.{Becomes, BecomesAny, BecomesBy, Turns, TurnsAny, Lands, Added};
 ghost use Rattle.states.specs.Lent.{Slot, Slots, DelaysChange, AddsFire};
 
 use crate::counting::count_changed;
-use delays::buffer::{Buffer, Flight, Optional};
+use delays::buffer::{Buffer, Flight};
 use delays::clock::Clock;
 use delays::countdown::{Countdown, Started, buffer_countdown, of_word};
 use delays::fires::{Fires, MOST_FIRES};
@@ -77,7 +78,7 @@ const SECONDS: u64 = BUFFER_SECONDS;
 // What landed as a value buffer moved on, if anything did, and whether narrowing changed the wait of the input that started then.
 #[derive(Clone, Copy)]
 pub struct Landed {
-    pub what: Optional,
+    pub what: Option<Value>,
     pub changed: bool,
 }
 
@@ -105,72 +106,71 @@ fn remember(slot: &mut [u8], v: Value)
 }
 
 // What is in flight goes into the slot.
-fn store_flight(slot: &mut [u8], flight: Flight)
+fn store_flight(slot: &mut [u8], flight: Option<Flight>)
     requires { Slot slot.old }
     ensures { BecomesBy (flight_of flight) (words slot.old) (words slot.new) (λ d. flight≔ d (flight_of flight) d.later) }
 {
     match flight {
-        Flight::Empty => put(slot, FLIGHT, 0),
-        Flight::Of(v, k) => launch(slot, v, k),
+        None => put(slot, FLIGHT, 0),
+        Some(f) => launch(slot, f.what, f.left),
     }
 }
 
 // The last later input goes into the slot, or that there is none.
-fn store_later(slot: &mut [u8], later: Optional)
+fn store_later(slot: &mut [u8], later: Option<Value>)
     requires { Slot slot.old }
-    ensures { BecomesAny (words slot.old) (words slot.new) (λ d. flight≔ d d.flight (later_of later)) }
+    ensures { BecomesAny (words slot.old) (words slot.new) (λ d. flight≔ d d.flight (option_of later)) }
 {
     match later {
-        Optional::None => put(slot, LATER, 0),
-        Optional::Some(v) => remember(slot, v),
+        None => put(slot, LATER, 0),
+        Some(v) => remember(slot, v),
     }
 }
 
 // A value buffer goes into the slot.
 fn store_buffer(slot: &mut [u8], b: Buffer)
     requires { Slot slot.old }
-    ensures { BecomesBy (flight_of b.flight) (words slot.old) (words slot.new) (λ d. flight≔ d (flight_of b.flight) (later_of b.later)) }
+    ensures { BecomesBy (flight_of b.flight) (words slot.old) (words slot.new) (λ d. flight≔ d (flight_of b.flight) (option_of b.later)) }
 {
-    let flight = b.flight;
-    let later = b.later;
-    store_flight(slot, flight);
-    store_later(slot, later);
+    store_flight(slot, b.flight);
+    store_later(slot, b.later);
 }
 
 // What is in flight in the slot.
-fn load_flight(slot: &[u8], seconds: bool) -> Flight
+fn load_flight(slot: &[u8], seconds: bool) -> Option<Flight>
     requires { Slot slot.now }
     ensures { flight_of result ≡ flight_in seconds (words slot.now) }
 {
     if get(slot, FLIGHT) == 0 {
-        return Flight::Empty;
+        return None;
     }
-    let v = value_of(get(slot, FLIGHT_KIND), get(slot, FLIGHT_CONTENT));
-    Flight::Of(v, of_word(seconds, get(slot, FLIGHT_LEFT)))
+    let what = value_of(get(slot, FLIGHT_KIND), get(slot, FLIGHT_CONTENT));
+    let left = of_word(seconds, get(slot, FLIGHT_LEFT));
+    Some(Flight { what, left })
 }
 
 // The last later input in the slot, or none.
-fn load_later(slot: &[u8]) -> Optional
+fn load_later(slot: &[u8]) -> Option<Value>
     requires { Slot slot.now }
-    ensures { later_of result ≡ later_in (words slot.now) }
+    ensures { option_of result ≡ later_in (words slot.now) }
 {
     if get(slot, LATER) == 0 {
-        return Optional::None;
+        return None;
     }
-    Optional::Some(value_of(get(slot, LATER_KIND), get(slot, LATER_CONTENT)))
+    Some(value_of(get(slot, LATER_KIND), get(slot, LATER_CONTENT)))
 }
 
 // The value buffer in the slot.
 fn load_buffer(slot: &[u8], seconds: bool) -> Buffer
     requires { Slot slot.now }
-    ensures { (flight_of result.flight ≡ flight_in seconds (words slot.now)) × (later_of result.later ≡ later_in (words slot.now)) }
+    ensures { (flight_of result.flight ≡ flight_in seconds (words slot.now)) × (option_of result.later ≡ later_in (words slot.now)) }
 {
     let flight = load_flight(slot, seconds);
     let later = load_later(slot);
     Buffer {
-        flight: flight,
-        later: later,
-        landed: Optional::None,
+        flight,
+        later,
+        landed: None,
         changed: false,
     }
 }
@@ -192,16 +192,17 @@ fn fly(links: &[usize], slot: &mut [u8], g: usize, seconds: bool, dt: u32) -> La
 {
     if get(slot, FLIGHT) == 0 {
         return Landed {
-            what: Optional::None,
+            what: None,
             changed: false,
         };
     }
     let b = load_buffer(slot, seconds);
     let next = b.advance(dt, seconds, setting(links, g, 1), setting(links, g, 2));
-    let what = next.landed;
-    let changed = next.changed;
     store_buffer(slot, next);
-    Landed { what, changed }
+    Landed {
+        what: next.landed,
+        changed: next.changed,
+    }
 }
 
 // The places of the fires in the slot.
@@ -210,10 +211,8 @@ fn load_places(slot: &[u8]) -> [u64; MOST_FIRES]
     ensures { result ≡ part (words slot.now) 11 32 }
 {
     let mut places = [0; MOST_FIRES];
-    let mut i: usize = 0;
-    while i < MOST_FIRES {
+    for i in 0..MOST_FIRES {
         places[i] = get(slot, FIRES + i);
-        i += 1;
     }
     places
 }
@@ -242,8 +241,7 @@ fn store_fires(slot: &mut [u8], fires: Fires)
 {
     put(slot, FIRST, fires.first as u64);
     put(slot, COUNT, fires.count as u64);
-    let places = fires.words;
-    put_row(slot, FIRES, &places);
+    put_row(slot, FIRES, &fires.words);
 }
 
 // One fire more with its countdown, if there is room.
@@ -273,13 +271,6 @@ fn run_fires(slot: &mut [u8], seconds: bool, dt: u32) -> usize
     let next = fires.advance(dt);
     store_fires(slot, next);
     next.fired
-}
-
-// A mark as a word.
-fn bit_of(mark: bool) -> u64
-    ensures { result ≡ bit mark }
-{
-    if mark { 1 } else { 0 }
 }
 
 // A Clock moves on by a tick: whether it fires. Disabled it keeps its time.
@@ -318,7 +309,7 @@ fn run_stopwatch(slot: &mut [u8], dt: u64, limit: u64) -> Stopwatch
     }
     let next = stopwatch.advance(dt, limit);
     put(slot, ELAPSED, next.time);
-    put(slot, RUNNING, bit_of(next.running));
+    put(slot, RUNNING, u64::from(next.running));
     next
 }
 
@@ -332,10 +323,18 @@ fn press(slot: &mut [u8], p: usize)
         put(slot, RUNNING, 1);
         return;
     }
-    put(slot, RUNNING, bit_of(p == 2));
+    put(slot, RUNNING, u64::from(p == 2));
 }
 
 // ---- gates
+
+// Where the slot of gate g begins, in bytes.
+fn slot_at(g: usize) -> usize
+    requires { g < 64 }
+    ensures { result ≡ slot_at g * 8 }
+{
+    (SLOTS + SLOT * g) * 8
+}
 
 // The countdown that gate g, a buffer, starts for a value that is rising or not.
 fn countdown(links: &[usize], g: usize, rising: bool) -> Started
@@ -356,28 +355,24 @@ pub fn buffer_input(links: &[usize], delays: &mut [u8], g: usize, v: Value)
     }
     let seconds = SECONDS <= kind_of_gate(links, g);
     let k = countdown(links, g, truthy(v));
-    let left = k.left;
-    let a = (SLOTS + SLOT * g) * 8;
-    let e = a + SLOT_BYTES;
-    input(&mut delays[a..e], seconds, v, left);
+    let a = slot_at(g);
+    input(&mut delays[a..a + SLOT_BYTES], seconds, v, k.left);
     count_changed(links, delays, k.changed);
 }
 
 // Gate g, a value buffer, moves on by a tick of the length dt in f32 bits: what lands.
-pub fn buffer_advance(links: &[usize], delays: &mut [u8], g: usize, dt: u32) -> Optional
+pub fn buffer_advance(links: &[usize], delays: &mut [u8], g: usize, dt: u32) -> Option<Value>
     requires { Linked links.now × Slots links.now delays.old }
     ensures { DelaysChange links.now (delays.old, delays.new) (λ c old new. Moves old new g (advance_flight (λ v. countdown c g (truthy v)) dt (delay_in old g)) (row_of result) 0) }
 {
     if gates(links) <= g {
-        return Optional::None;
+        return None;
     }
     let seconds = SECONDS <= kind_of_gate(links, g);
-    let a = (SLOTS + SLOT * g) * 8;
-    let e = a + SLOT_BYTES;
-    let landed = fly(links, &mut delays[a..e], g, seconds, dt);
+    let a = slot_at(g);
+    let landed = fly(links, &mut delays[a..a + SLOT_BYTES], g, seconds, dt);
     count_changed(links, delays, landed.changed);
-    let what = landed.what;
-    what
+    landed.what
 }
 
 // One fire more of gate g, a buffer in exec mode, if there is room.
@@ -390,10 +385,8 @@ pub fn add_fire(links: &[usize], delays: &mut [u8], g: usize) -> Filed
     }
     let seconds = SECONDS <= kind_of_gate(links, g);
     let k = countdown(links, g, true);
-    let left = k.left;
-    let a = (SLOTS + SLOT * g) * 8;
-    let e = a + SLOT_BYTES;
-    let filed = start_fire(&mut delays[a..e], seconds, left);
+    let a = slot_at(g);
+    let filed = start_fire(&mut delays[a..a + SLOT_BYTES], seconds, k.left);
     count_changed(links, delays, k.changed);
     filed
 }
@@ -408,9 +401,8 @@ pub fn fires_advance(links: &[usize], delays: &mut [u8], g: usize, dt: u32) -> u
         return 0;
     }
     let seconds = SECONDS <= kind_of_gate(links, g);
-    let a = (SLOTS + SLOT * g) * 8;
-    let e = a + SLOT_BYTES;
-    run_fires(&mut delays[a..e], seconds, dt)
+    let a = slot_at(g);
+    run_fires(&mut delays[a..a + SLOT_BYTES], seconds, dt)
 }
 
 // Gate g, a Clock, moves on by a tick of dt seconds: whether it fires.
@@ -433,9 +425,8 @@ pub fn clock_advance(
         let next = clock.advance(dt, interval, enabled);
         return next.fired;
     }
-    let a = (SLOTS + SLOT * g) * 8;
-    let e = a + SLOT_BYTES;
-    run_clock(&mut delays[a..e], dt, interval, enabled)
+    let a = slot_at(g);
+    run_clock(&mut delays[a..a + SLOT_BYTES], dt, interval, enabled)
 }
 
 // Gate g, a Stopwatch, moves on by a tick of dt seconds: its state, with what it shows and whether it expires.
@@ -457,9 +448,8 @@ pub fn stopwatch_advance(
             expired: false,
         };
     }
-    let a = (SLOTS + SLOT * g) * 8;
-    let e = a + SLOT_BYTES;
-    run_stopwatch(&mut delays[a..e], dt, limit)
+    let a = slot_at(g);
+    run_stopwatch(&mut delays[a..a + SLOT_BYTES], dt, limit)
 }
 
 // A pin of gate g, a Stopwatch: 0 Restart, 2 Resume, any other Pause.
@@ -470,7 +460,6 @@ pub fn stopwatch_press(links: &[usize], delays: &mut [u8], g: usize, p: usize)
     if gates(links) <= g {
         return;
     }
-    let a = (SLOTS + SLOT * g) * 8;
-    let e = a + SLOT_BYTES;
-    press(&mut delays[a..e], p);
+    let a = slot_at(g);
+    press(&mut delays[a..a + SLOT_BYTES], p);
 }

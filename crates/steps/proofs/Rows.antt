@@ -1,25 +1,10 @@
 -- Rows of eight values: what is looked at.
 use Prim.Native.Nat.{ℕ, suc, ◌+◌}
-use mathlib.Core.Path.{◌≡◌, refl, ◌∙◌}
-use mathlib.Core.List.{List, [], ◌∷◌, map}
+use mathlib.Core.Path.{◌≡◌, ◌∙◌}
+use mathlib.Core.List.{[], ◌∷◌, map}
 use native.Mathlib.Omega.{arith}
 use Rattle.model.specs.declared.Value.{Value}
-use Rattle.model.specs.Base.{both, from}
-use Rattle.model.specs.Value.{value_of, kind_of, content_of}
-use Rattle.value.proofs.Laws.{made_again}
-
--- ---- eight values by their words
-
-pub eight_words :
-    (f : Value → ℕ) (v₀ v₁ v₂ v₃ v₄ v₅ v₆ v₇ : Value) (k₀ k₁ k₂ k₃ k₄ k₅ k₆ k₇ : ℕ) → k₀ ≡ f v₀ → k₁ ≡ f v₁ → k₂ ≡ f v₂ → k₃ ≡ f v₃ → k₄ ≡ f v₄ → k₅ ≡ f v₅ → k₆ ≡ f v₆ → k₇ ≡ f v₇ →
-    k₀ ∷ k₁ ∷ k₂ ∷ k₃ ∷ k₄ ∷ k₅ ∷ k₆ ∷ k₇ ∷ [] ≡ map f (v₀ ∷ v₁ ∷ v₂ ∷ v₃ ∷ v₄ ∷ v₅ ∷ v₆ ∷ v₇ ∷ [])
-eight_words f v₀ v₁ v₂ v₃ v₄ v₅ v₆ v₇ k₀ k₁ k₂ k₃ k₄ k₅ k₆ k₇ e₀ e₁ e₂ e₃ e₄ e₅ e₆ e₇ = rw (e₀, e₁, e₂, e₃, e₄, e₅, e₆, e₇)
-
--- the kinds and contents of values make them again
-pub row_again : (vs : List Value) → both value_of (map kind_of vs) (map content_of vs) ≡ vs
-unfolding both
-row_again [] = refl
-row_again (v ∷ vs) = λ j. made_again v j ∷ row_again vs j
+use Rattle.model.specs.Base.{from}
 
 -- eight numbers in a row
 pub eight : (f : ℕ → Value) (i : ℕ) → f i ∷ f (i + 1) ∷ f (i + 2) ∷ f (i + 3) ∷ f (i + 4) ∷ f (i + 5) ∷ f (i + 6) ∷ f (i + 7) ∷ [] ≡ map f (from i 8)
@@ -36,7 +21,6 @@ eight f i =
 
 -- what eight inputs read
 pub row_read :
-    (f : ℕ → Value) (i : ℕ) (v₀ v₁ v₂ v₃ v₄ v₅ v₆ v₇ : Value) (ks bs : List ℕ) → v₀ ≡ f i → v₁ ≡ f (i + 1) → v₂ ≡ f (i + 2) → v₃ ≡ f (i + 3) → v₄ ≡ f (i + 4) → v₅ ≡ f (i + 5) → v₆ ≡ f (i + 6) → v₇ ≡ f (i + 7) →
-    ks ≡ map kind_of (v₀ ∷ v₁ ∷ v₂ ∷ v₃ ∷ v₄ ∷ v₅ ∷ v₆ ∷ v₇ ∷ []) → bs ≡ map content_of (v₀ ∷ v₁ ∷ v₂ ∷ v₃ ∷ v₄ ∷ v₅ ∷ v₆ ∷ v₇ ∷ []) → both value_of ks bs ≡ map f (from i 8)
-row_read f i v₀ v₁ v₂ v₃ v₄ v₅ v₆ v₇ ks bs e₀ e₁ e₂ e₃ e₄ e₅ e₆ e₇ ek eb =
-    rw (ek, eb) (row_again (v₀ ∷ v₁ ∷ v₂ ∷ v₃ ∷ v₄ ∷ v₅ ∷ v₆ ∷ v₇ ∷ []) ∙ (λ j. e₀ j ∷ e₁ j ∷ e₂ j ∷ e₃ j ∷ e₄ j ∷ e₅ j ∷ e₆ j ∷ e₇ j ∷ []) ∙ eight f i)
+    (f : ℕ → Value) (i : ℕ) (v₀ v₁ v₂ v₃ v₄ v₅ v₆ v₇ : Value) → v₀ ≡ f i → v₁ ≡ f (i + 1) → v₂ ≡ f (i + 2) → v₃ ≡ f (i + 3) → v₄ ≡ f (i + 4) → v₅ ≡ f (i + 5) → v₆ ≡ f (i + 6) → v₇ ≡ f (i + 7) →
+    v₀ ∷ v₁ ∷ v₂ ∷ v₃ ∷ v₄ ∷ v₅ ∷ v₆ ∷ v₇ ∷ [] ≡ map f (from i 8)
+row_read f i v₀ v₁ v₂ v₃ v₄ v₅ v₆ v₇ e₀ e₁ e₂ e₃ e₄ e₅ e₆ e₇ = (λ j. e₀ j ∷ e₁ j ∷ e₂ j ∷ e₃ j ∷ e₄ j ∷ e₅ j ∷ e₆ j ∷ e₇ j ∷ []) ∙ eight f i

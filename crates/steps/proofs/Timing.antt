@@ -14,8 +14,7 @@ use Rattle.lists.specs.declared.Filed.TheVariants.{Full as NoRoom, Done}
 use Rattle.lists.specs.contracts.Filed.{the_type as Filings}
 use Rattle.model.specs.declared.Value.{Value}
 use Rattle.model.specs.declared.Value.TheVariants.{Float}
-use Rattle.model.specs.Base.{if◌then◌otherwise◌, both, each, from, among, snoc}
-use Rattle.model.specs.Value.{value_of}
+use Rattle.model.specs.Base.{if◌then◌otherwise◌, each, from, among, snoc}
 use Rattle.model.specs.Circuit.{Circuit, most_gates, kind_of_gate, input, output}
 use Rattle.model.specs.State.{Wires, Delay, Send, State, idle, fires≔, wires≔, delays≔, outbox≔, changed≔}
 use Rattle.model.specs.Delays.{pressed, queue_record}
@@ -100,15 +99,15 @@ module _ (c : Circuit) (g : ℕ) where
   last_input = omega arith
 
   pub queues :
-      (v v₁ : Values) (d d₁ : Delays) (i : ℕ) (ks bs : List ℕ) (x : Value) → (i ≡ input c g 1) × (i < 131072) → v₁ ≡ with_wires v (each (ready c) v.wires (from i 9)) →
-      both value_of ks bs ≡ map (look c v₁.wires) (from i 8) → x ≡ look c v₁.wires (i + 8) →
-      d₁ ≡ starting d g (λ y left. queue_record y (both value_of ks bs) left) (queue_countdown (eqb (kind_of_gate c g) 17) x) →
+      (v v₁ : Values) (d d₁ : Delays) (i : ℕ) (vs : List Value) (x : Value) → (i ≡ input c g 1) × (i < 131072) → v₁ ≡ with_wires v (each (ready c) v.wires (from i 9)) →
+      vs ≡ map (look c v₁.wires) (from i 8) → x ≡ look c v₁.wires (i + 8) →
+      d₁ ≡ starting d g (λ y left. queue_record y vs left) (queue_countdown (eqb (kind_of_gate c g) 17) x) →
       (u : Units) → Makes (together v u d) (together v₁ u d₁) Ends (exec-Queue c (together v u d).state g (queue_countdown (eqb (kind_of_gate c g) 17)))
   unfolding exec-Queue count_changed changed≔ delay delay≔ delays≔ readied read read_row wires≔
-  queues v v₁ d d₁ i ks bs x ei e₁ er ex e u =
+  queues v v₁ d d₁ i vs x ei e₁ er ex e u =
       let w : Wires = each (ready c) v.wires (from (input c g 1) 9) in
       let p : v₁ ≡ with_wires v w = rw (← ei.0) e₁ in
-      let q : both value_of ks bs ≡ map (look c w) (from (input c g 1) 8) = rw (← ei.0) (er ∙ ap (λ (y : Values). map (look c y.wires) (from i 8)) e₁) in
+      let q : vs ≡ map (look c w) (from (input c g 1) 8) = rw (← ei.0) (er ∙ ap (λ (y : Values). map (look c y.wires) (from i 8)) e₁) in
       let z : x ≡ look c w (input c g 9) = rw (last_input, ← ei.0) (ex ∙ ap (λ (y : Values). look c y.wires (i + 8)) e₁) in
       let k = queue_countdown (eqb (kind_of_gate c g) 17) (look c w (input c g 9)) in
       makes_delays v v₁ d d₁ w
@@ -139,12 +138,12 @@ module _ (c : Circuit) (g : ℕ) (v v₁ : Values) (u : Units) (i o : ℕ) (t : 
 
   -- a first one is sent
   pub sends :
-      (ks bs : List ℕ) (u₁ : Units) → both value_of ks bs ≡ map (look c v₁.wires) (from i 8) → u₁ ≡ with_outbox u (sent (record { gate = g; row = both value_of ks bs }) u.outbox) →
+      (vs : List Value) (u₁ : Units) → vs ≡ map (look c v₁.wires) (from i 8) → u₁ ≡ with_outbox u (sent (record { gate = g; row = vs }) u.outbox) →
       (o ≡ output c g 0) × (o < 131072) → (d : Delays) → Makes (together v u d) (together v₁ u₁ d) (Fires o) (exec-SendEvent c (together v u d).state g)
   unfolding exec-SendEvent readied read_row wires≔ sent
-  sends ks bs u₁ er e eo d =
+  sends vs u₁ er e eo d =
       let w : Wires = each (ready c) v.wires (from (input c g 2) 8) in
-      let q : both value_of ks bs ≡ map (look c w) (from (input c g 2) 8) = rw (← ei.0) (er ∙ ap (λ (y : Values). map (look c y.wires) (from i 8)) e₁) in
+      let q : vs ≡ map (look c w) (from (input c g 2) 8) = rw (← ei.0) (er ∙ ap (λ (y : Values). map (look c y.wires) (from i 8)) e₁) in
       let b : Bool = among g (map (λ m. m.gate) u.outbox) || leb most_gates (length u.outbox) in
       let x : List Send = snoc u.outbox (record { gate = g; row = map (look c w) (from (input c g 2) 8) }) in
       makes_as _ _ _ _ _ (ap (λ (s : State). fires_next s (output c g 0)) (if_outbox b (record { wires = w; delays = d.delays; outbox = u.outbox; changed = d.changed }) x))

@@ -168,9 +168,7 @@ fn exec_queue(links: &[usize], values: &mut [u8], delays: &mut [u8], g: usize) -
     readied(links, values, i, 9);
     let row = look_row(links, values, i);
     let wait = look(links, values, i + 8);
-    let kinds = row.kinds;
-    let contents = row.contents;
-    queue_record(links, delays, g, kinds, contents, wait);
+    queue_record(links, delays, g, row, wait);
     Step::Ends
 }
 
@@ -187,9 +185,7 @@ fn exec_send(links: &[usize], values: &mut [u8], units: &mut [u8], g: usize) -> 
         return Step::Fires(output(links, g, 0));
     }
     let row = look_row(links, values, i);
-    let kinds = row.kinds;
-    let contents = row.contents;
-    send(units, g, kinds, contents);
+    send(units, g, row);
     Step::Fires(output(links, g, 0))
 }
 

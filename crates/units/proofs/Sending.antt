@@ -435,32 +435,32 @@ sent_full : (m : Send) (o : List Send) → 64 ≤ length o → sent m o ≡ o
 unfolding sent if◌then◌otherwise◌
 sent_full m o h = let b : leb 64 (length o) ≡ true = le-leb 64 (length o) h in rw (b, or-true (among m.gate (map (λ x. x.gate) o)))
 
-module _ (bs : List ℕ) (h n g : ℕ) (ks cs : List ℕ) (o : Outbox bs h) (e : Held bs h n) where
+module _ (bs : List ℕ) (h n g : ℕ) (vs : List Value) (o : Outbox bs h) (e : Held bs h n) where
   -- there is no room
-  pub send_full : 64 ≤ n → (c : Circuit) → units c bs ≡ with_outbox (units c bs) (sent (record { gate = g; row = both value_of ks cs }) (units c bs).outbox)
+  pub send_full : 64 ≤ n → (c : Circuit) → units c bs ≡ with_outbox (units c bs) (sent (record { gate = g; row = vs }) (units c bs).outbox)
   send_full m c =
-      ap (with_outbox (units c bs)) (sym (sent_full (record { gate = g; row = both value_of ks cs }) (units c bs).outbox (omega (arith, ap length (outbox_is c bs h o), half_length bs h n o.1 e))))
+      ap (with_outbox (units c bs)) (sym (sent_full (record { gate = g; row = vs }) (units c bs).outbox (omega (arith, ap length (outbox_is c bs h o), half_length bs h n o.1 e))))
 
   module _ (r : Bool) (q : r ≡ among g (map (λ k. get_or (words bs) (2380 + k) 0) (from (h * 64) n))) where
     -- the gate has sent
-    pub send_again : r ≡ true → (c : Circuit) → units c bs ≡ with_outbox (units c bs) (sent (record { gate = g; row = both value_of ks cs }) (units c bs).outbox)
+    pub send_again : r ≡ true → (c : Circuit) → units c bs ≡ with_outbox (units c bs) (sent (record { gate = g; row = vs }) (units c bs).outbox)
     send_again f c =
-        ap (with_outbox (units c bs)) (sym (sent_again (record { gate = g; row = both value_of ks cs }) (units c bs).outbox (sym (sent_is bs h n g r o e q c) ∙ f)))
+        ap (with_outbox (units c bs)) (sym (sent_again (record { gate = g; row = vs }) (units c bs).outbox (sym (sent_is bs h n g r o e q c) ∙ f)))
 
     -- it has not
     pub send_new :
-        (bs₁ bs₂ bs₃ bs₄ : List ℕ) → 65536 ≤ length bs → n < 64 → r ≡ false → length ks ≡ 8 → length cs ≡ 8 → Stored bs bs₁ (2380 + (h * 64 + n)) g →
+        (ks cs bs₁ bs₂ bs₃ bs₄ : List ℕ) → both value_of ks cs ≡ vs → 65536 ≤ length bs → n < 64 → r ≡ false → length ks ≡ 8 → length cs ≡ 8 → Stored bs bs₁ (2380 + (h * 64 + n)) g →
         (words bs₂ ≡ paste (words bs₁) (2508 + 16 * (h * 64 + n)) ks (length ks)) × (tail bs₂ ≡ tail bs₁) →
         (words bs₃ ≡ paste (words bs₂) (2508 + (16 * (h * 64 + n) + 8)) cs (length cs)) × (tail bs₃ ≡ tail bs₂) →
         Stored bs₃ bs₄ (2378 + h) (n + 1) →
-        (c : Circuit) → units c bs₄ ≡ with_outbox (units c bs) (sent (record { gate = g; row = both value_of ks cs }) (units c bs).outbox)
+        (c : Circuit) → units c bs₄ ≡ with_outbox (units c bs) (sent (record { gate = g; row = vs }) (units c bs).outbox)
     unfolding units second_half
-    send_new bs₁ bs₂ bs₃ bs₄ l m f lk lc e₁ e₂ e₃ e₄ c =
+    send_new ks cs bs₁ bs₂ bs₃ bs₄ er l m f lk lc e₁ e₂ e₃ e₄ c =
         let t : Tables = cut (words bs) in
         let t' : Tables = posted t h n g ks cs in
-        let s : Send = record { gate = g; row = both value_of ks cs } in
+        let s : Send = record { gate = g; row = vs } in
         let a : events_of (second_half t') t' ≡ snoc (units c bs).outbox s =
-        half_is (second_half t) t' ∙ ap (λ (x : ℕ). half_events x t') (sym o.0) ∙ half_more bs h n g ks cs l o.1 e m lk lc
+        half_is (second_half t) t' ∙ ap (λ (x : ℕ). half_events x t') (sym o.0) ∙ half_more bs h n g ks cs l o.1 e m lk lc ∙ ap (λ (x : List Value). snoc (half_events h t) (record { gate = g; row = x })) er
         ∙ ap (λ (x : List Send). snoc x s) (sym (outbox_is c bs h o)) in
         let b : events_of (not (second_half t')) t' ≡ (units c bs).events =
         other_half (second_half t) t' ∙ ap (λ (x : ℕ). half_events (1 - x) t') (sym o.0) ∙ half_stays bs h n g ks cs l o.1 e m lk lc

@@ -2,8 +2,7 @@
 ghost use Rattle.words.specs.Words.{words};
 ghost use Rattle.std.specs.Prelude.{◌≡◌, cond, [], map, ◌+◌, ◌<◌, ◌≤◌, min, length, get_or};
 ghost use Rattle.model.specs.declared.Value.TheVariants.{Nothing};
-ghost use Rattle.model.specs.Base.{among, both, from};
-ghost use Rattle.model.specs.Value.{value_of};
+ghost use Rattle.model.specs.Base.{among, from};
 ghost use Rattle.model.specs.Circuit.{most_gates};
 ghost use Rattle.links.specs.Lent.{Room};
 ghost use Rattle.units.specs.View.{cut, second_half, counts_at, senders_at};
@@ -12,6 +11,7 @@ ghost use Rattle.units.specs.Lent.{Reads, Changes};
 
 use crate::layout::{COUNTS, HALF, MOST_EVENTS, ROW, ROWS, SENDERS};
 use model::Value;
+use value::rows::{contents_of, kinds_of};
 use value::value_of;
 use words::rows::put_row;
 use words::{get, put};
@@ -29,8 +29,7 @@ fn held(units: &[u8], h: usize) -> usize
     requires { Room units.now × (h < 2) }
     ensures { (result ≡ min (get_or (words units.now) (counts_at + h) 0) most_gates) × (result ≤ most_gates) }
 {
-    let n = get(units, COUNTS + h) as usize;
-    if n < MOST_EVENTS { n } else { MOST_EVENTS }
+    (get(units, COUNTS + h) as usize).min(MOST_EVENTS)
 }
 
 // Whether gate g sent one of the n events from place a on.
@@ -38,20 +37,18 @@ fn sent_by(units: &[u8], a: usize, n: usize, g: usize) -> bool
     requires { Room units.now × (a + n ≤ 128) }
     ensures { result ≡ among g (map (λ k. get_or (words units.now) (senders_at + k) 0) (from a n)) }
 {
-    let mut i = 0;
-    while i < n {
+    for i in 0..n {
         if g == get(units, SENDERS + (a + i)) as usize {
             return true;
         }
-        i += 1;
     }
     false
 }
 
 // Gate g sends an event with eight values. A second one in a tick is ignored.
-pub fn send(units: &mut [u8], g: usize, kinds: [u64; 8], contents: [u64; 8])
+pub fn send(units: &mut [u8], g: usize, row: [Value; 8])
     requires { Room units.old }
-    ensures { Changes (units.old, units.new) (λ _ old new. new ≡ with_outbox old (sent (record { gate = g; row = both value_of kinds contents }) old.outbox)) }
+    ensures { Changes (units.old, units.new) (λ _ old new. new ≡ with_outbox old (sent (record { gate = g; row = row }) old.outbox)) }
 {
     let h = outbox(units);
     let n = held(units, h);
@@ -63,8 +60,8 @@ pub fn send(units: &mut [u8], g: usize, kinds: [u64; 8], contents: [u64; 8])
     }
     let k = h * MOST_EVENTS + n;
     put(units, SENDERS + k, g as u64);
-    put_row(units, ROWS + ROW * k, &kinds);
-    put_row(units, ROWS + (ROW * k + 8), &contents);
+    put_row(units, ROWS + ROW * k, &kinds_of(&row));
+    put_row(units, ROWS + (ROW * k + 8), &contents_of(&row));
     put(units, COUNTS + h, (n + 1) as u64);
 }
 

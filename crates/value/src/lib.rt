@@ -9,6 +9,8 @@ use floats::{INFINITY, ONE, SIGN, eq64, of_int, to_int};
 use model::Value;
 use words::signed;
 
+pub mod rows;
+
 // The kinds of values.
 const NOTHING: u64 = 0;
 

@@ -2,11 +2,7 @@ use Rattle.queue.proofs.Laws.{Turned}
 use Rattle.words.specs.Words.{words}
 use lib.ListN.{length}
 use mathlib.Core.Path.{◌≡◌}
-use Prim.Native.Nat.{◌-◌, ◌≤◌}
 use Rattle.queue.proofs.count_down.Given as goal
 
 abbrev pub invariant-loop-i : goal.invariant-loop-i
-invariant-loop-i l = (length l.queue ≡ length l.initial.queue) × (l.i ≤ l.count) × Turned l.seconds l.dt (words l.initial.queue) (words l.queue) l.first l.count l.i
-
-abbrev pub decreases-loop-i : goal.decreases-loop-i
-decreases-loop-i l = l.count - l.i
+invariant-loop-i l = (length l.queue ≡ length l.initial.queue) × Turned l.seconds l.dt (words l.initial.queue) (words l.queue) l.first l.count l.i

@@ -1,13 +1,8 @@
-use Rattle.states.specs.View.{queue_at}
 use Rattle.queues.specs.Start.{Cleared}
 use Rattle.words.specs.Words.{words, tail}
-use Prim.Native.Nat.{◌≤◌, ◌-◌}
 use lib.ListN.{length}
 use mathlib.Core.Path.{◌≡◌}
 use Rattle.queues.proofs.clear.Given as goal
 
 abbrev pub invariant-loop-k : goal.invariant-loop-k
-invariant-loop-k l = (length l.delays ≡ length l.initial.delays) × (l.k ≤ queue_at 0) × Cleared l.k (words l.initial.delays) (words l.delays) × (tail l.delays ≡ tail l.initial.delays)
-
-abbrev pub decreases-loop-k : goal.decreases-loop-k
-decreases-loop-k l = queue_at 0 - l.k
+invariant-loop-k l = (length l.delays ≡ length l.initial.delays) × Cleared l.k (words l.initial.delays) (words l.delays) × (tail l.delays ≡ tail l.initial.delays)

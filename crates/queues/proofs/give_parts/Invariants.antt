@@ -2,13 +2,9 @@ use Rattle.queues.specs.Start.{Numbered}
 use Rattle.states.specs.View.{number}
 use Rattle.links.specs.Links.{net}
 use Rattle.words.specs.Words.{words, tail}
-use Prim.Native.Nat.{◌≤◌, ◌-◌}
 use lib.ListN.{length}
 use mathlib.Core.Path.{◌≡◌}
 use Rattle.queues.proofs.give_parts.Given as goal
 
 abbrev pub invariant-loop-g : goal.invariant-loop-g
-invariant-loop-g l = (length l.delays ≡ length l.initial.delays) × (l.g ≤ l.count) × (l.n ≡ number (net l.links) l.g) × Numbered (net l.links) l.g (words l.initial.delays) (words l.delays) × (tail l.delays ≡ tail l.initial.delays)
-
-abbrev pub decreases-loop-g : goal.decreases-loop-g
-decreases-loop-g l = l.count - l.g
+invariant-loop-g l = (length l.delays ≡ length l.initial.delays) × (l.n ≡ number (net l.links) l.g) × Numbered (net l.links) l.g (words l.initial.delays) (words l.delays) × (tail l.delays ≡ tail l.initial.delays)

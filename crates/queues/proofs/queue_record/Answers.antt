@@ -1,38 +1,10 @@
 use Rattle.queue.specs.Queue.{queued}
 use Rattle.queues.proofs.Numbers.{gates_few}
-use Rattle.queues.proofs.Lending.{table_inside, part_inside, record_queue}
+use Rattle.queues.proofs.Lending.{record_queue}
 use borrow.Author.Rules.{rules}
-use native.Mathlib.Omega.{arith}
 use mathlib.Core.Path.{refl}
 use Rattle.queues.proofs.queue_record.Goals as goal
 
-pub get-p-requires : goal.get-p-requires
-get-p-requires c = table_inside _ _ _ c.requires.1 c.requires.2
-
-pub overflow_mul-a : goal.overflow_mul-a
-overflow_mul-a c = let h = part_inside _ _ _ c.requires.1 c.requires.2 _ c.get-p.ensures in omega arith
-
-pub overflow_add-a : goal.overflow_add-a
-overflow_add-a c = let h = part_inside _ _ _ c.requires.1 c.requires.2 _ c.get-p.ensures in omega arith
-
-pub overflow_mul-a-2 : goal.overflow_mul-a-2
-overflow_mul-a-2 c = let h = part_inside _ _ _ c.requires.1 c.requires.2 _ c.get-p.ensures in omega arith
-
-pub overflow_add-e : goal.overflow_add-e
-overflow_add-e c = let h = part_inside _ _ _ c.requires.1 c.requires.2 _ c.get-p.ensures in omega arith
-
-pub slice_bounds-push-count : goal.slice_bounds-push-count
-slice_bounds-push-count c = let h = part_inside _ _ _ c.requires.1 c.requires.2 _ c.get-p.ensures in omega arith
-
-pub slice_bounds-push-start : goal.slice_bounds-push-start
-slice_bounds-push-start c = let h = part_inside _ _ _ c.requires.1 c.requires.2 _ c.get-p.ensures in omega arith
-
-pub slice_bounds-push-end : goal.slice_bounds-push-end
-slice_bounds-push-end c = let h = part_inside _ _ _ c.requires.1 c.requires.2 _ c.get-p.ensures in omega arith
-
-pub push-requires : goal.push-requires
-push-requires c = let h = part_inside _ _ _ c.requires.1 c.requires.2 _ c.get-p.ensures in search rules
-
 pub returns : goal.returns
 unfolding queued
-returns c = let a = c.args in record_queue _ _ _ _ _ _ _ c.requires.1 (gates_few _) c.requires.2 c.get-p.ensures refl refl (search rules) _ _ a.kinds a.contents _ _ c.kind_of_gate.ensures c.countdown-k.ensures c.push.ensures c.count_changed.ensures
+returns c = let a = c.args in record_queue _ _ _ _ _ _ _ c.requires.1 (gates_few _) c.requires.2 refl c.part_at-a.ensures.0 refl (search rules) _ _ a.row _ _ c.kind_of_gate.ensures c.countdown-k.ensures c.push.ensures c.count_changed.ensures

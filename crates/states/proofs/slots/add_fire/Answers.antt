@@ -11,4 +11,4 @@ pub start_fire-filed-requires : goal.start_fire-filed-requires
 start_fire-filed-requires c = (search rules, of_kind _ _ _ _ _ c.kind_of_gate-seconds.ensures c.countdown-k.ensures)
 
 pub returns : goal.returns
-returns c = add_gate _ _ _ _ _ _ _ (search rules) c.gates.ensures c.if-gates-g.false refl refl (search rules) _ _ _ _ c.kind_of_gate-seconds.ensures c.countdown-k.ensures c.start_fire-filed.ensures c.count_changed.ensures
+returns c = add_gate _ _ _ _ _ _ _ (search rules) c.gates.ensures c.if-gates-g.false c.slot_at-a.ensures refl (search rules) _ _ _ _ c.kind_of_gate-seconds.ensures c.countdown-k.ensures c.start_fire-filed.ensures c.count_changed.ensures

@@ -13,4 +13,4 @@ pub input-requires : goal.input-requires
 input-requires c = (search rules, of_kind _ _ _ _ _ c.kind_of_gate-seconds.ensures c.countdown-k.ensures)
 
 pub returns : goal.returns
-returns c = let a = c.args in starts_gate _ _ _ _ _ _ _ (search rules) c.gates.ensures c.if-gates-g.false refl refl (search rules) _ _ _ _ (λ d left. buffer_input d a.v left) c.kind_of_gate-seconds.ensures (c.countdown-k.ensures ∙ ap (countdown _ _) c.truthy.ensures) c.input.ensures c.count_changed.ensures
+returns c = let a = c.args in starts_gate _ _ _ _ _ _ _ (search rules) c.gates.ensures c.if-gates-g.false c.slot_at-a.ensures refl (search rules) _ _ _ _ (λ d left. buffer_input d a.v left) c.kind_of_gate-seconds.ensures (c.countdown-k.ensures ∙ ap (countdown _ _) c.truthy.ensures) c.input.ensures c.count_changed.ensures

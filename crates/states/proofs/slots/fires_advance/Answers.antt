@@ -10,5 +10,5 @@ returns-then-gates-g c =
 
 pub returns : goal.returns
 returns c =
-    let h = fires_gate _ _ _ _ _ _ _ (search rules) c.gates.ensures c.if-gates-g.false refl refl (search rules) _ _ _ c.kind_of_gate-seconds.ensures (c.run_fires.ensures.turns, c.run_fires.ensures.upper_bound) in
+    let h = fires_gate _ _ _ _ _ _ _ (search rules) c.gates.ensures c.if-gates-g.false c.slot_at-a.ensures refl (search rules) _ _ _ c.kind_of_gate-seconds.ensures (c.run_fires.ensures.turns, c.run_fires.ensures.upper_bound) in
     record { delays_change = h.0; upper_bound = h.1 }

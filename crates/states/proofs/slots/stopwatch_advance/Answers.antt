@@ -8,4 +8,4 @@ pub returns-then-gates-g : goal.returns-then-gates-g
 returns-then-gates-g c = stopwatch_past _ _ _ _ c.gates.ensures c.if-gates-g.true _ _
 
 pub returns : goal.returns
-returns c = let a = c.args in turns_any _ _ _ _ _ _ _ (search rules) c.gates.ensures c.if-gates-g.false refl refl (search rules) (advance_time a.dt a.limit) _ _ c.run_stopwatch.ensures
+returns c = let a = c.args in turns_any _ _ _ _ _ _ _ (search rules) c.gates.ensures c.if-gates-g.false c.slot_at-a.ensures refl (search rules) (advance_time a.dt a.limit) _ _ c.run_stopwatch.ensures

@@ -8,4 +8,4 @@ pub returns-then-gates-g : goal.returns-then-gates-g
 returns-then-gates-g c = becomes_past _ _ _ _ c.gates.ensures c.if-gates-g.true _
 
 pub returns : goal.returns
-returns c = let a = c.args in becomes_any _ _ _ _ _ _ _ (search rules) c.gates.ensures c.if-gates-g.false refl refl (search rules) (pressed a.p) c.press.ensures
+returns c = let a = c.args in becomes_any _ _ _ _ _ _ _ (search rules) c.gates.ensures c.if-gates-g.false c.slot_at-a.ensures refl (search rules) (pressed a.p) c.press.ensures

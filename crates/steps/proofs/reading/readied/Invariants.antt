@@ -6,11 +6,7 @@ use Rattle.model.specs.Wires.{ready}
 use Rattle.model.specs.Base.{each, from}
 use lib.ListN.{length}
 use mathlib.Core.Path.{◌≡◌}
-use Prim.Native.Nat.{◌-◌, ◌≤◌}
 use Rattle.steps.proofs.reading.readied.Given as goal
 
 abbrev pub invariant-loop-k : goal.invariant-loop-k
-invariant-loop-k l = (length l.values ≡ length l.initial.values) × (l.k ≤ l.n) × (left_of (step (ready (net l.links))) (view (net l.links) l.values) l.i l.n l.k ≡ with_wires (view (net l.links) l.initial.values) (each (ready (net l.links)) (view (net l.links) l.initial.values).wires (from l.i l.n)))
-
-abbrev pub decreases-loop-k : goal.decreases-loop-k
-decreases-loop-k l = l.n - l.k
+invariant-loop-k l = (length l.values ≡ length l.initial.values) × (left_of (step (ready (net l.links))) (view (net l.links) l.values) l.i l.n l.k ≡ with_wires (view (net l.links) l.initial.values) (each (ready (net l.links)) (view (net l.links) l.initial.values).wires (from l.i l.n)))

@@ -1,11 +1,12 @@
-use Rattle.delays.proofs.Countdowns.{one_less, none_less, more_seconds}
+use Rattle.delays.proofs.Countdowns.{one_less, more_seconds}
+use mathlib.Core.Path.{ap, ◌∙◌}
+use Rattle.delays.specs.States.{counted}
+use Rattle.delays.specs.declared.countdown.Countdown.TheVariants.{Ticks}
+use Prim.Native.Nat.{ℕ}
 use Rattle.delays.proofs.countdown.Countdown.tick_down.Goals as goal
 
-pub returns-then-n-gt0 : goal.returns-then-n-gt0
-returns-then-n-gt0 c = one_less _ _ _ c.in-Ticks.is
-
-pub returns-else-n-gt0 : goal.returns-else-n-gt0
-returns-else-n-gt0 c = none_less _ _ _ c.in-Ticks.is c.if-n-gt0.false
+pub returns-in-Ticks : goal.returns-in-Ticks
+returns-in-Ticks c = ap (λ (n : ℕ). counted (Ticks n)) c.saturating_sub.ensures ∙ one_less _ _ _ c.in-Ticks.is
 
 pub returns-in-Seconds : goal.returns-in-Seconds
 returns-in-Seconds c = more_seconds _ _ _ _ _ c.in-Seconds.is c.plus32.ensures

@@ -1,5 +1,6 @@
 use Rattle.delays.proofs.Firing.{advance_drops}
+use native.Mathlib.Omega.{arith}
 use Rattle.delays.proofs.fires.Fires.advance.Goals as goal
 
 pub returns : goal.returns
-returns c = advance_drops _ _ _ _ _ c.limited-count.ensures c.count_down-left.ensures c.drop_due.ensures
+returns c = advance_drops _ _ _ _ _ (omega (arith, c.min-count.ensures)) c.count_down-words.ensures c.drop_due.ensures

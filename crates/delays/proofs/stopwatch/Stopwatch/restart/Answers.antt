@@ -1,5 +1,9 @@
-use Rattle.delays.proofs.Timers.{pressed_restart}
+use Rattle.model.specs.Base.{if◌then◌otherwise◌}
+use Rattle.model.specs.State.{elapsed≔}
+use Rattle.model.specs.Delays.{pressed}
+use Rattle.delays.specs.States.{stopwatch}
 use Rattle.delays.proofs.stopwatch.Stopwatch.restart.Goals as goal
 
 pub returns : goal.returns
-returns c = pressed_restart c.args.self
+unfolding stopwatch pressed elapsed≔ if◌then◌otherwise◌
+returns c = c.resume.ensures
