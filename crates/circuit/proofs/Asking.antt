@@ -1,17 +1,17 @@
 -- What the small functions of questions 4 and 5 answer: one law for each way out.
 use Prim.Native.Nat.{ℕ, ◌/◌, ◌≤◌, ◌<◌}
 use mathlib.Core.Path.{◌≡◌, refl, sym, ap, ◌∙◌}
-use mathlib.Core.Bool.{Bool, true, false, not, ◌&&◌, ◌||◌}
-use mathlib.Core.List.{List}
+use mathlib.Core.Bool.{Bool, true, false, not, ◌&&◌}
+use mathlib.Core.Logic.{◌⊎◌, inl, inr}
 use native.Mathlib.Omega.{arith}
-use lib.Dec.{ltb, eqb}
+use lib.Dec.{ltb}
 use lib.ListN.{length, get_or, get_or-eq_default}
-use borrow.Author.Tests.{ltb-false, lt-ltb, le-ltb, eq-eqb, ne_eqb, not-true, not-false}
+use borrow.Author.Tests.{ltb-false, lt-ltb, le-ltb, not-true, not-false}
 use Rattle.model.specs.declared.Value.{Value}
-use Rattle.model.specs.Base.{if◌then◌otherwise◌}
+use Rattle.model.specs.declared.Value.TheVariants.{Nothing, Int, Float, Bool as Truth}
 use Rattle.model.specs.Kinds.{In, value, Out as Output, fires, shows, passes}
-use Rattle.model.specs.Circuit.{Circuit, minus_one}
-use Rattle.model.specs.Questions.{value_output, good_setting, names_constant, good_input, may_call, may_be_called}
+use Rattle.model.specs.Circuit.{Circuit}
+use Rattle.model.specs.Questions.{value_output, int_such_that, int_or_nothing, float_or_nothing, names_constant, may_call, may_be_called}
 use Rattle.model.proofs.Lists.{default_same}
 
 -- a test in the code, `if !t`, where t is what a definition says
@@ -59,58 +59,42 @@ input_called c t x b e eb = go (ltb (t / 2) (length c.pins)) refl
     go true q = eb ∙ ap (λ (y : In). y.called) e
     go false q = eb ∙ ap (λ (y : In). y.called) (e ∙ get_or-eq_default c.pins value (ltb-false (t / 2) (length c.pins) q))
 
--- ---- an input's source and constant
+-- ---- a constant
 
 pub constant_named : (c : Circuit) (n k : ℕ) → n ≡ length c.constants → ltb k n ≡ names_constant c k
 unfolding names_constant
 constant_named c n k e = ap (ltb k) e
 
-pub store_none : (k : ℕ) (b : Bool) → k ≡ 0 → true ≡ (eqb k 0 || b)
-store_none k b h = rw (eq-eqb k 0 h)
+-- ---- a setting
 
-pub store_some : (k : ℕ) (b t : Bool) → (k ≡ 0 → ⊥) → t ≡ b → t ≡ (eqb k 0 || b)
-store_some k b t h e = rw (ne_eqb k 0 h) e
+-- a value that is no Int is none of those asked for
+pub no_int : (p : ℕ → Bool) (v : Value) → ((b : ℕ) → v ≡ Int b → ⊥) → false ≡ int_such_that p v
+unfolding int_such_that
+no_int p Nothing h = refl
+no_int p (Int b) h = absurd (h b refl)
+no_int p (Float b) h = refl
+no_int p (Truth t) h = refl
 
-module _ (c : Circuit) (pin : In) (s k : ℕ) where
-  -- what is asked of a source
-  abbrev Sourced : Bool
-  Sourced = if eqb s minus_one then true otherwise value_output c s && pin.source && eqb k 0
+pub int_given : (v : Value) → (v ≡ Nothing) ⊎ ((b : ℕ) × (v ≡ Int b)) → true ≡ int_or_nothing v
+unfolding int_or_nothing
+int_given v (inl e) = rw e
+int_given v (inr e) = rw e.1
 
-  pub source_minus_one : s ≡ minus_one → true ≡ Sourced
-  unfolding if◌then◌otherwise◌
-  source_minus_one h = rw (eq-eqb s minus_one h)
+pub no_int_given : (v : Value) → (v ≡ Nothing → ⊥) → ((b : ℕ) → v ≡ Int b → ⊥) → false ≡ int_or_nothing v
+unfolding int_or_nothing
+no_int_given Nothing n h = absurd (n refl)
+no_int_given (Int b) n h = absurd (h b refl)
+no_int_given (Float b) n h = refl
+no_int_given (Truth t) n h = refl
 
-  module _ (h : s ≡ minus_one → ⊥) (t : Bool) (e : t ≡ value_output c s) where
-    pub source_no_output : not t ≡ true → false ≡ Sourced
-    unfolding if◌then◌otherwise◌
-    source_no_output n = rw (ne_eqb s minus_one h, no t _ e n)
+pub float_given : (v : Value) → (v ≡ Nothing) ⊎ ((b : ℕ) × (v ≡ Float b)) → true ≡ float_or_nothing v
+unfolding float_or_nothing
+float_given v (inl e) = rw e
+float_given v (inr e) = rw e.1
 
-    module _ (y : not t ≡ false) (u : Bool) (f : u ≡ pin.source) where
-      pub source_not_taken : not u ≡ true → false ≡ Sourced
-      unfolding if◌then◌otherwise◌
-      source_not_taken n = rw (ne_eqb s minus_one h, yes t _ e y, no u _ f n)
-
-      pub source_given : not u ≡ false → eqb k 0 ≡ Sourced
-      unfolding if◌then◌otherwise◌
-      source_given n = rw (ne_eqb s minus_one h, yes t _ e y, yes u _ f n)
-
-  -- ---- an input
-
-  module _ (v : Value) (t : Bool) (e : t ≡ Sourced) where
-    pub input_source : not t ≡ true → false ≡ good_input c pin s k v
-    unfolding good_input
-    input_source n = rw (no t _ e n)
-
-    module _ (y : not t ≡ false) (u : Bool) (f : u ≡ names_constant c k) where
-      pub input_unnamed : not u ≡ true → false ≡ good_input c pin s k v
-      unfolding good_input
-      input_unnamed n = rw (yes t _ e y, no u _ f n)
-
-      module _ (z : not u ≡ false) (w : Bool) (g : w ≡ (eqb k 0 || pin.constant)) where
-        pub input_stored : not w ≡ true → false ≡ good_input c pin s k v
-        unfolding good_input
-        input_stored n = rw (yes t _ e y, yes u _ f z, no w _ g n)
-
-        pub input_setting : not w ≡ false → (b : Bool) → b ≡ good_setting c pin.setting v → b ≡ good_input c pin s k v
-        unfolding good_input
-        input_setting n b q = rw (yes t _ e y, yes u _ f z, yes w _ g n) q
+pub no_float_given : (v : Value) → (v ≡ Nothing → ⊥) → ((b : ℕ) → v ≡ Float b → ⊥) → false ≡ float_or_nothing v
+unfolding float_or_nothing
+no_float_given Nothing n h = absurd (n refl)
+no_float_given (Int b) n h = refl
+no_float_given (Float b) n h = absurd (h b refl)
+no_float_given (Truth t) n h = refl

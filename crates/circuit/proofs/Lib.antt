@@ -8,6 +8,8 @@ pub mod Parts
 pub mod Lengths
 -- loops over numbers in a row
 pub mod Turns
+-- chains over a range of numbers
+pub mod Ranges
 -- a match on a pin or an output
 pub mod Cases
 -- questions 4 and 5: the ways out of the small functions

@@ -1,13 +1,16 @@
 -- Loops over columns of words. A loop's invariant says that finishing from here gives the same as finishing from the start.
 use Prim.Native.Nat.{ℕ, suc, ◌+◌, ◌-◌, ◌*◌, ◌≤◌, ◌<◌}
 use mathlib.Core.Path.{◌≡◌, refl, sym, ap, ◌∙◌}
-use mathlib.Core.Bool.{Bool, true, false, ◌&&◌, and_assoc}
+use mathlib.Core.Bool.{Bool, true, false, ◌&&◌}
 use mathlib.Core.List.{List, [], ◌∷◌, map, map-id}
 use native.Mathlib.Omega.{arith}
 use lib.Dec.{eqb, leb, leb-zero}
 use lib.ListN.{length, get_or, drop, get_or-eq_default}
 use lib.Seq.{drop-cons, get_or-take, get_or-drop}
-use borrow.Author.Tests.{eq-eqb, ne_eqb, le-leb, lt-leb}
+use borrow.Author.Tests.{leb-true}
+use Rattle.std.specs.Prelude.{Option, Some, None}
+use Rattle.std.specs.Bool.{then_some}
+use Rattle.std.specs.Option.{MatchOption}
 use Rattle.words.specs.Words.{words}
 use Rattle.words.proofs.Laws.{words_long}
 use Rattle.model.specs.Base.{if◌then◌otherwise◌, all, both, keep, sum}
@@ -46,22 +49,10 @@ part_past ws k n i h = sym (get_or-eq_default (part ws k n) 0 {n = i} (omega (ar
 
 -- ---- tests
 
-pub is_so : (a b r : ℕ) → r ≡ a → r ≡ b → true ≡ eqb a b
-is_so a b r e q = sym (eq-eqb a b (sym e ∙ q))
-
-pub is_not : (a b r : ℕ) → r ≡ a → (r ≡ b → ⊥) → false ≡ eqb a b
-is_not a b r e q = sym (ne_eqb a b (λ z. q (e ∙ z)))
-
 -- From 0 on only the upper bound is a test.
 pub within_zero : (high w : ℕ) → within 0 high w ≡ leb w high
 unfolding within
 within_zero high w = rw (leb-zero w)
-
-pub up_to : (high w : ℕ) → w ≤ high → true ≡ within 0 high w
-up_to high w l = sym (within_zero high w ∙ le-leb w high l)
-
-pub above : (high w : ℕ) → high < w → false ≡ within 0 high w
-above high w l = sym (within_zero high w ∙ lt-leb w high l)
 
 -- ---- a test of each word
 
@@ -121,43 +112,65 @@ module _ (f : ℕ → ℕ → Bool) (s : List ℕ) (k m n : ℕ) where
 
 -- ---- a test of each word, and what they come to
 
--- each passes, and with `total` they come to m
-unfoldable pub tally : (ℕ → Bool) → (ℕ → ℕ) → ℕ → ℕ → List ℕ → Bool
-tally p f m total xs = all p xs && eqb (total + sum (map f xs)) m
+-- what they come to with `total`, where each passes
+unfoldable pub tally : (ℕ → Bool) → (ℕ → ℕ) → ℕ → List ℕ → Option ℕ
+tally p f total xs = then_some (all p xs) (total + sum (map f xs))
 
-module _ (p : ℕ → Bool) (f : ℕ → ℕ) (s : List ℕ) (k n m : ℕ) where
-  pub tally_first : tally p f m 0 (left (words s) k n 0) ≡ (all p (part (words s) k n) && eqb (sum (map f (part (words s) k n))) m)
+module _ (p : ℕ → Bool) (f : ℕ → ℕ) (s : List ℕ) (k n : ℕ) where
+  pub tally_first : tally p f 0 (left (words s) k n 0) ≡ then_some (all p (part (words s) k n)) (sum (map f (part (words s) k n)))
   unfolding tally
-  tally_first =
-      let xs : List ℕ = part (words s) k n in
-      let z : 0 + sum (map f xs) ≡ sum (map f xs) = omega arith in
-      rw (left_first (words s) k n, z)
+  tally_first = let z : 0 + sum (map f (part (words s) k n)) ≡ sum (map f (part (words s) k n)) = omega arith in rw (left_first (words s) k n, z)
 
-  tally_split : (i w total v : ℕ) (t : Bool) → (k + n) * 8 ≤ length s → i < n → w ≡ get_or (words s) (k + i) 0 → t ≡ p w → v ≡ f w
-      → tally p f m total (left (words s) k n i) ≡ (t && tally p f m (total + v) (left (words s) k n (i + 1)))
+  tally_split : (i w total : ℕ) (o : Option ℕ) → (k + n) * 8 ≤ length s → i < n → w ≡ get_or (words s) (k + i) 0 → o ≡ then_some (p w) (f w)
+      → MatchOption o (None ≡ tally p f total (left (words s) k n i)) (λ v. tally p f (total + v) (left (words s) k n (i + 1)) ≡ tally p f total (left (words s) k n i))
   unfolding tally all sum
-  tally_split i w total v t l h e q g =
-      let xs : List ℕ = left (words s) k n (i + 1) in
-      let z : total + (f w + sum (map f xs)) ≡ total + v + sum (map f xs) = omega arith in
-      rw (left_next s k n i l h, ← e, z, ← q) (and_assoc t (all p xs) (eqb (total + v + sum (map f xs)) m))
+  tally_split i w total o l h e q = rw (left_next s k n i l h, ← e, q) (go (p w))
+    where
+      go : (b : Bool) → MatchOption (then_some b (f w)) (None ≡ then_some (b && all p (left (words s) k n (i + 1))) (total + (f w + sum (map f (left (words s) k n (i + 1))))))
+          (λ v. then_some (all p (left (words s) k n (i + 1))) (total + v + sum (map f (left (words s) k n (i + 1)))) ≡ then_some (b && all p (left (words s) k n (i + 1))) (total + (f w + sum (map f (left (words s) k n (i + 1))))))
+      go true = let z : total + f w + sum (map f (left (words s) k n (i + 1))) ≡ total + (f w + sum (map f (left (words s) k n (i + 1)))) = omega arith in rw z
+      go false = refl
 
-  pub tally_next : (i w total v : ℕ) (t x : Bool) → (k + n) * 8 ≤ length s → tally p f m total (left (words s) k n i) ≡ x → i < n → w ≡ get_or (words s) (k + i) 0 → t ≡ p w
-      → t ≡ true → v ≡ f w → tally p f m (total + v) (left (words s) k n (i + 1)) ≡ x
-  tally_next i w total v t x l a h e q y g = sym (tally_split i w total v t l h e q g ∙ rw y) ∙ a
+  pub tally_next : (i w total v : ℕ) (o x : Option ℕ) → (k + n) * 8 ≤ length s → tally p f total (left (words s) k n i) ≡ x → i < n → w ≡ get_or (words s) (k + i) 0
+      → o ≡ then_some (p w) (f w) → o ≡ Some v → tally p f (total + v) (left (words s) k n (i + 1)) ≡ x
+  tally_next i w total v o x l a h e q y = rw y at (tally_split i w total o l h e q) ∙ a
 
-  pub tally_stop : (i w total : ℕ) (t x : Bool) → (k + n) * 8 ≤ length s → tally p f m total (left (words s) k n i) ≡ x → i < n → w ≡ get_or (words s) (k + i) 0 → t ≡ p w
-      → t ≡ false → false ≡ x
-  tally_stop i w total t x l a h e q y = sym (tally_split i w total (f w) t l h e q refl ∙ rw y) ∙ a
+  pub tally_stop : (i w total : ℕ) (o x : Option ℕ) → (k + n) * 8 ≤ length s → tally p f total (left (words s) k n i) ≡ x → i < n → w ≡ get_or (words s) (k + i) 0
+      → o ≡ then_some (p w) (f w) → o ≡ None → None ≡ x
+  tally_stop i w total o x l a h e q y = rw y at (tally_split i w total o l h e q) ∙ a
 
-  pub tally_last : (i total : ℕ) (x : Bool) → tally p f m total (left (words s) k n i) ≡ x → n ≤ i → eqb total m ≡ x
+  pub tally_last : (i total : ℕ) (x : Option ℕ) → tally p f total (left (words s) k n i) ≡ x → n ≤ i → Some total ≡ x
   unfolding tally all sum
   tally_last i total x a l =
       let z : total + 0 ≡ total = omega arith in
       rw (left_last (words s) k n i l, z) at a
 
+-- where each passes they come to x, and otherwise to nothing
+pub comes_to : (b : Bool) (s m x : ℕ) (o : Option ℕ) → o ≡ then_some b s → o ≡ Some x → eqb x m ≡ (b && eqb s m)
+comes_to true s m x o e h = let z : x ≡ s = cc in rw z
+comes_to false s m x o e h = let z : ◌≡◌ {A = ℕ} 0 1 = cc in absurd (omega arith)
+
+pub comes_not : (b : Bool) (s m : ℕ) (o : Option ℕ) → o ≡ then_some b s → o ≡ None → false ≡ (b && eqb s m)
+comes_not true s m o e h = let z : ◌≡◌ {A = ℕ} 0 1 = cc in absurd (omega arith)
+comes_not false s m o e h = refl
+
 -- the words themselves added up
-pub tally_plain : (p : ℕ → Bool) (s : List ℕ) (k n m : ℕ) → tally p (λ x. x) m 0 (left (words s) k n 0) ≡ (all p (part (words s) k n) && eqb (sum (part (words s) k n)) m)
-tally_plain p s k n m = tally_first p (λ x. x) s k n m ∙ ap (λ (xs : List ℕ). all p (part (words s) k n) && eqb (sum xs) m) (map-id (part (words s) k n))
+pub plain_sum : (p : ℕ → Bool) (xs : List ℕ) (m : ℕ) → (all p xs && eqb (sum (map (λ n. n) xs)) m) ≡ (all p xs && eqb (sum xs) m)
+plain_sum p xs m = ap (λ (ys : List ℕ). all p xs && eqb (sum ys) m) (map-id xs)
+
+-- what is counted is as small as what counts
+pub counted_small : (b : Bool) (x n m : ℕ) → x ≤ m → Some n ≡ then_some b x → n ≤ m
+counted_small true x n m l e = let z : n ≡ x = cc in omega arith
+counted_small false x n m l e = let z : ◌≡◌ {A = ℕ} 0 1 = cc in absurd (omega arith)
+
+pub within_small : (high w n : ℕ) → Some n ≡ then_some (within 0 high w) w → n ≤ high
+within_small high w n = go (within 0 high w) refl
+  where
+    go : (b : Bool) → within 0 high w ≡ b → Some n ≡ then_some b w → n ≤ high
+    go true e h =
+        let z : n ≡ w = cc in
+        omega (arith, leb-true w high (sym (within_zero high w) ∙ e))
+    go false e h = let z : ◌≡◌ {A = ℕ} 0 1 = cc in absurd (omega arith)
 
 -- ---- how many words pass a test
 

@@ -9,15 +9,14 @@ use lib.Dec.{eqb}
 use lib.ListN.{length, get_or}
 use borrow.Author.Tests.{eq-eqb, ne_eqb}
 use Rattle.model.specs.declared.Value.{Value}
-use Rattle.model.specs.declared.Value.TheVariants.{Nothing, Int}
+use Rattle.model.specs.declared.Value.TheVariants.{Nothing, Int, Float, Bool as Truth}
 use Rattle.model.specs.Value.{same}
 use Rattle.model.specs.Base.{if◌then◌otherwise◌, all, keep, from}
-use Rattle.model.specs.Circuit.{Call, Circuit, names, kind_of_gate, body_of_gate, input, stored_in, setting, gate_at_input, gate_at_output, calls_of, gates}
+use Rattle.model.specs.Circuit.{Call, Circuit, names, kind_of_gate, body_of_gate, input, stored_in, setting, gate_at_input, gate_at_output, gates}
 use Rattle.model.specs.Questions.{calls_inside, in_a_body, entries_of, has_entry, comes_out, question_19}
 use Rattle.model.proofs.Lists.{all_map, from_first, from_none}
-use Rattle.links.specs.Links.{listed, call_of, cell, first_call, call_count, target, net}
+use Rattle.links.specs.Links.{listed, call_of, first_call, call_count, target, net}
 use Rattle.links.proofs.Reading.{calls_row, listed_from}
-use Rattle.circuit.proofs.Turns.{all_from, all_first}
 
 -- ---- calls
 
@@ -30,19 +29,14 @@ module _ (c : Circuit) (o t : ℕ) where
       (g a i h b : ℕ) → g ≡ gate_at_output c o → a ≡ body_of_gate c g → i ≡ (call_of t).to → h ≡ gate_at_input c i → b ≡ body_of_gate c h → eqb a b ≡ inside
   ends_alike g a i h b eg ea ei eh eb = rw (ea, eg, eb, eh, ei)
 
--- call k of output o
-pub call_at : (c : Circuit) (o t u : ℕ) → t ≡ u → inside c o t ≡ inside c o u
-call_at c o t u e = ap (inside c o) e
-
 -- the calls of output o, one after the other
 pub row_tested : (l : List ℕ) (o first n : ℕ) → (first ≡ first_call l o) × (first < 65536) → (n ≡ call_count l o) × (n < 65536) →
-    all_from (λ k. inside (net l) o (target l (first + k))) n 0 ≡ calls_inside (net l) o
+    all (λ k. inside (net l) o (target l (first + k))) (from 0 n) ≡ calls_inside (net l) o
 unfolding calls_inside listed
 row_tested l o first n ef en =
     let c = net l in
     let p : Call → Bool = λ k. eqb (body_of_gate c (gate_at_output c o)) (body_of_gate c (gate_at_input c k.to)) in
-    all_first (λ k. inside c o (target l (first + k))) n
-    ∙ sym (all_map p (λ k. call_of (target l (first + k))) (from 0 n))
+    sym (all_map p (λ k. call_of (target l (first + k))) (from 0 n))
     ∙ ap (λ (ks : List Call). all p ks)
     (listed_from (λ k. call_of (target l k)) first n
     ∙ (λ j. map (λ k. call_of (target l k)) (from (ef.0 j) (en.0 j)))
@@ -67,17 +61,15 @@ module _ (c : Circuit) where
   way_out zero b x h e = sym (eq-eqb b 0 h) ∙ e
   way_out (suc n) b x h e = rw (eq-eqb b 0 h) at e
 
-  pub way_on : (n b b₁ : ℕ) (x : Bool) → 0 < n → (b ≡ 0 → ⊥) → b₁ ≡ body_of_gate c (b - 1) → comes_out c n b ≡ x → comes_out c (n - 1) b₁ ≡ x
+  pub way_on : (n k b b₁ : ℕ) (x : Bool) → k < n → (b ≡ 0 → ⊥) → b₁ ≡ body_of_gate c (b - 1) → comes_out c (n - k) b ≡ x → comes_out c (n - (k + 1)) b₁ ≡ x
   unfolding comes_out
-  way_on zero b b₁ x l h eb e = absurd (omega arith)
-  way_on (suc n) b b₁ x l h eb e =
-      let m : suc n - 1 ≡ n = omega arith in
-      rw (m, eb) (rw (ne_eqb b 0 h) at e)
+  way_on n k b b₁ x l h eb e =
+      let m : n - k ≡ suc (n - (k + 1)) = omega arith in
+      rw eb (rw (m, ne_eqb b 0 h) at e)
 
-  pub way_ends : (n b : ℕ) (x : Bool) → n ≤ 0 → comes_out c n b ≡ x → eqb b 0 ≡ x
+  pub way_ends : (n k b : ℕ) (x : Bool) → n ≤ k → comes_out c (n - k) b ≡ x → eqb b 0 ≡ x
   unfolding comes_out
-  way_ends zero b x l e = e
-  way_ends (suc n) b x l e = absurd (omega arith)
+  way_ends n k b x l e = let m : n - k ≡ 0 = omega arith in rw m at e
 
 -- ---- entries
 
@@ -91,6 +83,14 @@ module _ (c : Circuit) (g e k : ℕ) (ek : k ≡ kind_of_gate c e) where
   pub no_entry : (k ≡ 30 → ⊥) → false ≡ names c.kinds c.stored c.first_input g e
   unfolding names kind_of_gate
   no_entry h = let q : eqb (get_or c.kinds e 0) 30 ≡ false = ne_eqb _ 30 (λ z. h (ek ∙ z)) in rw q
+
+-- a value that is no Int is no gate's number
+pub no_number : (v : Value) (g : ℕ) → ((b : ℕ) → v ≡ Int b → ⊥) → false ≡ same v (Int g)
+unfolding same
+no_number Nothing g h = refl
+no_number (Int b) g h = absurd (h b refl)
+no_number (Float b) g h = refl
+no_number (Truth t) g h = refl
 
 -- a gate that is no Loop needs none
 pub no_loop : (c : Circuit) (g k : ℕ) → k ≡ kind_of_gate c g → (k ≡ 29 → ⊥) → true ≡ has_entry c g
@@ -170,23 +170,6 @@ module _ (c : Circuit) where
   abbrev pub placed : ℕ → Bool
   placed g = in_a_body c g && has_entry c g && comes_out c (length c.kinds) (body_of_gate c g)
 
-  module _ (g : ℕ) (t : Bool) (et : t ≡ in_a_body c g) where
-    pub nowhere : t ≡ false → false ≡ placed g
-    nowhere h = let q : in_a_body c g ≡ false = sym et ∙ h in rw q
-
-    module _ (h : t ≡ true) (u : Bool) (eu : u ≡ has_entry c g) where
-      pub unentered : u ≡ false → false ≡ placed g
-      unentered k =
-          let q : in_a_body c g ≡ true = sym et ∙ h in
-          let r : has_entry c g ≡ false = sym eu ∙ k in
-          rw (q, r)
-
-      pub in_place : u ≡ true → (w : Bool) → w ≡ comes_out c (length c.kinds) (body_of_gate c g) → w ≡ placed g
-      in_place k w ew =
-          let q : in_a_body c g ≡ true = sym et ∙ h in
-          let r : has_entry c g ≡ true = sym eu ∙ k in
-          rw (q, r) ew
-
 -- three tests of each at once
 all_three : (f h k : ℕ → Bool) (xs : List ℕ) → (all f xs && all h xs && all k xs) ≡ all (λ g. f g && h g && k g) xs
 unfolding all
@@ -215,13 +198,3 @@ module _ (c : Circuit) (t : Bool) (et : t ≡ all (calls_inside c) (from 0 (leng
   gates_asked h u eu =
       let q : all (calls_inside c) (from 0 (length c.outputs)) ≡ true = sym et ∙ h in
       rw q (eu ∙ sym (all_three (in_a_body c) (has_entry c) (λ g. comes_out c (length c.kinds) (body_of_gate c g)) (gates c)))
-
--- the loop over the gates
-pub gates_tested : (c : Circuit) (n : ℕ) → (n ≡ length c.kinds) × (n ≤ 64) → all_from (placed c) n 0 ≡ all (placed c) (gates c)
-unfolding gates
-gates_tested c n e = all_first (placed c) n ∙ ap (λ m. all (placed c) (from 0 m)) e.0
-
--- and over the outputs
-pub outputs_tested : (c : Circuit) (n : ℕ) → (n ≡ length c.outputs) × (n ≤ 576) →
-    all_from (calls_inside c) n 0 ≡ all (calls_inside c) (from 0 (length c.outputs))
-outputs_tested c n e = all_first (calls_inside c) n ∙ ap (λ m. all (calls_inside c) (from 0 m)) e.0

@@ -35,14 +35,7 @@ fn calls_inside(links: &[usize], o: usize) -> bool
 {
     let first = first_call(links, o);
     let n = call_count(links, o);
-    let mut k = 0;
-    while k < n {
-        if !call_inside(links, o, call(links, first + k)) {
-            return false;
-        }
-        k += 1;
-    }
-    true
+    (0..n).all(|k| call_inside(links, o, call(links, first + k)))
 }
 
 // Whether the calls of each output do.
@@ -50,15 +43,7 @@ fn all_calls_inside(links: &[usize]) -> bool
     requires { Linked links.now }
     ensures { result ≡ all (calls_inside (net_of links.now)) (from 0 (length (net_of links.now).outputs)) }
 {
-    let n = links::outputs(links);
-    let mut o = 0;
-    while o < n {
-        if !calls_inside(links, o) {
-            return false;
-        }
-        o += 1;
-    }
-    true
+    (0..links::outputs(links)).all(|o| calls_inside(links, o))
 }
 
 // ---- bodies
@@ -69,10 +54,7 @@ fn in_a_body(links: &[usize], g: usize) -> bool
     ensures { result ≡ in_a_body (net_of links.now) g }
 {
     let body = body_of_gate(links, g);
-    if body == 0 {
-        return true;
-    }
-    kind_of_gate(links, body - 1) == LOOP
+    body == 0 || kind_of_gate(links, body - 1) == LOOP
 }
 
 // Whether going outwards from the body that gate g lies in ends outside. It does so after as many bodies as there are gates, or never.
@@ -80,14 +62,13 @@ fn comes_out(links: &[usize], g: usize) -> bool
     requires { Linked links.now }
     ensures { result ≡ comes_out (net_of links.now) (length (net_of links.now).kinds) (body_of_gate (net_of links.now) g) }
 {
-    let mut left = links::gates(links);
+    let n = links::gates(links);
     let mut around = body_of_gate(links, g);
-    while 0 < left {
+    for _k in 0..n {
         if around == 0 {
             return true;
         }
         around = body_of_gate(links, around - 1);
-        left -= 1;
     }
     around == 0
 }
@@ -98,11 +79,10 @@ fn comes_out(links: &[usize], g: usize) -> bool
 fn is_number(v: Value, g: usize) -> bool
     ensures { result ≡ same v (Int g) }
 {
-    match v {
-        Value::Nothing => false,
-        Value::Int(b) => b == g as u64,
-        Value::Float(_) => false,
-        Value::Bool(_) => false,
+    if let Value::Int(b) = v {
+        b == g as u64
+    } else {
+        false
     }
 }
 
@@ -111,10 +91,7 @@ fn names(links: &[usize], g: usize, e: usize) -> bool
     requires { Linked links.now }
     ensures { result ≡ names (net_of links.now).kinds (net_of links.now).stored (net_of links.now).first_input g e }
 {
-    if kind_of_gate(links, e) == LOOP_ENTRY {
-        return is_number(setting(links, e, 0), g);
-    }
-    false
+    kind_of_gate(links, e) == LOOP_ENTRY && is_number(setting(links, e, 0), g)
 }
 
 // Whether gate g, if it is a Loop, has one entry, and that in its own body.
@@ -127,15 +104,13 @@ fn has_entry(links: &[usize], g: usize) -> bool
     }
     let n = links::gates(links);
     let mut entries: usize = 0;
-    let mut e = 0;
-    while e < n {
+    for e in 0..n {
         if names(links, g, e) {
             if body_of_gate(links, e) != g + 1 {
                 return false;
             }
             entries += 1;
         }
-        e += 1;
     }
     entries == 1
 }
@@ -147,13 +122,7 @@ fn gate_good(links: &[usize], g: usize) -> bool
     requires { Linked links.now × (g < most_gates) }
     ensures { result ≡ well_placed (net_of links.now) g }
 {
-    if !in_a_body(links, g) {
-        return false;
-    }
-    if !has_entry(links, g) {
-        return false;
-    }
-    comes_out(links, g)
+    in_a_body(links, g) && has_entry(links, g) && comes_out(links, g)
 }
 
 // Whether each gate is so.
@@ -161,15 +130,7 @@ fn gates_good(links: &[usize]) -> bool
     requires { Linked links.now }
     ensures { result ≡ all (well_placed (net_of links.now)) (gates (net_of links.now)) }
 {
-    let n = links::gates(links);
-    let mut g = 0;
-    while g < n {
-        if !gate_good(links, g) {
-            return false;
-        }
-        g += 1;
-    }
-    true
+    (0..links::gates(links)).all(|g| gate_good(links, g))
 }
 
 // Of all calls and all gates.
@@ -177,8 +138,5 @@ pub fn bodies_good(links: &[usize]) -> bool
     requires { Linked links.now }
     ensures { result ≡ question_19 (net_of links.now) }
 {
-    if !all_calls_inside(links) {
-        return false;
-    }
-    gates_good(links)
+    all_calls_inside(links) && gates_good(links)
 }

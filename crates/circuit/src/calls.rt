@@ -5,6 +5,7 @@ ghost use Rattle.model.specs.Questions.{question_1, may_call, may_be_called, que
 ghost use Rattle.kinds.specs.Pins.{in_of};
 ghost use Rattle.links.specs.Lent.{Linked, net_of};
 
+use super::columns::Column;
 use kinds::{Out, Pin};
 use words::get;
 
@@ -12,10 +13,7 @@ use words::get;
 fn takes_calls(pin: Pin) -> bool
     ensures { result ≡ (in_of pin).called }
 {
-    match pin {
-        Pin::Exec | Pin::ExecOnly | Pin::Route => true,
-        _ => false,
-    }
+    matches!(pin, Pin::Exec | Pin::ExecOnly | Pin::Route)
 }
 
 // Whether output o is there and makes calls.
@@ -23,13 +21,7 @@ fn may_call(links: &[usize], o: usize) -> bool
     requires { Linked links.now }
     ensures { result ≡ may_call (net_of links.now) o }
 {
-    if links::outputs(links) <= o {
-        return false;
-    }
-    match links::out_at(links, o) {
-        Out::Shows => false,
-        _ => true,
-    }
+    o < links::outputs(links) && matches!(links::out_at(links, o), Out::Fires | Out::Passes)
 }
 
 // Whether the input of a target is there and takes calls; `pin_at` says of one that is not there that it is a value.
@@ -48,15 +40,16 @@ pub fn calls_good(circuit: &[u8], links: &[usize]) -> bool
     let n = get(circuit, 3) as usize;
     let first = 4
         + 2 * (get(circuit, 1) as usize + get(circuit, 0) as usize + get(circuit, 2) as usize);
-    let mut j = 0;
-    while j < n {
-        if !may_call(links, get(circuit, first + j) as usize) {
-            return false;
-        }
-        if !may_be_called(links, get(circuit, first + n + j) as usize) {
-            return false;
-        }
-        j += 1;
-    }
-    true
+    let callers = Column {
+        area: circuit,
+        first,
+        count: n,
+    };
+    let called = Column {
+        area: circuit,
+        first: first + n,
+        count: n,
+    };
+    callers.all(|o| may_call(links, o as usize))
+        && called.all(|target| may_be_called(links, target as usize))
 }

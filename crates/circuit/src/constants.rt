@@ -25,11 +25,8 @@ fn good_constants(circuit: &[u8], count: usize) -> bool
     requires { (4 + count + count) * 8 ≤ length circuit.now }
     ensures { result ≡ yes_all (both good_constant (part (words circuit.now) 4 count) (part (words circuit.now) (4 + count) count)) }
 {
-    let mut i = 0;
-    while i < count {
-        if good_constant(get(circuit, 4 + i), get(circuit, 4 + count + i)) {
-            i += 1;
-        } else {
+    for i in 0..count {
+        if !good_constant(get(circuit, 4 + i), get(circuit, 4 + count + i)) {
             return false;
         }
     }

@@ -1,12 +1,12 @@
 // Question 3: are kinds 1 to 31, ranks 0 to 65,535, bodies 0 to 64, and are the inputs as many as these kinds have?
-ghost use Rattle.std.specs.Prelude.{◌≡◌, true, ◌&&◌, map, ◌+◌, ◌*◌, ◌≤◌, eqb, length};
+ghost use Rattle.std.specs.Prelude.{◌≡◌, true, length};
 ghost use Rattle.words.specs.Words.{words};
-ghost use Rattle.model.specs.Base.{all, sum};
+ghost use Rattle.std.specs.Bool.{then_some};
 ghost use Rattle.model.specs.Kinds.{kind_at};
-ghost use Rattle.model.specs.Circuit.{part, circuit as circuit_of, most_gates};
+ghost use Rattle.model.specs.Circuit.{circuit as circuit_of};
 ghost use Rattle.model.specs.Questions.{question_1, question_3, within};
 
-use super::columns::{all_within, within};
+use super::columns::{Column, within};
 use kinds::numbers::{BREAK, SELECT};
 use links::layout::{MOST_GATES, RANKS};
 use words::get;
@@ -14,23 +14,11 @@ use words::get;
 // The last word of a rank and a body: the last body is that of the last gate that there can be.
 const LAST_PLACE: u64 = (RANKS * MOST_GATES + RANKS - 1) as u64;
 
-// Whether the `count` kinds from word `first` on are each 1 to 31, and have as many inputs together as there are.
-fn good_kinds(circuit: &[u8], first: usize, count: usize, inputs: u64) -> bool
-    requires { (count ≤ most_gates) × ((first + count) * 8 ≤ length circuit.now) }
-    ensures { result ≡ (all (within 1 31) (part (words circuit.now) first count) && eqb (sum (map (λ k. length (kind_at k).ins) (part (words circuit.now) first count))) inputs) }
+// The inputs of a kind 1 to 31.
+fn inputs_of(kind: u64) -> Option<u64>
+    ensures { result ≡ then_some (within 1 31 kind) (length (kind_at kind).ins) }
 {
-    let mut total: usize = 0;
-    let mut i = 0;
-    while i < count {
-        let kind = get(circuit, first + i);
-        if within(SELECT, BREAK, kind) {
-            total += kinds::inputs(kind);
-            i += 1;
-        } else {
-            return false;
-        }
-    }
-    total as u64 == inputs
+    within(SELECT, BREAK, kind).then_some(kinds::inputs(kind) as u64)
 }
 
 // Whether all gates of a circuit are good.
@@ -41,6 +29,15 @@ pub fn gates(circuit: &[u8]) -> bool
     let count = get(circuit, 0) as usize;
     let first = 4 + 2 * get(circuit, 1) as usize;
     let inputs = get(circuit, 2);
-    good_kinds(circuit, first, count, inputs)
-        && all_within(circuit, first + count, count, 0, LAST_PLACE)
+    let kinds = Column {
+        area: circuit,
+        first,
+        count,
+    };
+    let places = Column {
+        area: circuit,
+        first: first + count,
+        count,
+    };
+    kinds.come_to(inputs_of, inputs) && places.all(|place| within(0, LAST_PLACE, place))
 }

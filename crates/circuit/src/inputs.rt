@@ -23,10 +23,7 @@ const LAST_CHANNEL: u64 = 255;
 fn takes_source(pin: Pin) -> bool
     ensures { result ≡ (in_of pin).source }
 {
-    match pin {
-        Pin::Exec | Pin::Value | Pin::Watched | Pin::Route => true,
-        _ => false,
-    }
+    matches!(pin, Pin::Exec | Pin::Value | Pin::Watched | Pin::Route)
 }
 
 // Whether output o is there and shows a value; `out_at` says of one that is not there that it fires.
@@ -34,10 +31,7 @@ pub fn value_output(links: &[usize], o: usize) -> bool
     requires { Linked links.now }
     ensures { result ≡ value_output (net_of links.now) o }
 {
-    match links::out_at(links, o) {
-        Out::Fires => false,
-        _ => true,
-    }
+    matches!(links::out_at(links, o), Out::Shows | Out::Passes)
 }
 
 // Whether the pin's source is -1, or a value output where the pin takes one and no constant is stored.
@@ -45,16 +39,7 @@ fn good_source(links: &[usize], pin: Pin, source: u64, stored: u64) -> bool
     requires { Linked links.now }
     ensures { result ≡ (if eqb source minus_one then true otherwise value_output (net_of links.now) source && (in_of pin).source && eqb stored 0) }
 {
-    if source == MINUS_ONE {
-        return true;
-    }
-    if !value_output(links, source as usize) {
-        return false;
-    }
-    if !takes_source(pin) {
-        return false;
-    }
-    stored == 0
+    source == MINUS_ONE || value_output(links, source as usize) && takes_source(pin) && stored == 0
 }
 
 // ---- constants
@@ -63,10 +48,7 @@ fn good_source(links: &[usize], pin: Pin, source: u64, stored: u64) -> bool
 fn takes_constant(pin: Pin) -> bool
     ensures { result ≡ (in_of pin).constant }
 {
-    match pin {
-        Pin::Exec | Pin::ExecOnly => false,
-        _ => true,
-    }
+    !matches!(pin, Pin::Exec | Pin::ExecOnly)
 }
 
 // Whether a constant has this name; 0 names nothing.
@@ -81,10 +63,7 @@ fn names_constant(links: &[usize], k: usize) -> bool
 fn may_store(pin: Pin, stored: u64) -> bool
     ensures { result ≡ (eqb stored 0 || (in_of pin).constant) }
 {
-    if stored == 0 {
-        return true;
-    }
-    takes_constant(pin)
+    stored == 0 || takes_constant(pin)
 }
 
 // ---- settings
@@ -93,24 +72,14 @@ fn may_store(pin: Pin, stored: u64) -> bool
 fn int_or_nothing(v: Value) -> bool
     ensures { result ≡ int_or_nothing v }
 {
-    match v {
-        Value::Nothing => true,
-        Value::Int(_) => true,
-        Value::Float(_) => false,
-        Value::Bool(_) => false,
-    }
+    matches!(v, Value::Nothing | Value::Int(_))
 }
 
 // A Float or nothing.
 fn float_or_nothing(v: Value) -> bool
     ensures { result ≡ float_or_nothing v }
 {
-    match v {
-        Value::Nothing => true,
-        Value::Int(_) => false,
-        Value::Float(_) => true,
-        Value::Bool(_) => false,
-    }
+    matches!(v, Value::Nothing | Value::Float(_))
 }
 
 // The Int number of a gate of this kind.
@@ -118,11 +87,10 @@ fn names_gate(links: &[usize], kind: u64, v: Value) -> bool
     requires { Linked links.now }
     ensures { result ≡ int_such_that (λ g. eqb (kind_of_gate (net_of links.now) g) kind) v }
 {
-    match v {
-        Value::Nothing => false,
-        Value::Int(g) => links::kind_of_gate(links, g as usize) == kind,
-        Value::Float(_) => false,
-        Value::Bool(_) => false,
+    if let Value::Int(g) = v {
+        links::kind_of_gate(links, g as usize) == kind
+    } else {
+        false
     }
 }
 
@@ -130,11 +98,10 @@ fn names_gate(links: &[usize], kind: u64, v: Value) -> bool
 fn names_channel(v: Value) -> bool
     ensures { result ≡ int_such_that (within 0 255) v }
 {
-    match v {
-        Value::Nothing => false,
-        Value::Int(b) => b <= LAST_CHANNEL,
-        Value::Float(_) => false,
-        Value::Bool(_) => false,
+    if let Value::Int(b) = v {
+        b <= LAST_CHANNEL
+    } else {
+        false
     }
 }
 
@@ -160,16 +127,10 @@ fn good_input(links: &[usize], pin: Pin, source: u64, stored: u64, v: Value) -> 
     requires { Linked links.now }
     ensures { result ≡ good_input (net_of links.now) (in_of pin) source stored v }
 {
-    if !good_source(links, pin, source, stored) {
-        return false;
-    }
-    if !names_constant(links, stored as usize) {
-        return false;
-    }
-    if !may_store(pin, stored) {
-        return false;
-    }
-    good_setting(links, pin, v)
+    good_source(links, pin, source, stored)
+        && names_constant(links, stored as usize)
+        && may_store(pin, stored)
+        && good_setting(links, pin, v)
 }
 
 // Whether each input is good.
@@ -179,8 +140,7 @@ pub fn inputs_good(circuit: &[u8], links: &[usize]) -> bool
 {
     let n = get(circuit, 2) as usize;
     let first = 4 + 2 * (get(circuit, 1) as usize + get(circuit, 0) as usize);
-    let mut i = 0;
-    while i < n {
+    for i in 0..n {
         let source = get(circuit, first + i);
         let stored = get(circuit, first + n + i);
         if !good_input(
@@ -192,7 +152,6 @@ pub fn inputs_good(circuit: &[u8], links: &[usize]) -> bool
         ) {
             return false;
         }
-        i += 1;
     }
     true
 }

@@ -6,8 +6,9 @@ ghost use Rattle.model.specs.Questions.{question_6};
 ghost use Rattle.links.specs.Lent.{Linked, net_of};
 ghost use Rattle.circuit.specs.Gates.{gates_where, source_bit, awaited};
 
-use crate::sets::{gate_bit, round, with_bit};
+use crate::sets::{gate_bit, gates_where, round};
 use links::layout::MOST_GATES;
+use std::array;
 
 // The word of the gate that input i reads; 0 where it reads none.
 fn source_bit(links: &[usize], i: usize) -> u64
@@ -32,36 +33,8 @@ fn awaited(links: &[usize], g: usize) -> u64
     let first = links::input(links, g, 0);
     let n = kinds::inputs(kind);
     let mut word: u64 = 0;
-    let mut p = 0;
-    while p < n {
-        word = word | source_bit(links, first + p);
-        p += 1;
-    }
-    word
-}
-
-// `words` gets what each of n gates waits for.
-fn fill(links: &[usize], words: &mut [u64], n: usize)
-    requires { Linked links.now × (n ≤ length words.old) }
-    ensures { (g : ℕ) → g < n → get_or words.new g 0 ≡ awaited (net_of links.now) g }
-{
-    let mut g = 0;
-    while g < n {
-        words[g] = awaited(links, g);
-        g += 1;
-    }
-}
-
-// The pure ones of n gates.
-fn pure_gates(links: &[usize], n: usize) -> u64
-    requires { Linked links.now × (n ≤ most_gates) }
-    ensures { result ≡ gates_where (λ g. pure (kind_of_gate (net_of links.now) g)) n }
-{
-    let mut word: u64 = 0;
-    let mut g = n;
-    while 0 < g {
-        g -= 1;
-        word = with_bit(word, kinds::is_pure(links::kind_of_gate(links, g)));
+    for p in 0..n {
+        word |= source_bit(links, first + p);
     }
     word
 }
@@ -72,16 +45,13 @@ pub fn ordered(links: &[usize]) -> bool
     ensures { result ≡ question_6 (net_of links.now) }
 {
     let n = links::gates(links);
-    let mut words: [u64; MOST_GATES] = [0; MOST_GATES];
-    fill(links, &mut words, n);
-    let mut unplaced = pure_gates(links, n);
-    let mut k = 0;
-    while k < n {
+    let words: [u64; MOST_GATES] = array::from_fn(|g| awaited(links, g));
+    let mut unplaced = gates_where(n, |g| kinds::is_pure(links::kind_of_gate(links, g)));
+    for _k in 0..n {
         if unplaced == 0 {
             return true;
         }
         unplaced = round(&words, n, unplaced);
-        k += 1;
     }
     unplaced == 0
 }

@@ -1,5 +1,5 @@
 // Sets of gates are words: gate g is bit g. Each gate has the word of those that it waits for, and in a round it is placed if it waits for none that is unplaced.
-ghost use Rattle.std.specs.Prelude.{◌≡◌, true, ◌+◌, ◌*◌, ◌<◌, ◌≤◌, ◌^◌, length};
+ghost use Rattle.std.specs.Prelude.{◌≡◌, ℕ, Bool, true, ◌+◌, ◌*◌, ◌<◌, ◌≤◌, ◌^◌, length};
 ghost use Rattle.model.specs.Value.{bit};
 ghost use Rattle.model.specs.Circuit.{most_gates};
 ghost use Rattle.circuit.specs.Gates.{gates_where, gate_bit, waits};
@@ -16,7 +16,20 @@ pub fn with_bit(word: u64, b: bool) -> u64
     requires { word < 2 ^ 63 }
     ensures { result ≡ word * 2 + bit b }
 {
-    if b { word * 2 + 1 } else { word * 2 }
+    word * 2 + u64::from(b)
+}
+
+// The word of those of n gates that pass a test.
+pub(crate) fn gates_where<F: Fn(usize) -> bool>(n: usize, passes: F) -> u64
+    requires few { n ≤ most_gates }
+    requires callable { (g : ℕ) → g < n → F.pre passes g }
+    ensures { (p : ℕ → Bool) → ((g : ℕ) (t : Bool) → g < n → F.post passes g t → t ≡ p g) → result ≡ gates_where p n }
+{
+    let mut word: u64 = 0;
+    for g in (0..n).rev() {
+        word = with_bit(word, passes(g));
+    }
+    word
 }
 
 // All of n gates.
@@ -24,13 +37,7 @@ pub fn all_gates(n: usize) -> u64
     requires { n ≤ most_gates }
     ensures { result ≡ gates_where (λ _. true) n }
 {
-    let mut word: u64 = 0;
-    let mut g = n;
-    while 0 < g {
-        g -= 1;
-        word = with_bit(word, true);
-    }
-    word
+    gates_where(n, |_| true)
 }
 
 // One round: of n gates those that wait for one of `unplaced`, where `words` has what each waits for.
@@ -38,11 +45,5 @@ pub fn round(words: &[u64], n: usize, unplaced: u64) -> u64
     requires { (n ≤ most_gates) × (n ≤ length words.now) }
     ensures { result ≡ gates_where (waits words.now unplaced) n }
 {
-    let mut word: u64 = 0;
-    let mut g = n;
-    while 0 < g {
-        g -= 1;
-        word = with_bit(word, words[g] & unplaced != 0);
-    }
-    word
+    gates_where(n, |g| words[g] & unplaced != 0)
 }

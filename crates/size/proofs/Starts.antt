@@ -1,14 +1,16 @@
 -- The figures from the numbers: the greatest of those that pass a test, over all starts; the bytes of a log; no Loop.
 use Prim.Native.Nat.{ℕ, ◌+◌, ◌*◌, ◌≤◌, ◌<◌, max}
-use mathlib.Core.Path.{◌≡◌, sym, ap, ◌∙◌}
+use mathlib.Core.Path.{◌≡◌, refl, sym, ap, ◌∙◌}
 use mathlib.Core.Bool.{Bool, true, false, not}
 use mathlib.Core.List.{List, [], ◌∷◌, map}
 use native.Mathlib.Nat.{zero-add, mul-le-mul}
 use native.Mathlib.Omega.{arith}
 use lib.Dec.{eqb}
 use lib.ListN.{length, get_or}
+use Rattle.std.specs.Prelude.{Option, Some, None}
+use Rattle.std.specs.Bool.{then_some}
 use Rattle.model.specs.Base.{if◌then◌otherwise◌, keep, all, each, sum, from}
-use Rattle.model.specs.Kinds.{In, value, Out, fires, shows, Loop}
+use Rattle.model.specs.Kinds.{value, Out, fires, shows, Loop}
 use Rattle.model.specs.Circuit.{Circuit, kind_of_gate, gate_at_input}
 use Rattle.model.proofs.Lists.{each_such, all_map, all_pass, default_same}
 use Rattle.circuit.proofs.Sources.{row_places}
@@ -22,13 +24,21 @@ module _ (p : ℕ → Bool) (f : ℕ → ℕ) where
   unfoldable pub picked : ℕ → ℕ → ℕ
   picked m i = if p i then max m (f i) otherwise m
 
-  pub pick_yes : (m s x i : ℕ) → p i ≡ true → x ≡ f i → s ≡ max m x → s ≡ picked m (0 + i)
+  pub pick_some : (m s x i : ℕ) (o : Option ℕ) → o ≡ then_some (p i) (f i) → o ≡ Some x → s ≡ max m x → s ≡ picked m (0 + i)
   unfolding picked if◌then◌otherwise◌
-  pick_yes m s x i y ex es = rw (zero-add i, y) (es ∙ ap (max m) ex)
+  pick_some m s x i o e h q = rw (zero-add i) (q ∙ go (p i) (sym h ∙ e))
+    where
+      go : (b : Bool) → Some x ≡ then_some b (f i) → max m x ≡ (if b then max m (f i) otherwise m)
+      go true k = let z : x ≡ f i = cc in rw z
+      go false k = let z : ◌≡◌ {A = ℕ} 0 1 = cc in absurd (omega arith)
 
-  pub pick_no : (m i : ℕ) → p i ≡ false → m ≡ picked m (0 + i)
+  pub pick_none : (m s i : ℕ) (o : Option ℕ) → o ≡ then_some (p i) (f i) → o ≡ None → s ≡ m → s ≡ picked m (0 + i)
   unfolding picked if◌then◌otherwise◌
-  pick_no m i y = rw (zero-add i, y)
+  pick_none m s i o e h q = rw (zero-add i) (q ∙ go (p i) (sym h ∙ e))
+    where
+      go : (b : Bool) → None ≡ then_some b (f i) → m ≡ (if b then max m (f i) otherwise m)
+      go true k = let z : ◌≡◌ {A = ℕ} 0 1 = cc in absurd (omega arith)
+      go false k = refl
 
   each_max : (m : ℕ) (xs : List ℕ) → each (λ m i. max m (f i)) m xs ≡ max m (greatest (map f xs))
   unfolding each greatest
@@ -48,12 +58,6 @@ module _ (c : Circuit) where
   abbrev pub exec_at : ℕ → Bool
   exec_at o = is_exec (get_or c.outputs o shows)
 
-  pub EIs : (i : ℕ) (t b : Bool) (p : In) → p ≡ get_or c.pins i value → t ≡ is-E p → t ≡ b → EAt i ≡ b
-  EIs i t b p e h k = sym (h ∙ ap is-E e) ∙ k
-
-  pub exec_is : (n o : ℕ) (t b : Bool) (p : Out) → n ≡ length c.outputs → o < n → p ≡ get_or c.outputs o fires → t ≡ is_exec p → t ≡ b → exec_at o ≡ b
-  exec_is n o t b p en l e h k = sym (h ∙ ap is_exec (e ∙ default_same c.outputs o fires shows (omega arith))) ∙ k
-
 module _ (c : Circuit) (ns : List ℕ) where
   abbrev pub input_number : ℕ → ℕ
   input_number i = get_or ns (gate_at_input c i) 0
@@ -61,13 +65,17 @@ module _ (c : Circuit) (ns : List ℕ) where
   abbrev pub output_number : ℕ → ℕ
   output_number o = each (with_number ns) 0 (entered_from c o)
 
-  pub all_inputs : (n : ℕ) → n ≡ length c.pins → each (picked (EAt c) input_number) 0 (from 0 n) ≡ most_of_inputs c ns
+  pub all_inputs : (n : ℕ) → n ≡ length c.pins → greatest (map input_number (keep (EAt c) (from 0 n))) ≡ most_of_inputs c ns
   unfolding most_of_inputs exec_inputs
-  all_inputs n e = rw e (picked_all (EAt c) input_number (length c.pins))
+  all_inputs n e = rw e
 
-  pub all_outputs : (n : ℕ) → n ≡ length c.outputs → each (picked (exec_at c) output_number) 0 (from 0 n) ≡ most_of_outputs c ns
+  pub all_outputs : (n : ℕ) → n ≡ length c.outputs → greatest (map output_number (keep (exec_at c) (from 0 n))) ≡ most_of_outputs c ns
   unfolding most_of_outputs exec_outputs
-  all_outputs n e = rw e (picked_all (exec_at c) output_number (length c.outputs))
+  all_outputs n e = rw e
+
+  -- an output that is there is no other than the default of one that is not
+  pub output_counts : (n o : ℕ) (x : Option ℕ) → n ≡ length c.outputs → o < n → x ≡ then_some (is_exec (get_or c.outputs o fires)) (output_number o) → x ≡ then_some (exec_at c o) (output_number o)
+  output_counts n o x en l e = e ∙ ap (λ (y : Out). then_some (is_exec y) (output_number o)) (default_same c.outputs o fires shows (omega arith))
 
   -- The first figure.
   pub figure : (a b r : ℕ) → Numbers c ns → a ≡ most_of_inputs c ns → b ≡ most_of_outputs c ns → r ≡ max a b → r ≡ most_unit_steps c

@@ -27,15 +27,7 @@ fn no_loop(links: &[usize]) -> bool
     requires { Linked links.now }
     ensures { result ≡ no_loop (net_of links.now) }
 {
-    let n = links::gates(links);
-    let mut g = 0;
-    while g < n {
-        if links::kind_of_gate(links, g) == LOOP {
-            return false;
-        }
-        g += 1;
-    }
-    true
+    (0..links::gates(links)).all(|g| links::kind_of_gate(links, g) != LOOP)
 }
 
 // The whole call: the number that it is refused with, or 0; then the first two words of `told` become the most steps that any one unit can cause, and the most bytes of

@@ -8,11 +8,12 @@ ghost use Rattle.links.specs.Lent.{Linked, net_of};
 ghost use Rattle.figures.specs.Figures.{entered_from, passed_on, no_ring};
 ghost use Rattle.size.specs.Numbers.{cap, with_number, numbered, Numbers};
 
-use crate::calls::{entered, fill};
+use crate::calls::{over_calls, over_outputs, passed_on};
 use circuit::sets::{all_gates, round};
 use links::layout::MOST_GATES;
 use links::{first_gate, later_gates};
 use records::MOST_STEPS;
+use std::array;
 
 // Where sums stop.
 const CAP: u64 = MOST_STEPS + 1;
@@ -21,23 +22,14 @@ const CAP: u64 = MOST_STEPS + 1;
 fn capped_sum(a: u64, b: u64) -> u64
     ensures { result ≡ cap (a + b) }
 {
-    if CAP <= a {
-        return CAP;
-    }
-    if CAP - a <= b {
-        return CAP;
-    }
-    a + b
+    a.saturating_add(b).min(CAP)
 }
 
 // The number of gate g, and 0 where it has none.
 pub fn number_of(numbers: &[u64], g: usize) -> u64
     ensures { result ≡ get_or numbers.now g 0 }
 {
-    if g < numbers.len() {
-        return numbers[g];
-    }
-    0
+    numbers.get(g).copied().unwrap_or(0)
 }
 
 // A sum, and the numbers of the gates that the calls of output o enter.
@@ -45,15 +37,12 @@ pub fn with_output(links: &[usize], numbers: &[u64], sum: u64, o: usize) -> u64
     requires { Linked links.now }
     ensures { result ≡ each (with_number numbers.now) sum (entered_from (net_of links.now) o) }
 {
-    let first = links::first_call(links, o);
-    let n = links::call_count(links, o);
-    let mut total = sum;
-    let mut k = 0;
-    while k < n {
-        total = capped_sum(total, number_of(numbers, entered(links, first + k)));
-        k += 1;
-    }
-    total
+    over_calls(
+        links,
+        sum,
+        o,
+        |total, g| capped_sum(total, number_of(numbers, g)),
+    )
 }
 
 // One, and the numbers of all gates that gate g passes on to.
@@ -61,15 +50,13 @@ fn gate_steps(links: &[usize], numbers: &[u64], g: usize) -> u64
     requires { Linked links.now }
     ensures { result ≡ each (with_number numbers.now) 1 (passed_on (net_of links.now) g) }
 {
-    let first = links::output(links, g, 0);
-    let n = kinds::outputs(links::kind_of_gate(links, g));
-    let mut total: u64 = 1;
-    let mut p = 0;
-    while p < n {
-        total = with_output(links, numbers, total, first + p);
-        p += 1;
-    }
-    total
+    let itself = 1;
+    over_outputs(
+        links,
+        itself,
+        g,
+        |total, o| with_output(links, numbers, total, o),
+    )
 }
 
 // Each gate of a word gets its number.
@@ -92,18 +79,15 @@ pub fn number_all(links: &[usize], numbers: &mut [u64]) -> bool
     ensures { (result ≡ no_ring (net_of links.now)) × (result ≡ true → Numbers (net_of links.now) numbers.new) }
 {
     let n = links::gates(links);
-    let mut words: [u64; MOST_GATES] = [0; MOST_GATES];
-    fill(links, &mut words, n);
+    let words: [u64; MOST_GATES] = array::from_fn(|g| passed_on(links, g));
     let mut unplaced = all_gates(n);
-    let mut rounds = 0;
-    while rounds < n {
+    for _k in 0..n {
         if unplaced == 0 {
             return true;
         }
         let left = round(&words, n, unplaced);
         number_gates(links, numbers, unplaced - left);
         unplaced = left;
-        rounds += 1;
     }
     unplaced == 0
 }

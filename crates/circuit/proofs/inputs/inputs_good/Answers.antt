@@ -1,13 +1,8 @@
-use Prim.Native.Nat.{◌-◌}
 use mathlib.Core.Path.{◌∙◌}
 use native.Mathlib.Omega.{arith}
-use borrow.Author.Rules.{rules}
-use borrow.Author.Tests.{not-true, not-false}
 use Rattle.circuit.proofs.Rows.{input_tested, inputs_all}
 use Rattle.circuit.proofs.Sized.{sized}
 use Rattle.circuit.proofs.Turns.{all_first, all_next, all_stop, all_last}
-use mathlib.Core.Path.{ap}
-use mathlib.Core.Bool.{not}
 use Rattle.circuit.proofs.inputs.inputs_good.Goals as goal
 
 pub get-n-requires : goal.get-n-requires
@@ -29,7 +24,7 @@ pub overflow_add-first-2 : goal.overflow_add-first-2
 overflow_add-first-2 c = let s = sized c.args.circuit.now c.requires.0 in omega arith
 
 pub loop-i-init : goal.loop-i-init
-loop-i-init c = (search rules, all_first _ _ ∙ inputs_all _ _ _ _ _ c.get-n.ensures c.get.ensures c.get-2.ensures)
+loop-i-init c = all_first _ _ ∙ inputs_all _ _ _ _ _ c.get-n.ensures c.get.ensures c.get-2.ensures
 
 pub overflow_add-first-in-loop-i : goal.overflow_add-first-in-loop-i
 overflow_add-first-in-loop-i c = let s = sized c.args.circuit.now c.requires.0 in omega arith
@@ -47,10 +42,10 @@ pub get-stored-requires : goal.get-stored-requires
 get-stored-requires c = let s = sized c.args.circuit.now c.requires.0 in omega arith
 
 pub returns-then-not-good_input : goal.returns-then-not-good_input
-returns-then-not-good_input c = all_stop _ _ _ _ _ c.loop-i-test.true (input_tested _ _ _ _ _ _ _ _ _ _ c.get-source.ensures c.get-stored.ensures c.pin_at.ensures c.stored_in.ensures c.good_input.ensures) (not-true _ (ap not c.if-not-good_input.true)) c.loop-i.invariant.1
+returns-then-not-good_input c = all_stop _ _ _ _ _ c.loop-i-test.true (input_tested _ _ _ _ _ _ _ _ _ _ c.get-source.ensures c.get-stored.ensures c.pin_at.ensures c.stored_in.ensures c.good_input.ensures) c.if-not-good_input.true c.loop-i.invariant
 
 pub loop-i-preserved : goal.loop-i-preserved
-loop-i-preserved c = (search rules, all_next _ _ _ _ _ c.loop-i-test.true (input_tested _ _ _ _ _ _ _ _ _ _ c.get-source.ensures c.get-stored.ensures c.pin_at.ensures c.stored_in.ensures c.good_input.ensures) (not-false _ (ap not c.if-not-good_input.false)) c.loop-i.invariant.1)
+loop-i-preserved c = all_next _ _ _ _ _ c.loop-i-test.true (input_tested _ _ _ _ _ _ _ _ _ _ c.get-source.ensures c.get-stored.ensures c.pin_at.ensures c.stored_in.ensures c.good_input.ensures) c.if-not-good_input.false c.loop-i.invariant
 
 pub returns : goal.returns
-returns c = all_last _ _ _ _ c.loop-i-test.false c.loop-i.invariant.1
+returns c = all_last _ _ _ _ c.loop-i-test.false c.loop-i.invariant

@@ -1,4 +1,3 @@
-use Prim.Native.Nat.{◌≤◌, ◌-◌}
 use mathlib.Core.Path.{◌≡◌}
 use Rattle.words.specs.Words.{words}
 use Rattle.model.specs.Questions.{question_4}
@@ -8,7 +7,4 @@ use Rattle.circuit.proofs.Turns.{all_from}
 use Rattle.circuit.proofs.inputs.inputs_good.Given as goal
 
 abbrev pub invariant-loop-i : goal.invariant-loop-i
-invariant-loop-i l = (l.i ≤ l.n) × (all_from (input_test (words l.circuit) (net l.links) l.first l.n) l.n l.i ≡ question_4 (words l.circuit) (net l.links))
-
-abbrev pub decreases-loop-i : goal.decreases-loop-i
-decreases-loop-i l = l.n - l.i
+invariant-loop-i l = all_from (input_test (words l.circuit) (net l.links) l.first l.n) l.n l.i ≡ question_4 (words l.circuit) (net l.links)

@@ -1,19 +1,8 @@
-use borrow.Author.Rules.{rules}
-use Rattle.model.specs.Questions.{int_or_nothing}
+use Rattle.circuit.proofs.Asking.{int_given, no_int_given}
 use Rattle.circuit.proofs.inputs.int_or_nothing.Goals as goal
 
 pub returns-in-Nothing : goal.returns-in-Nothing
-unfolding int_or_nothing
-returns-in-Nothing c = search rules
+returns-in-Nothing c = int_given c.args.v c.in-Nothing.is
 
-pub returns-in-Int : goal.returns-in-Int
-unfolding int_or_nothing
-returns-in-Int c = search rules
-
-pub returns-in-Float : goal.returns-in-Float
-unfolding int_or_nothing
-returns-in-Float c = search rules
-
-pub returns-in-Bool : goal.returns-in-Bool
-unfolding int_or_nothing
-returns-in-Bool c = search rules
+pub returns-in_default : goal.returns-in_default
+returns-in_default c = no_int_given c.args.v c.in_default.not-Nothing c.in_default.not-Int

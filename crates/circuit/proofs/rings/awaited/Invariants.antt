@@ -1,4 +1,3 @@
-use Prim.Native.Nat.{◌≤◌, ◌-◌}
 use mathlib.Core.Path.{◌≡◌}
 use Rattle.model.specs.Base.{each, from}
 use Rattle.links.specs.Links.{net}
@@ -7,7 +6,4 @@ use Rattle.circuit.proofs.Turns.{each_from}
 use Rattle.circuit.proofs.rings.awaited.Given as goal
 
 abbrev pub invariant-loop-p : goal.invariant-loop-p
-invariant-loop-p l = (l.p ≤ l.n) × (each_from (with_source (net l.links)) l.first l.n l.word l.p ≡ each (with_source (net l.links)) 0 (from l.first l.n))
-
-abbrev pub decreases-loop-p : goal.decreases-loop-p
-decreases-loop-p l = l.n - l.p
+invariant-loop-p l = each_from (with_source (net l.links)) l.first l.n l.word l.p ≡ each (with_source (net l.links)) 0 (from l.first l.n)

@@ -1,4 +1,3 @@
-use Prim.Native.Nat.{◌≤◌, ◌-◌}
 use mathlib.Core.Path.{◌≡◌}
 use Rattle.links.specs.Links.{net}
 use Rattle.model.proofs.Placing.{placed}
@@ -6,7 +5,4 @@ use Rattle.circuit.proofs.Unplaced.{unplaced as unplaced_gates}
 use Rattle.circuit.proofs.rings.ordered.Given as goal
 
 abbrev pub invariant-loop-k : goal.invariant-loop-k
-invariant-loop-k l = (l.k ≤ l.n) × (l.unplaced ≡ unplaced_gates (placed (net l.links) l.k))
-
-abbrev pub decreases-loop-k : goal.decreases-loop-k
-decreases-loop-k l = l.n - l.k
+invariant-loop-k l = l.unplaced ≡ unplaced_gates (placed (net l.links) l._k)

@@ -1,17 +1,7 @@
 use borrow.Author.Rules.{rules}
 use Rattle.circuit.specs.Gates.{waits}
-use Rattle.circuit.proofs.Descent.{down_first, down_room, down_next, down_last}
 use Rattle.circuit.proofs.sets.round.Goals as goal
 
-pub loop-g-init : goal.loop-g-init
-loop-g-init c = (search rules, down_first _ _)
-
-pub with_bit-word-requires : goal.with_bit-word-requires
-with_bit-word-requires c = down_room _ _ _ _ (search rules) c.loop-g-test.true c.loop-g.invariant.1
-
-pub loop-g-preserved : goal.loop-g-preserved
-unfolding waits
-loop-g-preserved c = (search rules, down_next _ _ _ _ _ c.loop-g.invariant.0 c.loop-g-test.true c.loop-g.invariant.1 c.with_bit-word.ensures)
-
 pub returns : goal.returns
-returns c = down_last _ _ _ _ c.loop-g-test.false c.loop-g.invariant.1
+unfolding waits
+returns c = c.gates_where.ensures (waits c.args.words.now c.args.unplaced) (λ h t l k. search rules)

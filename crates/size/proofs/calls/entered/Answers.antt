@@ -1,4 +1,3 @@
-use Rattle.model.specs.Circuit.{gate_at_input}
 use Rattle.size.specs.Numbers.{entered}
 use Rattle.size.proofs.calls.entered.Goals as goal
 

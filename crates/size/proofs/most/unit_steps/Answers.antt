@@ -1,5 +1,6 @@
 use Rattle.size.proofs.Starts.{figure}
+use borrow.Author.Rules.{rules}
 use Rattle.size.proofs.most.unit_steps.Goals as goal
 
 pub returns : goal.returns
-returns c = figure _ _ _ _ _ c.requires.1 c.of_inputs.ensures c.of_outputs.ensures c.greater.ensures
+returns c = figure _ _ _ _ _ c.requires.1 c.of_inputs.ensures c.of_outputs.ensures (search rules)
