@@ -39,13 +39,21 @@ fn awaited(links: &[usize], g: usize) -> u64
     word
 }
 
+// What each gate waits for.
+fn all_awaited(links: &[usize]) -> [u64; MOST_GATES]
+    requires { Linked links.now }
+    ensures { (g : ℕ) → g < most_gates → get_or result g 0 ≡ awaited (net_of links.now) g }
+{
+    array::from_fn(|g| awaited(links, g))
+}
+
 // At most as many rounds as there are gates: what is unplaced then stands in a ring, or behind one.
 pub fn ordered(links: &[usize]) -> bool
     requires { Linked links.now }
     ensures { result ≡ question_6 (net_of links.now) }
 {
     let n = links::gates(links);
-    let words: [u64; MOST_GATES] = array::from_fn(|g| awaited(links, g));
+    let words = all_awaited(links);
     let mut unplaced = gates_where(n, |g| kinds::is_pure(links::kind_of_gate(links, g)));
     for _k in 0..n {
         if unplaced == 0 {
