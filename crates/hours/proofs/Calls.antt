@@ -3,7 +3,7 @@ use Prim.Native.Nat.{ℕ, zero, suc, ◌+◌, ◌*◌, ◌≤◌, ◌<◌}
 use mathlib.Core.Path.{◌≡◌, refl, sym, ap, ◌∙◌, subst}
 use mathlib.Core.Bool.{Bool, true, false, not, ◌&&◌}
 use mathlib.Core.List.{List, [], ◌∷◌, ◌++◌, map}
-use mathlib.Core.Option.{none}
+use Rattle.std.specs.Prelude.{Option, Some, None}
 use native.Mathlib.Omega.{arith}
 use borrow.Author.Tests.{not-true, not-false, ltb-true, leb-true, le-leb, lt-leb}
 use lib.Dec.{leb}
@@ -87,29 +87,13 @@ not_written : (len : ℕ) (ss : List Share) (old : List ℕ) → has_room len (l
 unfolding reported if◌then◌otherwise◌ reply_size buffer_after
 not_written len ss old e = rw e (record { size = refl; buffer = refl })
 
-module _ (len : ℕ) (ss : List Share) (good : Each GoodShare ss) (ds cs ds₁ cs₁ : List ℕ) (n : ℕ) (q : CountsAll ss ds cs ds₁ cs₁ n) (ecs : cs ≡ replicate most_counts 0) (long : length ds₁ ≡ most_drivers) (old : List ℕ) where
+module _ (len : ℕ) (ss : List Share) (good : Each GoodShare ss) (ds cs ds₁ cs₁ : List ℕ) (r : Option ℕ) (q : CountsAll ss ds cs ds₁ cs₁ r) (ecs : cs ≡ replicate most_counts 0) (long : length ds₁ ≡ most_drivers) (old : List ℕ) where
   started : tally ds cs 0 ≡ at_start
   unfolding tally
   started = λ j. record { drivers = []; counts = ecs j }
 
-  -- the tables give the report
-  tables_report : n ≤ most_drivers → (rows_from len cs₁ 0 (take n ds₁) ≡ report_words (report len ss)) × (take n ds₁ ≡ drivers ss)
-  unfolding tally
-  tables_report l =
-      let t = length-take-le n ds₁ (omega (arith, l, long)) in
-      report_is len ss (record { drivers = take n ds₁; counts = cs₁ }) good (q.few l ∙ ap (λ (t : Tally). each tallied t ss) started) (omega (arith, t, l))
-
-  sizes : n ≤ most_drivers → (length (drivers ss) ≡ n) × (length (report_words (report len ss)) ≡ driver_size * n + line_size)
-  sizes l =
-      let r = tables_report l in
-      let t = length-take-le n ds₁ (omega (arith, l, long)) in
-      let a = ap (λ (x : List ℕ). length x) r.1 in
-      let b = ap (λ (x : List ℕ). length x) r.0 in
-      let d = rows_length len cs₁ 0 (take n ds₁) in
-      (omega (arith, a, t), omega (arith, b, d, t))
-
   -- a 33rd driver
-  pub too_many : most_drivers < n → Written (reported len (length old) ss) old old 0
+  pub too_many : r ≡ None → Written (reported len (length old) ss) old old 0
   unfolding has_room drivers
   too_many l =
       let m = q.many l in
@@ -117,35 +101,55 @@ module _ (len : ℕ) (ss : List Share) (good : Each GoodShare ss) (ds cs ds₁ c
       let b = ap (λ (x : List ℕ). length x) (drivers_are ss at_start) in
       not_written len ss old (rw (lt-leb (length (drivers ss)) most_drivers (omega (arith, m, a, b))))
 
-  -- the report does not fit
-  pub too_long : n ≤ most_drivers → length old < 8 * (driver_size * n + line_size) → Written (reported len (length old) ss) old old 0
-  unfolding has_room
-  too_long l h =
-      let z = sizes l in
-      let z₀ = z.0 in
-      let z₁ = z.1 in
-      not_written len ss old
-      (rw (le-leb (length (drivers ss)) most_drivers (omega (arith, z₀, l)), lt-leb (8 * length (report_words (report len ss))) (length old) (omega (arith, z₁, h))))
+  module _ (n : ℕ) (er : r ≡ Some n) where
+    abbrev l : n ≤ most_drivers
+    l = q.most n er
 
-  -- it is written
-  pub all_written :
-      n ≤ most_drivers → 8 * (driver_size * n + line_size) ≤ length old → (new : List ℕ) → Below 256 old → Below 256 new → Filled old new 0 (rows_from len cs₁ 0 (take n ds₁)) →
-      Written (reported len (length old) ss) old new (8 * (driver_size * n + line_size))
-  unfolding has_room reported if◌then◌otherwise◌ reply_size buffer_after
-  all_written l h new b₁ b₂ f =
-      let z = sizes l in
-      let z₀ = z.0 in
-      let z₁ = z.1 in
-      let x : leb (length (drivers ss)) most_drivers ≡ true = le-leb (length (drivers ss)) most_drivers (omega (arith, z₀, l)) in
-      let y : leb (8 * length (report_words (report len ss))) (length old) ≡ true = le-leb (8 * length (report_words (report len ss))) (length old) (omega (arith, z₁, h)) in
-      let g : Filled old new 0 (report_words (report len ss)) = subst (λ (ws : List ℕ). Filled old new 0 ws) (tables_report l).0 f in
-      let k = length_bytes (report_words (report len ss)) in
-      rw (x, y)
-      (record {
-        size = omega (arith, z₁, k);
-        buffer = filled_bytes old new (report_words (report len ss)) b₁ b₂ (omega (arith, z₁, h)) g
-            ∙ ap (λ (n : ℕ). bytes (report_words (report len ss)) ++ drop n old) (sym k);
-      })
+    -- the tables give the report
+    tables_report : (rows_from len cs₁ 0 (take n ds₁) ≡ report_words (report len ss)) × (take n ds₁ ≡ drivers ss)
+    unfolding tally
+    tables_report =
+        let t = length-take-le n ds₁ (omega (arith, l, long)) in
+        report_is len ss (record { drivers = take n ds₁; counts = cs₁ }) good (q.few n er ∙ ap (λ (t : Tally). each tallied t ss) started) (omega (arith, t, l))
+
+    sizes : (length (drivers ss) ≡ n) × (length (report_words (report len ss)) ≡ driver_size * n + line_size)
+    sizes =
+        let r = tables_report in
+        let t = length-take-le n ds₁ (omega (arith, l, long)) in
+        let a = ap (λ (x : List ℕ). length x) r.1 in
+        let b = ap (λ (x : List ℕ). length x) r.0 in
+        let d = rows_length len cs₁ 0 (take n ds₁) in
+        (omega (arith, a, t), omega (arith, b, d, t))
+
+    -- the report does not fit
+    pub too_long : length old < 8 * (driver_size * n + line_size) → Written (reported len (length old) ss) old old 0
+    unfolding has_room
+    too_long h =
+        let z = sizes in
+        let z₀ = z.0 in
+        let z₁ = z.1 in
+        not_written len ss old
+        (rw (le-leb (length (drivers ss)) most_drivers (omega (arith, z₀, l)), lt-leb (8 * length (report_words (report len ss))) (length old) (omega (arith, z₁, h))))
+
+    -- it is written
+    pub all_written :
+        8 * (driver_size * n + line_size) ≤ length old → (new : List ℕ) → Below 256 old → Below 256 new → Filled old new 0 (rows_from len cs₁ 0 (take n ds₁)) →
+        Written (reported len (length old) ss) old new (8 * (driver_size * n + line_size))
+    unfolding has_room reported if◌then◌otherwise◌ reply_size buffer_after
+    all_written h new b₁ b₂ f =
+        let z = sizes in
+        let z₀ = z.0 in
+        let z₁ = z.1 in
+        let x : leb (length (drivers ss)) most_drivers ≡ true = le-leb (length (drivers ss)) most_drivers (omega (arith, z₀, l)) in
+        let y : leb (8 * length (report_words (report len ss))) (length old) ≡ true = le-leb (8 * length (report_words (report len ss))) (length old) (omega (arith, z₁, h)) in
+        let g : Filled old new 0 (report_words (report len ss)) = subst (λ (ws : List ℕ). Filled old new 0 ws) (tables_report).0 f in
+        let k = length_bytes (report_words (report len ss)) in
+        rw (x, y)
+        (record {
+          size = omega (arith, z₁, k);
+          buffer = filled_bytes old new (report_words (report len ss)) b₁ b₂ (omega (arith, z₁, h)) g
+              ∙ ap (λ (n : ℕ). bytes (report_words (report len ss)) ++ drop n old) (sym k);
+        })
 
 -- ---- which numbers there are
 

@@ -1,9 +1,10 @@
 -- One law for each way out of the functions that write.
-use mathlib.Core.Path.{◌≡◌, refl, sym, ap, ◌∙◌}
-use mathlib.Core.List.{List, [], ◌∷◌}
-use Prim.Native.Nat.{ℕ, suc, ◌+◌, ◌-◌, ◌*◌, ◌≤◌, ◌<◌}
+use mathlib.Core.Path.{◌≡◌, refl, sym, ap, subst, ◌∙◌}
+use mathlib.Core.List.{List, [], ◌∷◌, ◌++◌, append_assoc}
+use native.Mathlib.Numerals.{add-one}
+use Prim.Native.Nat.{ℕ, zero, suc, ◌+◌, ◌*◌, ◌≤◌, ◌<◌}
 use native.Mathlib.Omega.{arith}
-use lib.ListN.{length, get_or, take, drop, drop_of_length-le}
+use lib.ListN.{length, get_or, take, drop, drop_of_length-le, length-append}
 use lib.Seq.{sets, drop-cons, get_or-take, length-take-le}
 use Rattle.words.specs.Words.{words, tail, Stored, Filled}
 use Rattle.words.proofs.Filling.{sets_more, filled_more}
@@ -29,21 +30,41 @@ row_five : (first d a ms : ℕ) → length (line_row first d a ms) ≡ line_size
 unfolding line_row line_words
 row_five first d a ms = refl
 
--- the four lines of a driver
-pub driver_filled :
-    (len d i : ℕ) (cs : List ℕ) (s₀ s₁ s₂ s₃ s₄ : List ℕ) (x₀ x₁ x₂ x₃ : ℕ) →
-    x₀ ≡ get_or cs (1 + 4 * i) 0 * len → Filled s₀ s₁ (driver_size * i) (line_row 1 d 0 x₀) → x₁ ≡ get_or cs (1 + 4 * i + 1) 0 * len → Filled s₁ s₂ (driver_size * i + line_size) (line_row 1 d 1 x₁) →
-    x₂ ≡ get_or cs (1 + 4 * i + 2) 0 * len → Filled s₂ s₃ (driver_size * i + 2 * line_size) (line_row 1 d 2 x₂) → x₃ ≡ get_or cs (1 + 4 * i + 3) 0 * len → Filled s₃ s₄ (driver_size * i + 3 * line_size) (line_row 1 d 3 x₃) →
-    Filled s₀ s₄ (driver_size * i) (driver_rows len d cs i)
-unfolding driver_rows
-driver_filled len d i cs s₀ s₁ s₂ s₃ s₄ x₀ x₁ x₂ x₃ e₀ f₀ e₁ f₁ e₂ f₂ e₃ f₃ =
-    let r₀ = row_five 1 d 0 x₀ in
-    let r₁ = row_five 1 d 1 x₁ in
-    let r₂ = row_five 1 d 2 x₂ in
-    rw (← e₀, ← e₁, ← e₂, ← e₃)
-    (filled_more (omega (arith, r₀)) f₀
-    (filled_more (omega (arith, r₁)) f₁
-    (filled_more (omega (arith, r₂)) f₂ f₃)))
+-- the first lines of driver i
+unfoldable pub first_rows : ℕ → ℕ → List ℕ → ℕ → ℕ → List ℕ
+first_rows len d cs i zero = []
+first_rows len d cs i (suc a) = first_rows len d cs i a ++ line_row 1 d a (get_or cs (1 + 4 * i + a) 0 * len)
+
+module _ (len d : ℕ) (cs : List ℕ) (i : ℕ) where
+  first_long : (a : ℕ) → length (first_rows len d cs i a) ≡ line_size * a
+  unfolding first_rows
+  first_long zero = refl
+  first_long (suc a) =
+      let x = get_or cs (1 + 4 * i + a) 0 * len in
+      let h = first_long a in
+      let e = length-append (first_rows len d cs i a) (line_row 1 d a x) in
+      let r = row_five 1 d a x in
+      omega (arith, h, e, r)
+
+  pub lines_first : (s : List ℕ) → Filled s s (driver_size * i) (first_rows len d cs i 0)
+  unfolding first_rows
+  lines_first s = record { words = refl; tail = refl }
+
+  pub lines_next :
+      {s t u : List ℕ} (a : ℕ) {x : ℕ} → Filled s t (driver_size * i) (first_rows len d cs i a) → x ≡ get_or cs (1 + 4 * i + a) 0 * len → Filled t u (driver_size * i + line_size * a) (line_row 1 d a x) →
+      Filled s u (driver_size * i) (first_rows len d cs i (a + 1))
+  unfolding first_rows
+  lines_next a f e g = let n = first_long a in rw (add-one a, first_rows, ← e) (filled_more (omega (arith, n)) f g)
+
+  four : first_rows len d cs i 4 ≡ driver_rows len d cs i
+  unfolding first_rows driver_rows
+  four = let z : 1 + 4 * i + 0 ≡ 1 + 4 * i = omega arith in rw z (simp append_assoc)
+
+  -- all four
+  pub lines_last : {s t : List ℕ} (a : ℕ) → a ≤ 4 → 4 ≤ a → Filled s t (driver_size * i) (first_rows len d cs i a) → Filled s t (driver_size * i) (driver_rows len d cs i)
+  lines_last {s = s} {t = t} a l m f =
+      let e : a ≡ 4 = omega (arith, l, m) in
+      subst (λ (rows : List ℕ). Filled s t (driver_size * i) rows) (ap (first_rows len d cs i) e ∙ four) f
 
 rows_twenty : (len d : ℕ) (cs : List ℕ) (i : ℕ) → length (driver_rows len d cs i) ≡ driver_size
 unfolding driver_rows line_row line_words

@@ -1,7 +1,8 @@
 -- One law for each way out of the functions that count.
 use mathlib.Core.Path.{◌≡◌, refl, sym, ap, ◌∙◌, subst}
-use mathlib.Core.Bool.{Bool, true, false, not, true≢false}
+use mathlib.Core.Bool.{Bool, true, false, true≢false}
 use mathlib.Core.List.{List, [], ◌∷◌, ◌++◌, map}
+use Rattle.std.specs.Prelude.{Option, Some, None}
 use Prim.Native.Nat.{ℕ, zero, suc, ◌+◌, ◌-◌, ◌*◌, ◌/◌, ◌≤◌, ◌<◌, min}
 use native.Mathlib.Nat.{mul-le-mul_right}
 use native.Mathlib.Omega.{arith}
@@ -93,19 +94,23 @@ up_one b cs i h j = go (eqb j i) refl (leb (suc i) (length cs)) refl
 
 -- ---- one tick
 
+-- the tables of as many drivers
+same_tally : (n m : ℕ) (ds cs : List ℕ) (t : Tally) → Some n ≡ Some m → tally ds cs n ≡ t → tally ds cs m ≡ t
+same_tally n m ds cs t k e = let z : n ≡ m = cc in subst (λ (x : ℕ). tally ds cs x ≡ t) z e
+
 -- none
-pub counts_none : (ds cs : List ℕ) (n : ℕ) → n ≤ most_drivers → Counts [] ds cs n ds cs n
+pub counts_none : (ds cs : List ℕ) (n : ℕ) → n ≤ most_drivers → Counts [] ds cs n ds cs (Some n)
 unfolding each
-counts_none ds cs n l = record { most = omega (arith, l); few = λ k. refl; many = λ k. absurd (omega (arith, k, l)); low = λ b h. up_more b (b + 0) cs (omega arith) h }
+counts_none ds cs n l = record { most = λ m k. let z : n ≡ m = cc in omega (arith, l, z); few = λ m k. same_tally n m ds cs _ k refl; many = λ k. cc; low = λ b h. up_more b (b + 0) cs (omega arith) h }
 
 -- nobody's
-pub counts_nobody : (ds cs cs₁ : List ℕ) (n : ℕ) (s : Share) → n ≤ most_drivers → s ≡ unassigned → cs₁ ≡ more cs 0 → Counts (s ∷ []) ds cs n ds cs₁ n
+pub counts_nobody : (ds cs cs₁ : List ℕ) (n : ℕ) (s : Share) → n ≤ most_drivers → s ≡ unassigned → cs₁ ≡ more cs 0 → Counts (s ∷ []) ds cs n ds cs₁ (Some n)
 unfolding each tallied tally
 counts_nobody ds cs cs₁ n s l e q =
     record {
-      most = omega (arith, l);
-      few = λ k. (λ j. record { drivers = take n ds; counts = q j }) ∙ ap (λ (x : Share). tallied (record { drivers = take n ds; counts = cs }) x) (sym e);
-      many = λ k. absurd (omega (arith, k, l));
+      most = λ m k. let z : n ≡ m = cc in omega (arith, l, z);
+      few = λ m k. same_tally n m ds cs₁ _ k ((λ j. record { drivers = take n ds; counts = q j }) ∙ ap (λ (x : Share). tallied (record { drivers = take n ds; counts = cs }) x) (sym e));
+      many = λ k. cc;
       low = λ b h. subst (UpTo (b + 1)) (sym q) (up_one b cs 0 h);
     }
 
@@ -129,31 +134,31 @@ module _ (ds cs : List ℕ) (n d a p : ℕ) (few_n : n ≤ most_drivers) (long :
       go true e = absurd (let z = place_in d (take n ds) e in let t = taken in omega (arith, z, t, ep, l))
       go false e = refl
 
-  pub assign_old : p < n → (cs₁ : List ℕ) → cs₁ ≡ more cs (1 + 4 * p + a) → Counts (assigned d a ∷ []) ds cs n ds cs₁ n
+  pub assign_old : p < n → (cs₁ : List ℕ) → cs₁ ≡ more cs (1 + 4 * p + a) → Counts (assigned d a ∷ []) ds cs n ds cs₁ (Some n)
   unfolding each tallied tally
   assign_old l cs₁ q =
       let w = with_old l in
       let z : cs₁ ≡ more cs (1 + 4 * place d (take n ds) + a) = q ∙ ap (λ (k : ℕ). more cs (1 + 4 * k + a)) ep in
       record {
-        most = omega (arith, few_n);
-        few = λ k. λ j. record { drivers = sym w j; counts = z j };
-        many = λ k. absurd (omega (arith, k, few_n));
+        most = λ m k. let x : n ≡ m = cc in omega (arith, few_n, x);
+        few = λ m k. same_tally n m ds cs₁ _ k (λ j. record { drivers = sym w j; counts = z j });
+        many = λ k. cc;
         low = λ b h. subst (UpTo (b + 1)) (sym q) (up_one b cs (1 + 4 * p + a) h);
       }
 
-  pub assign_full : n ≤ p → n ≡ most_drivers → Counts (assigned d a ∷ []) ds cs n ds cs (suc most_drivers)
+  pub assign_full : n ≤ p → n ≡ most_drivers → Counts (assigned d a ∷ []) ds cs n ds cs None
   unfolding each tallied tally
   assign_full l e =
       let w = ap (λ (x : List ℕ). length x) (with_new l) in
       let t = taken in
       record {
-        most = omega arith;
-        few = λ k. absurd (omega (arith, k));
+        most = λ m k. cc;
+        few = λ m k. cc;
         many = λ k. let u = length-append (take n ds) (d ∷ []) in omega (arith, w, t, e, u);
         low = λ b h. up_more b (b + 1) cs (omega arith) h;
       }
 
-  pub assign_new : n ≤ p → (n ≡ most_drivers → ⊥) → (ds₁ cs₁ : List ℕ) → ds₁ ≡ set ds n d → cs₁ ≡ more cs (1 + 4 * p + a) → Counts (assigned d a ∷ []) ds cs n ds₁ cs₁ (n + 1)
+  pub assign_new : n ≤ p → (n ≡ most_drivers → ⊥) → (ds₁ cs₁ : List ℕ) → ds₁ ≡ set ds n d → cs₁ ≡ more cs (1 + 4 * p + a) → Counts (assigned d a ∷ []) ds cs n ds₁ cs₁ (Some (n + 1))
   unfolding each tallied tally
   assign_new l e ds₁ cs₁ f q =
       let w = with_new l in
@@ -162,9 +167,9 @@ module _ (ds cs : List ℕ) (n d a p : ℕ) (few_n : n ≤ most_drivers) (long :
       let z : cs₁ ≡ more cs (1 + 4 * place d (take n ds) + a) = q ∙ ap (λ (k : ℕ). more cs (1 + 4 * k + a)) ep in
       let y : take (n + 1) ds₁ ≡ with_driver (take n ds) d = t ∙ sym w in
       record {
-        most = omega (arith, e, few_n);
-        few = λ k. λ j. record { drivers = y j; counts = z j };
-        many = λ k. absurd (omega (arith, k, e, few_n));
+        most = λ m k. let x : n + 1 ≡ m = cc in omega (arith, e, few_n, x);
+        few = λ m k. same_tally (n + 1) m ds₁ cs₁ _ k (λ j. record { drivers = y j; counts = z j });
+        many = λ k. cc;
         low = λ b h. subst (UpTo (b + 1)) (sym q) (up_one b cs (1 + 4 * p + a) h);
       }
 
@@ -244,7 +249,7 @@ none_left (assigned d a) q = absurd (true≢false q)
 pub unassigned_there : (s : List ℕ) (outs k driver activity : ℕ) (t : Bool) → t ≡ is_assigned (share_there s outs k driver activity) → t ≡ false → share_there s outs k driver activity ≡ unassigned
 unassigned_there s outs k driver activity t e h = none_left (share_there s outs k driver activity) (sym e ∙ h)
 
-pub counts_as : (s s₁ : Share) (ds cs : List ℕ) (n : ℕ) (ds₁ cs₁ : List ℕ) (r : ℕ) → s ≡ s₁ → Counts (s₁ ∷ []) ds cs n ds₁ cs₁ r → Counts (s ∷ []) ds cs n ds₁ cs₁ r
+pub counts_as : (s s₁ : Share) (ds cs : List ℕ) (n : ℕ) (ds₁ cs₁ : List ℕ) (r : Option ℕ) → s ≡ s₁ → Counts (s₁ ∷ []) ds cs n ds₁ cs₁ r → Counts (s ∷ []) ds cs n ds₁ cs₁ r
 counts_as s s₁ ds cs n ds₁ cs₁ r e h = subst (λ (x : Share). Counts (x ∷ []) ds cs n ds₁ cs₁ r) (sym e) h
 
 -- ---- one record
@@ -263,7 +268,7 @@ stop_shown outs s at b x e h = sym e ∙ h
 
 module _ (outs : ℕ) (s : List ℕ) (at : ℕ) (f : Fits outs s at) (b : Bool) (e : b ≡ eqb (stop_in (drop at (words s))) 0) (driver activity : ℕ) (ds cs : List ℕ) (n : ℕ) where
   pub record_shown :
-      b ≡ true → (k : ℕ) → k ≡ at + shown_at (drop at (words s)) → driver < outs → activity < outs → (ds₁ cs₁ : List ℕ) (r : ℕ) →
+      b ≡ true → (k : ℕ) → k ≡ at + shown_at (drop at (words s)) → driver < outs → activity < outs → (ds₁ cs₁ : List ℕ) (r : Option ℕ) →
       Counts (share_there s outs k driver activity ∷ []) ds cs n ds₁ cs₁ r → Counts (shares driver activity (record_at outs (drop at (words s)) ∷ [])) ds cs n ds₁ cs₁ r
   unfolding share_there
   record_shown h k ek ld la ds₁ cs₁ r q =
@@ -272,8 +277,8 @@ module _ (outs : ℕ) (s : List ℕ) (at : ℕ) (f : Fits outs s at) (b : Bool) 
       ∙ (λ j. share (value_there outs s at e h ek f driver ld j) (value_there outs s at e h ek f activity la j) ∷ []) in
       subst (λ (ss : List Share). Counts ss ds cs n ds₁ cs₁ r) (sym w) q
 
-  pub record_stopped : b ≡ false → n ≤ most_drivers → Counts (shares driver activity (record_at outs (drop at (words s)) ∷ [])) ds cs n ds cs n
-  record_stopped h l = subst (λ (ss : List Share). Counts ss ds cs n ds cs n) (sym (shares_stopped driver activity (record_at outs (drop at (words s))) (stop_shown outs s at b false e h))) (counts_none ds cs n l)
+  pub record_stopped : b ≡ false → n ≤ most_drivers → Counts (shares driver activity (record_at outs (drop at (words s)) ∷ [])) ds cs n ds cs (Some n)
+  record_stopped h l = subst (λ (ss : List Share). Counts ss ds cs n ds cs (Some n)) (sym (shares_stopped driver activity (record_at outs (drop at (words s))) (stop_shown outs s at b false e h))) (counts_none ds cs n l)
 
 -- ---- all records
 
@@ -318,7 +323,7 @@ unfolding count_left count_whole records_left
 count_begins outs s driver activity ds cs = refl
 
 module _ (outs : ℕ) (s : List ℕ) (driver activity at t : ℕ) (ds cs : List ℕ) (n : ℕ) (target : Tally) (h : at < length s / 8) (w : Left outs s at t)
-    (inv : count_left outs s driver activity at t ds cs n ≡ target) (ds₁ cs₁ : List ℕ) (r : ℕ) (q : Counts (shares driver activity (record_at outs (drop at (words s)) ∷ [])) ds cs n ds₁ cs₁ r) where
+    (inv : count_left outs s driver activity at t ds cs n ≡ target) (ds₁ cs₁ : List ℕ) (r : Option ℕ) (q : Counts (shares driver activity (record_at outs (drop at (words s)) ∷ [])) ds cs n ds₁ cs₁ r) where
   abbrev this : List Share
   this = shares driver activity (record_at outs (drop at (words s)) ∷ [])
 
@@ -335,11 +340,11 @@ module _ (outs : ℕ) (s : List ℕ) (driver activity at t : ℕ) (ds cs : List 
       ∙ each_more (tally ds cs n) this (shares driver activity (records_left outs s x (t + 1))))
       ∙ inv
 
-  pub count_next : r ≤ most_drivers → {m x : ℕ} → m ≡ size → x ≡ at + m → count_left outs s driver activity x (t + 1) ds₁ cs₁ r ≡ target
+  pub count_next : (k : ℕ) → r ≡ Some k → {m x : ℕ} → m ≡ size → x ≡ at + m → count_left outs s driver activity x (t + 1) ds₁ cs₁ k ≡ target
   unfolding count_left
-  count_next l {x = x} em ex = ap (λ (u : Tally). each tallied u (shares driver activity (records_left outs s x (t + 1)))) (q.few l) ∙ parted em ex
+  count_next k l {x = x} em ex = ap (λ (u : Tally). each tallied u (shares driver activity (records_left outs s x (t + 1)))) (q.few k l) ∙ parted em ex
 
-  pub count_over : most_drivers < r → most_drivers < length target.drivers
+  pub count_over : r ≡ None → most_drivers < length target.drivers
   count_over l =
       let a = q.many l in
       let b = all_grows (shares driver activity (records_left outs s (at + size) (t + 1))) (each tallied (tally ds cs n) this) in
@@ -349,18 +354,18 @@ module _ (outs : ℕ) (s : List ℕ) (driver activity at t : ℕ) (ds cs : List 
   pub count_low : UpTo t cs → UpTo (t + 1) cs₁
   count_low u = let k = shares_few driver activity (record_at outs (drop at (words s))) in up_more (t + length (shares driver activity (record_at outs (drop at (words s)) ∷ []))) (t + 1) cs₁ (omega (arith, k)) (q.low t u)
 
-pub count_stopped : (outs : ℕ) (s : List ℕ) (driver activity : ℕ) (ds cs ds₁ cs₁ : List ℕ) (r : ℕ) → r ≤ suc most_drivers → most_drivers < r → most_drivers < length (count_whole outs s driver activity ds cs).drivers → CountsAll (shares driver activity (records_in outs most_ticks (words s))) ds cs ds₁ cs₁ r
+pub count_stopped : (outs : ℕ) (s : List ℕ) (driver activity : ℕ) (ds cs ds₁ cs₁ : List ℕ) (r : Option ℕ) → r ≡ None → most_drivers < length (count_whole outs s driver activity ds cs).drivers → CountsAll (shares driver activity (records_in outs most_ticks (words s))) ds cs ds₁ cs₁ r
 unfolding count_whole
-count_stopped outs s driver activity ds cs ds₁ cs₁ r m l k = record { most = m; few = λ z. absurd (omega (arith, z, l)); many = λ z. k; low = λ z. absurd (omega (arith, z, l)) }
+count_stopped outs s driver activity ds cs ds₁ cs₁ r e k = record { most = λ m z. cc; few = λ m z. cc; many = λ z. k; low = λ m z. cc }
 
 pub count_done :
     (outs : ℕ) (s : List ℕ) (driver activity at t : ℕ) (ds cs ds₁ cs₁ : List ℕ) (n : ℕ) → length s / 8 ≤ at → n ≤ most_drivers → t ≤ above_all → UpTo t cs₁ →
-    count_left outs s driver activity at t ds₁ cs₁ n ≡ count_whole outs s driver activity ds cs → CountsAll (shares driver activity (records_in outs most_ticks (words s))) ds cs ds₁ cs₁ n
+    count_left outs s driver activity at t ds₁ cs₁ n ≡ count_whole outs s driver activity ds cs → CountsAll (shares driver activity (records_in outs most_ticks (words s))) ds cs ds₁ cs₁ (Some n)
 unfolding count_left count_whole each
 count_done outs s driver activity at t ds cs ds₁ cs₁ n h l m u e =
     record {
-      most = omega (arith, l);
-      few = λ z. sym (ap (λ (rs : List LogRecord). each tallied (tally ds₁ cs₁ n) (shares driver activity rs)) (records_over outs s at t h) ∙ ap (each tallied (tally ds₁ cs₁ n)) (no_shares driver activity)) ∙ e;
-      many = λ z. absurd (omega (arith, z, l));
-      low = λ z. up_more t above_all cs₁ m u;
+      most = λ k z. let x : n ≡ k = cc in omega (arith, l, x);
+      few = λ k z. same_tally n k ds₁ cs₁ _ z (sym (ap (λ (rs : List LogRecord). each tallied (tally ds₁ cs₁ n) (shares driver activity rs)) (records_over outs s at t h) ∙ ap (each tallied (tally ds₁ cs₁ n)) (no_shares driver activity)) ∙ e);
+      many = λ z. cc;
+      low = λ k z. up_more t above_all cs₁ m u;
     }

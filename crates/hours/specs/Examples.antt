@@ -1,5 +1,5 @@
 -- Reports, computed: a row for each sentence of document 02's K3.
-use Rattle.std.specs.Prelude.{ℕ, ◌+◌, ◌-◌, ◌*◌, ◌^◌, ◌≡◌, refl, List, [], ◌∷◌, ◌++◌, map, replicate}
+use Rattle.std.specs.Prelude.{ℕ, ◌-◌, ◌*◌, ◌^◌, ◌≡◌, refl, List, [], ◌∷◌, ◌++◌, map, replicate}
 use Rattle.words.specs.Words.{bytes}
 use Rattle.model.specs.Base.{joined, from, base_opened}
 use Rattle.model.specs.Answer.{model_opened}

@@ -1,6 +1,6 @@
 -- How the ticks of each driver are counted in one pass, and written down: what the contracts of the code cite.
 use Rattle.words.specs.Words.{words}
-use Rattle.std.specs.Prelude.{ℕ, suc, ◌+◌, ◌*◌, ◌≤◌, ◌<◌, ◌≡◌, Bool, true, false, List, [], ◌∷◌, ◌++◌, eqb, length, get_or, set, take}
+use Rattle.std.specs.Prelude.{ℕ, suc, ◌+◌, ◌*◌, ◌≤◌, ◌<◌, ◌≡◌, Bool, true, false, Option, Some, None, List, [], ◌∷◌, ◌++◌, eqb, length, get_or, set, take}
 use Rattle.words.specs.Slices.{Slice, before, after}
 use Rattle.model.specs.Base.{if◌then◌otherwise◌, each, snoc, among}
 use Rattle.model.specs.Script.{most_ticks}
@@ -63,25 +63,25 @@ Known drivers n = (n ≤ most_drivers) × (length drivers ≡ most_drivers)
 abbrev pub Named : ℕ → ℕ → ℕ → Type 0
 Named outs driver activity = (outs ≤ most_outputs) × (driver < outs) × (activity < outs)
 
--- What counting some ticks does to the two tables: r drivers now, or 33 where a 33rd appeared.
-pub record Counts (ss : List Share) (ds cs : List ℕ) (n : ℕ) (ds' cs' : List ℕ) (r : ℕ) : Type 0 where
-  pub most : r ≤ suc most_drivers
-  pub few : r ≤ most_drivers → tally ds' cs' r ≡ each tallied (tally ds cs n) ss
-  pub many : most_drivers < r → most_drivers < length (each tallied (tally ds cs n) ss).drivers
+-- What counting some ticks does to the two tables: r tells how many drivers there are now, or that a 33rd appeared.
+pub record Counts (ss : List Share) (ds cs : List ℕ) (n : ℕ) (ds' cs' : List ℕ) (r : Option ℕ) : Type 0 where
+  pub most : (m : ℕ) → r ≡ Some m → m ≤ most_drivers
+  pub few : (m : ℕ) → r ≡ Some m → tally ds' cs' m ≡ each tallied (tally ds cs n) ss
+  pub many : r ≡ None → most_drivers < length (each tallied (tally ds cs n) ss).drivers
   pub low : (b : ℕ) → UpTo b cs → UpTo (b + length ss) cs'
 
 -- The same of all ticks of a log, from no driver on.
-pub record CountsAll (ss : List Share) (ds cs ds' cs' : List ℕ) (r : ℕ) : Type 0 where
-  pub most : r ≤ suc most_drivers
-  pub few : r ≤ most_drivers → tally ds' cs' r ≡ each tallied (tally ds cs 0) ss
-  pub many : most_drivers < r → most_drivers < length (each tallied (tally ds cs 0) ss).drivers
-  pub low : r ≤ most_drivers → UpTo above_all cs'
+pub record CountsAll (ss : List Share) (ds cs ds' cs' : List ℕ) (r : Option ℕ) : Type 0 where
+  pub most : (m : ℕ) → r ≡ Some m → m ≤ most_drivers
+  pub few : (m : ℕ) → r ≡ Some m → tally ds' cs' m ≡ each tallied (tally ds cs 0) ss
+  pub many : r ≡ None → most_drivers < length (each tallied (tally ds cs 0) ss).drivers
+  pub low : (m : ℕ) → r ≡ Some m → UpTo above_all cs'
 
 -- of a contract's slices
-abbrev pub Counted : List Share → Slice → Slice → ℕ → ℕ → Type 0
+abbrev pub Counted : List Share → Slice → Slice → ℕ → Option ℕ → Type 0
 Counted ss drivers counts n r = Counts ss (before drivers) (before counts) n (after drivers) (after counts) r
 
-abbrev pub AllCounted : List Share → Slice → Slice → ℕ → Type 0
+abbrev pub AllCounted : List Share → Slice → Slice → Option ℕ → Type 0
 AllCounted ss drivers counts r = CountsAll ss (before drivers) (before counts) (after drivers) (after counts) r
 
 -- whom the ticks of a log are assigned to, where the circuit has so many outputs

@@ -27,12 +27,10 @@ fn place(drivers: &[u64], n: usize, d: u64) -> usize
     requires { Known drivers.now n }
     ensures { (result ≡ place d (take n drivers.now)) × (result ≤ n) }
 {
-    let mut i: usize = 0;
-    while i < n {
+    for i in 0..n {
         if drivers[i] == d {
             return i;
         }
-        i += 1;
     }
     n
 }
@@ -45,22 +43,22 @@ fn more(counts: &mut [u64], i: usize)
     counts[i] += 1;
 }
 
-// A tick of driver d in activity a; n drivers so far. The drivers afterwards, or 33 where it is one too many.
-fn assign(drivers: &mut [u64], counts: &mut [u64], n: usize, d: u64, a: usize) -> usize
+// A tick of driver d in activity a; n drivers so far. How many there are then, if it is not one too many.
+fn assign(drivers: &mut [u64], counts: &mut [u64], n: usize, d: u64, a: usize) -> Option<usize>
     requires { Known drivers.old n × Few counts.old × (a ≤ last_activity) }
     ensures { Counted (assigned d a ∷ []) (drivers.old, drivers.new) (counts.old, counts.new) n result }
 {
     let p = place(drivers, n, d);
     if p < n {
         more(counts, 1 + 4 * p + a);
-        return n;
+        return Some(n);
     }
     if n == MOST_DRIVERS {
-        return MOST_DRIVERS + 1;
+        return None;
     }
     drivers[n] = d;
     more(counts, 1 + 4 * p + a);
-    n + 1
+    Some(n + 1)
 }
 
 // Whether both outputs show an Int, the activity one of 0 to 3. The kinds of the outputs stand from word k on, and their contents behind them.
@@ -87,7 +85,7 @@ fn count_tick(
     drivers: &mut [u64],
     counts: &mut [u64],
     n: usize,
-) -> usize
+) -> Option<usize>
     requires named { Named outs driver activity × HasWords log.now k (outs + outs) }
     requires known { Known drivers.old n × Few counts.old }
     ensures { Counted (share_there log.now outs k driver activity ∷ []) (drivers.old, drivers.new) (counts.old, counts.new) n result }
@@ -98,7 +96,7 @@ fn count_tick(
         return assign(drivers, counts, n, d, a);
     }
     more(counts, 0);
-    n
+    Some(n)
 }
 
 // The record at word `at`; a stopped one is no tick.
@@ -111,7 +109,7 @@ fn count_record(
     drivers: &mut [u64],
     counts: &mut [u64],
     n: usize,
-) -> usize
+) -> Option<usize>
     requires named { Named outs driver activity × Fits outs log.now at }
     requires known { Known drivers.old n × Few counts.old }
     ensures { Counted (shares driver activity (record_at outs (drop at (words log.now)) ∷ [])) (drivers.old, drivers.new) (counts.old, counts.new) n result }
@@ -120,10 +118,10 @@ fn count_record(
         let k = shown_at(log, at);
         return count_tick(log, k, outs, driver, activity, drivers, counts, n);
     }
-    n
+    Some(n)
 }
 
-// All records of a whole log, tick by tick; 33 as soon as there is one driver too many.
+// All records of a whole log, tick by tick: how many drivers there are, or none as soon as there is one too many.
 pub fn count_all(
     log: &[u8],
     outs: usize,
@@ -131,7 +129,7 @@ pub fn count_all(
     activity: usize,
     drivers: &mut [u64],
     counts: &mut [u64],
-) -> usize
+) -> Option<usize>
     requires named { Named outs driver activity × WholeLog outs log.now }
     requires known { Known drivers.old 0 × (length counts.old ≡ most_counts) × UpTo 0 counts.old }
     ensures { AllCounted (shares_of outs driver activity log.now) (drivers.old, drivers.new) (counts.old, counts.new) result }
@@ -141,12 +139,9 @@ pub fn count_all(
     let mut tick: u64 = 1;
     let mut n: usize = 0;
     while at < size {
-        n = count_record(log, at, outs, driver, activity, drivers, counts, n);
-        if MOST_DRIVERS < n {
-            return n;
-        }
+        n = count_record(log, at, outs, driver, activity, drivers, counts, n)?;
         at += record_size(log, at, size - at, outs);
         tick += 1;
     }
-    n
+    Some(n)
 }

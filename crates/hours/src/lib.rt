@@ -59,10 +59,9 @@ fn write_hours(
 {
     let mut drivers = [0u64; MOST_DRIVERS];
     let mut counts = [0u64; MOST_COUNTS];
-    let n = count_all(log, outs, driver, activity, &mut drivers, &mut counts);
-    if MOST_DRIVERS < n {
+    let Some(n) = count_all(log, outs, driver, activity, &mut drivers, &mut counts) else {
         return 0;
-    }
+    };
     let size = 8 * (DRIVER * n + LINE);
     if report.len() < size {
         return 0;

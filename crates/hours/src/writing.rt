@@ -41,11 +41,16 @@ fn write_driver(report: &mut [u8], i: usize, d: u64, counts: &[u64], len: u64)
     ensures { Filled report.old report.new (driver_size * i) (driver_rows len d counts.now i) }
 {
     let k = 1 + 4 * i;
-    let p = DRIVER * i;
-    write_line(report, p, 1, d, 0, spent(counts, k, len));
-    write_line(report, p + LINE, 1, d, 1, spent(counts, k + 1, len));
-    write_line(report, p + 2 * LINE, 1, d, 2, spent(counts, k + 2, len));
-    write_line(report, p + 3 * LINE, 1, d, 3, spent(counts, k + 3, len));
+    for a in 0..4 {
+        write_line(
+            report,
+            DRIVER * i + LINE * a,
+            1,
+            d,
+            a as u64,
+            spent(counts, k + a, len),
+        );
+    }
 }
 
 // The whole report of n drivers.
@@ -54,10 +59,8 @@ pub fn write_report(report: &mut [u8], drivers: &[u64], n: usize, counts: &[u64]
     requires few { Few counts.now × (len ≤ longest) }
     ensures { Filled report.old report.new 0 (rows_from len counts.now 0 (take n drivers.now)) }
 {
-    let mut i: usize = 0;
-    while i < n {
+    for i in 0..n {
         write_driver(report, i, drivers[i], counts, len);
-        i += 1;
     }
     write_line(report, DRIVER * n, 0, 0, 0, spent(counts, 0, len));
 }

@@ -2,13 +2,14 @@
 use mathlib.Core.Path.{◌≡◌, refl, sym, ap, ◌∙◌}
 use mathlib.Core.Bool.{Bool, true, false, ◌&&◌}
 use mathlib.Core.List.{List}
-use mathlib.Core.Logic.{◌⊎◌, inl, inr}
 use mathlib.Core.Option.{none}
+use Rattle.std.specs.Prelude.{Some, None}
 use Prim.Native.Nat.{ℕ, zero, suc, ◌+◌, ◌-◌, ◌/◌, ◌%◌, ◌≤◌, ◌<◌}
 use native.Mathlib.Omega.{arith}
 use lib.ListN.{length, drop}
 use lib.Seq.{drop-drop}
-use borrow.Author.Tests.{eq-eqb, ne_eqb}
+use lib.Dec.{eqb}
+use borrow.Author.Tests.{eq-eqb, ne_eqb, eqb-true, eqb-false}
 use Rattle.words.specs.Words.{words}
 use Rattle.model.specs.Base.{if◌then◌otherwise◌}
 use Rattle.model.specs.Circuit.{Circuit, circuit}
@@ -21,8 +22,8 @@ use Rattle.circuit.proofs.Order.{first_number, later_number}
 use Rattle.circuit.proofs.Theorems.{links_are_circuit}
 use Rattle.records.specs.Whole.{good_record, whole_from, whole, not_whole, log_refusal}
 use Rattle.whole.specs.Asked.{size_if_good, Asked}
-use Rattle.walk.proofs.Walk.{size_least}
 use Rattle.walk.proofs.Walk.{room_is}
+use Rattle.whole.proofs.Records.{says}
 
 module _ (c : Circuit) where
   -- no record is whole
@@ -36,15 +37,24 @@ module _ (c : Circuit) where
   unfolding whole_from
   one_more n t ws z = rw (ne_eqb (length ws) 0 z, whole_from)
 
-  -- the size of a good record is not 0
-  sized : (t : ℕ) (ws : List ℕ) (n : ℕ) → n ≡ size_if_good c t ws → ((n ≡ 0) × (good_record c t ws ≡ false)) ⊎ ((n ≡ record_size (length c.outputs) ws) × (good_record c t ws ≡ true))
+  -- they begin with a good record of n words
+  sized : (t : ℕ) (ws : List ℕ) (n : ℕ) → Some n ≡ size_if_good c t ws → (n ≡ record_size (length c.outputs) ws) × (good_record c t ws ≡ true)
   unfolding size_if_good if◌then◌otherwise◌
   sized t ws n e = go (good_record c t ws) refl e
     where
-      go : (b : Bool) → good_record c t ws ≡ b → n ≡ (if b then record_size (length c.outputs) ws otherwise 0)
-          → ((n ≡ 0) × (good_record c t ws ≡ false)) ⊎ ((n ≡ record_size (length c.outputs) ws) × (good_record c t ws ≡ true))
-      go true q f = inr (f, q)
-      go false q f = inl (f, q)
+      go : (b : Bool) → good_record c t ws ≡ b → Some n ≡ (if b then Some (record_size (length c.outputs) ws) otherwise None)
+          → (n ≡ record_size (length c.outputs) ws) × (good_record c t ws ≡ true)
+      go true q f = let z : n ≡ record_size (length c.outputs) ws = cc in (z, q)
+      go false q f = cc
+
+  -- they begin with none
+  unsized : (t : ℕ) (ws : List ℕ) → None ≡ size_if_good c t ws → good_record c t ws ≡ false
+  unfolding size_if_good if◌then◌otherwise◌
+  unsized t ws e = go (good_record c t ws) refl e
+    where
+      go : (b : Bool) → good_record c t ws ≡ b → None ≡ (if b then Some (record_size (length c.outputs) ws) otherwise None) → good_record c t ws ≡ false
+      go true q f = cc
+      go false q f = q
 
 module _ (c : Circuit) (s : List ℕ) where
   pub odd_bytes : (length s % 8 ≡ 0 → ⊥) → false ≡ whole c s
@@ -74,7 +84,7 @@ module _ (c : Circuit) (s : List ℕ) where
         let q : whole_from c (suc most_ticks - t) t (drop at (words s)) ≡ false = rw p (ne_eqb (length (drop at (words s))) 0 some_left) in
         sym q ∙ e
 
-    module _ (h : t ≤ most_ticks) (n : ℕ) (en : n ≡ size_if_good c t (drop at (words s))) where
+    module _ (h : t ≤ most_ticks) where
       step : left_whole at t ≡ (good_record c t (drop at (words s)) && whole_from c (suc most_ticks - (t + 1)) (t + 1) (drop (record_size (length c.outputs) (drop at (words s))) (drop at (words s))))
       unfolding left_whole
       step =
@@ -84,23 +94,28 @@ module _ (c : Circuit) (s : List ℕ) where
           ∙ one_more c (suc most_ticks - (t + 1)) t (drop at (words s)) some_left
           ∙ ap (λ (x : ℕ). good_record c t (drop at (words s)) && whole_from c (suc most_ticks - (t + 1)) x (drop (record_size (length c.outputs) (drop at (words s))) (drop at (words s)))) q
 
-      pub no_record : n ≡ 0 → false ≡ whole c s
-      no_record z = go (sized c t (drop at (words s)) n en)
-        where
-          go : ((n ≡ 0) × (good_record c t (drop at (words s)) ≡ false)) ⊎ ((n ≡ record_size (length c.outputs) (drop at (words s))) × (good_record c t (drop at (words s)) ≡ true)) → false ≡ whole c s
-          go (inl q) = sym (step ∙ rw q.1) ∙ e
-          go (inr q) = absurd (let l = (size_least (length c.outputs) (drop at (words s))).0 in omega (arith, z, q.0, l))
+      pub no_record : None ≡ size_if_good c t (drop at (words s)) → false ≡ whole c s
+      no_record z = let q = unsized c t (drop at (words s)) z in sym (step ∙ rw q) ∙ e
 
-      pub record_passed : (n ≡ 0 → ⊥) → left_whole (at + n) (t + 1) ≡ whole c s
-      unfolding left_whole
-      record_passed z = go (sized c t (drop at (words s)) n en)
-        where
-          go : ((n ≡ 0) × (good_record c t (drop at (words s)) ≡ false)) ⊎ ((n ≡ record_size (length c.outputs) (drop at (words s))) × (good_record c t (drop at (words s)) ≡ true))
-              → whole_from c (suc most_ticks - (t + 1)) (t + 1) (drop (at + n) (words s)) ≡ whole c s
-          go (inl q) = absurd (z q.0)
-          go (inr q) =
-              let d : drop (record_size (length c.outputs) (drop at (words s))) (drop at (words s)) ≡ drop (at + n) (words s) = ap (λ (x : ℕ). drop x (drop at (words s))) (sym q.0) ∙ drop-drop n at (words s) in
-              sym (step ∙ rw (q.1, d)) ∙ e
+      module _ (n : ℕ) (en : Some n ≡ size_if_good c t (drop at (words s))) where
+        pub record_passed : left_whole (at + n) (t + 1) ≡ whole c s
+        unfolding left_whole
+        record_passed =
+            let q = sized c t (drop at (words s)) n en in
+            let d : drop (record_size (length c.outputs) (drop at (words s))) (drop at (words s)) ≡ drop (at + n) (words s) = ap (λ (x : ℕ). drop x (drop at (words s))) (sym q.0) ∙ drop-drop n at (words s) in
+            sym (step ∙ rw (q.1, d)) ∙ e
+
+        -- it is in the log
+        pub record_within : at + n ≤ length s / 8
+        record_within = let q = sized c t (drop at (words s)) n en in let f = (says c t (drop at (words s)) q.1).fits in omega (arith, q.0, f, room_is s at, l)
+
+  -- no tick is left
+  pub at_end : (at t n : ℕ) → n ≡ length s / 8 → at ≤ length s / 8 → left_whole at t ≡ whole c s → most_ticks < t → eqb at n ≡ whole c s
+  at_end at t n m l e h = go (eqb at n) refl
+    where
+      go : (b : Bool) → eqb at n ≡ b → b ≡ whole c s
+      go true q = let z = eqb-true at n q in all_passed at t e (omega arith)
+      go false q = let z = eqb-false at n q in too_many at t e (omega arith) h
 
 -- ---- what a reader has asked
 

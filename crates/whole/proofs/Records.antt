@@ -2,6 +2,7 @@
 use mathlib.Core.Path.{◌≡◌, sym, ap, ◌∙◌}
 use mathlib.Core.Bool.{Bool, true, false, not, true≢false}
 use mathlib.Core.List.{List}
+use Rattle.std.specs.Prelude.{Some, None}
 use Prim.Native.Nat.{ℕ, ◌+◌, ◌-◌, ◌*◌, ◌/◌, ◌≤◌, ◌<◌, min}
 use native.Mathlib.Omega.{arith}
 use lib.Dec.{leb, eqb}
@@ -95,22 +96,22 @@ shown_fit c s at p o ep eo fits = omega (arith, ep, eo, fits)
 -- ---- the record
 
 -- what a good record says
-record Says (c : Circuit) (t : ℕ) (ws : List ℕ) : Type 0 where
-  fits : record_size (length c.outputs) ws ≤ length ws
-  head : good_head t ws ≡ true
-  stop : good_stop (stop_in ws) (eqb (record_size (length c.outputs) ws) (length ws)) ≡ true
-  rows : good_rows c ws ≡ true
+pub record Says (c : Circuit) (t : ℕ) (ws : List ℕ) : Type 0 where
+  pub fits : record_size (length c.outputs) ws ≤ length ws
+  pub head : good_head t ws ≡ true
+  pub stop : good_stop (stop_in ws) (eqb (record_size (length c.outputs) ws) (length ws)) ≡ true
+  pub rows : good_rows c ws ≡ true
 
-says : (c : Circuit) (t : ℕ) (ws : List ℕ) → good_record c t ws ≡ true → Says c t ws
+pub says : (c : Circuit) (t : ℕ) (ws : List ℕ) → good_record c t ws ≡ true → Says c t ws
 unfolding good_record
-says c t ws h =
+says c t ws₀ h =
     let a = both_true _ _ h in
     let b = both_true _ _ a.1 in
     let d = both_true _ _ b.1 in
     record { fits = leb-true _ _ a.0; head = b.0; stop = d.0; rows = d.1 }
 
 -- where none begins
-no_size : (c : Circuit) (t : ℕ) (ws : List ℕ) → (Says c t ws → ⊥) → 0 ≡ size_if_good c t ws
+no_size : (c : Circuit) (t : ℕ) (ws : List ℕ) → (Says c t ws → ⊥) → None ≡ size_if_good c t ws
 unfolding size_if_good if◌then◌otherwise◌
 no_size c t ws n = rw (not_so (good_record c t ws) (λ h. n (says c t ws h)))
 
@@ -121,7 +122,7 @@ module _ (c : Circuit) (s : List ℕ) (at t o n : ℕ) (eo : o ≡ length c.outp
   counted : n ≡ min (record_size (length c.outputs) there) (length s / 8 - at + 1)
   counted = en ∙ ap (λ (x : ℕ). min (record_size x there) (length s / 8 - at + 1)) eo
 
-  pub no_fit : length s / 8 - at < n → 0 ≡ size_if_good c t there
+  pub no_fit : length s / 8 - at < n → None ≡ size_if_good c t there
   no_fit h = no_size c t there (λ q. omega (arith, q.fits, counted, room_is s at, h))
 
   module _ (fits : n ≤ length s / 8 - at) where
@@ -133,7 +134,7 @@ module _ (c : Circuit) (s : List ℕ) (at t o n : ℕ) (eo : o ≡ length c.outp
     record_fits l = omega (arith, size_is, fits, l)
 
     module _ (b : Bool) (eb : b ≡ good_head t there) where
-      pub no_head : not b ≡ true → 0 ≡ size_if_good c t there
+      pub no_head : not b ≡ true → None ≡ size_if_good c t there
       no_head h = no_size c t there (λ q. true≢false (sym q.head ∙ no b _ eb h))
 
       module _ (hb : not b ≡ false) where
@@ -147,16 +148,16 @@ module _ (c : Circuit) (s : List ℕ) (at t o n : ℕ) (eo : o ≡ length c.outp
           stopped : d ≡ good_stop (stop_in there) (eqb (record_size (length c.outputs) there) (length there))
           stopped = ed ∙ (λ j. good_stop (ep j) (eqb (size_is j) (sym (room_is s at) j)))
 
-          pub bad_stop : not d ≡ true → 0 ≡ size_if_good c t there
+          pub bad_stop : not d ≡ true → None ≡ size_if_good c t there
           bad_stop h = no_size c t there (λ q. true≢false (sym q.stop ∙ no d _ stopped h))
 
           module _ (hd : not d ≡ false) (f : Bool) (ef : f ≡ good_rows c there) where
-            pub bad_rows : not f ≡ true → 0 ≡ size_if_good c t there
+            pub bad_rows : not f ≡ true → None ≡ size_if_good c t there
             bad_rows h = no_size c t there (λ q. true≢false (sym q.rows ∙ no f _ ef h))
 
-            pub good_sized : not f ≡ false → n ≡ size_if_good c t there
+            pub good_sized : not f ≡ false → Some n ≡ size_if_good c t there
             unfolding size_if_good if◌then◌otherwise◌ good_record
             good_sized hf =
                 let x : leb (record_size (length c.outputs) there) (length there) ≡ true =
                 le-leb (record_size (length c.outputs) there) (length there) (omega (arith, size_is, room_is s at, fits)) in
-                rw (x, yes b _ eb hb, yes d _ stopped hd, yes f _ ef hf) size_is
+                rw (x, yes b _ eb hb, yes d _ stopped hd, yes f _ ef hf) (ap Some size_is)

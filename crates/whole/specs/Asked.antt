@@ -1,5 +1,5 @@
 -- What the functions of this crate answer beside the definition's tests.
-use Rattle.std.specs.Prelude.{ℕ, ◌≡◌, List, length}
+use Rattle.std.specs.Prelude.{ℕ, ◌≡◌, Option, Some, None, List, length}
 use Rattle.words.specs.Words.{words}
 use Rattle.model.specs.Base.{if◌then◌otherwise◌}
 use Rattle.model.specs.Circuit.{Circuit, circuit}
@@ -8,9 +8,9 @@ use Rattle.links.specs.Links.{net}
 use Rattle.circuit.specs.Refusals.{links_after}
 use Rattle.records.specs.Whole.{good_record, log_refusal}
 
--- how many words the good record of tick t has that the words begin with, and 0 where they begin with none
-unfoldable pub size_if_good : Circuit → ℕ → List ℕ → ℕ
-size_if_good c t ws = if good_record c t ws then record_size (length c.outputs) ws otherwise 0
+-- how many words the good record of tick t has that the words begin with, if they begin with one
+unfoldable pub size_if_good : Circuit → ℕ → List ℕ → Option ℕ
+size_if_good c t ws = if good_record c t ws then Some (record_size (length c.outputs) ws) otherwise None
 
 -- What a reader has asked: the number that it is refused with, or 0, and the links `made` of what they were, which then show the circuit.
 pub record Asked (circuit_bytes log links made : List ℕ) (r : ℕ) : Type 0 where

@@ -1,7 +1,7 @@
 // Whether the bytes of a log are whole records of a circuit: what every reader of a log asks first.
 #![tactic(auto)]
 
-ghost use Rattle.std.specs.Prelude.{◌≡◌, ◌+◌, ◌*◌, ◌/◌, ◌≤◌, length};
+ghost use Rattle.std.specs.Prelude.{◌≡◌, ◌*◌, ◌≤◌, length};
 ghost use Rattle.links.specs.Lent.{Linked, net_of};
 ghost use Rattle.records.specs.Whole.{good_rows, whole};
 ghost use Rattle.whole.specs.Lent.{behind, Complete};
@@ -38,26 +38,26 @@ fn good_rows(links: &[usize], log: &[u8], at: usize) -> bool
     good_outputs(links, log, shown_at(log, at), shown_count(links, log, at))
 }
 
-// How many words the good record of this tick has that begins at word `at`, and 0 where none does.
-fn good_record(links: &[usize], log: &[u8], at: usize, tick: u64) -> usize
+// How many words the good record of this tick has that begins at word `at`, if one does.
+fn good_record(links: &[usize], log: &[u8], at: usize, tick: u64) -> Option<usize>
     requires { Linked links.now × (at * 8 ≤ length log.now) }
-    ensures { (result ≡ size_if_good (net_of links.now) tick (behind log.now at)) × (at + result ≤ length log.now / 8) }
+    ensures { result ≡ size_if_good (net_of links.now) tick (behind log.now at) }
 {
     let room = log.len() / 8 - at;
     let size = record_size(log, at, room + 1, links::outputs(links));
     if room < size {
-        return 0;
+        return None;
     }
     if !good_head(log, at, tick) {
-        return 0;
+        return None;
     }
     if !good_stop(stop_in(log, at), size == room) {
-        return 0;
+        return None;
     }
     if !good_rows(links, log, at) {
-        return 0;
+        return None;
     }
-    size
+    Some(size)
 }
 
 // Whether a log is whole records of the circuit of these links.
@@ -69,20 +69,17 @@ pub fn whole(links: &[usize], log: &[u8]) -> bool
         return false;
     }
     let size = log.len() / 8;
-    let mut at: usize = 0;
-    let mut tick: u64 = 1;
-    while at < size {
-        if MOST_TICKS < tick {
-            return false;
+    let mut at = 0;
+    for tick in 1..MOST_TICKS + 1 {
+        if at == size {
+            return true;
         }
-        let n = good_record(links, log, at, tick);
-        if n == 0 {
+        let Some(n) = good_record(links, log, at, tick) else {
             return false;
-        }
+        };
         at += n;
-        tick += 1;
     }
-    true
+    at == size
 }
 
 // What a reader of a log is refused with before it asks anything of its own, or 0: the circuit's own refusals first, then 16. The links are made as the circuit's

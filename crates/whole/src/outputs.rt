@@ -33,12 +33,10 @@ pub fn good_outputs(links: &[usize], log: &[u8], k: usize, n: usize) -> bool
     requires { Linked links.now × (n ≤ length (net links.now).outputs) × HasWords log.now k (2 * n) }
     ensures { result ≡ good_outputs (net_of links.now) (words log.now) k n }
 {
-    let mut i = 0;
-    while i < n {
+    for i in 0..n {
         if !good_output(links, i, get(log, k + i), get(log, k + n + i)) {
             return false;
         }
-        i += 1;
     }
     true
 }

@@ -101,12 +101,10 @@ pub fn good_units(links: &[usize], log: &[u8], k: usize, n: usize) -> bool
     requires { Linked links.now × HasWords log.now k (2 * n) }
     ensures { result ≡ all (good_unit (net_of links.now)) (units_at (words log.now) k n) }
 {
-    let mut i = 0;
-    while i < n {
+    for i in 0..n {
         if !good_unit(links, get(log, k + i), get(log, k + n + i)) {
             return false;
         }
-        i += 1;
     }
     true
 }

@@ -2,11 +2,7 @@ use Rattle.hours.proofs.Passing.{place_left}
 use Rattle.hours.specs.Tally.{place}
 use lib.ListN.{take}
 use mathlib.Core.Path.{◌≡◌}
-use Prim.Native.Nat.{◌≤◌, ◌-◌}
 use Rattle.hours.proofs.counting.place.Given as goal
 
 abbrev pub invariant-loop-i : goal.invariant-loop-i
-invariant-loop-i l = (l.i ≤ l.n) × (place_left l.drivers l.n l.d l.i ≡ place l.d (take l.n l.drivers))
-
-abbrev pub decreases-loop-i : goal.decreases-loop-i
-decreases-loop-i l = l.n - l.i
+invariant-loop-i l = place_left l.drivers l.n l.d l.i ≡ place l.d (take l.n l.drivers)

@@ -1,9 +1,12 @@
-use Rattle.hours.proofs.Lines.{driver_filled}
-use native.Mathlib.Omega.{arith}
+use Rattle.hours.proofs.Lines.{lines_first, lines_next, lines_last}
+use borrow.Author.Rules.{rules}
 use Rattle.hours.proofs.writing.write_driver.Goals as goal
 
-pub spent-requires-4 : goal.spent-requires-4
-spent-requires-4 c = let q = c.requires.i_lt_most_drivers.0 in (c.requires.few.0, omega (arith, q), c.requires.few.1)
+pub loop-a-init : goal.loop-a-init
+loop-a-init c = (search rules, lines_first _ _ _ _ _)
+
+pub loop-a-preserved : goal.loop-a-preserved
+loop-a-preserved c = (search rules, lines_next _ _ _ _ _ c.loop-a.invariant.1 c.spent.ensures c.write_line.ensures)
 
 pub returns : goal.returns
-returns c = let v = c.args in driver_filled v.len v.d v.i v.counts.now _ _ _ _ _ _ _ _ _ c.spent.ensures c.write_line.ensures c.spent-2.ensures c.write_line-2.ensures c.spent-3.ensures c.write_line-3.ensures c.spent-4.ensures c.write_line-4.ensures
+returns c = lines_last _ _ _ _ _ c.loop-a.auto.a-end c.loop-a-test.false c.loop-a.invariant.1

@@ -1,11 +1,7 @@
 use Rattle.hours.proofs.Lines.{Writing}
 use lib.ListN.{length, take}
-use Prim.Native.Nat.{◌≤◌, ◌-◌}
 use mathlib.Core.Path.{◌≡◌}
 use Rattle.hours.proofs.writing.write_report.Given as goal
 
 abbrev pub invariant-loop-i : goal.invariant-loop-i
-invariant-loop-i l = (length l.report ≡ length l.initial.report) × (l.i ≤ l.n) × Writing l.len l.counts (take l.n l.drivers) l.initial.report l.report l.i
-
-abbrev pub decreases-loop-i : goal.decreases-loop-i
-decreases-loop-i l = l.n - l.i
+invariant-loop-i l = (length l.report ≡ length l.initial.report) × Writing l.len l.counts (take l.n l.drivers) l.initial.report l.report l.i

@@ -1,4 +1,3 @@
-use Prim.Native.Nat.{◌≤◌, ◌-◌}
 use mathlib.Core.Path.{◌≡◌}
 use Rattle.words.specs.Words.{words}
 use Rattle.links.specs.Links.{net}
@@ -7,7 +6,4 @@ use Rattle.whole.proofs.Showing.{outputs_left}
 use Rattle.whole.proofs.outputs.good_outputs.Given as goal
 
 abbrev pub invariant-loop-i : goal.invariant-loop-i
-invariant-loop-i l = (l.i ≤ l.n) × (outputs_left (net l.links) l.log l.k l.n l.i ≡ good_outputs (net l.links) (words l.log) l.k l.n)
-
-abbrev pub decreases-loop-i : goal.decreases-loop-i
-decreases-loop-i l = l.n - l.i
+invariant-loop-i l = outputs_left (net l.links) l.log l.k l.n l.i ≡ good_outputs (net l.links) (words l.log) l.k l.n

@@ -1,4 +1,4 @@
-use Prim.Native.Nat.{◌+◌, ◌≤◌, ◌-◌}
+use Prim.Native.Nat.{◌+◌}
 use mathlib.Core.Path.{◌≡◌}
 use Rattle.words.specs.Words.{words}
 use Rattle.model.specs.Record.{listed, units_at}
@@ -9,7 +9,4 @@ use Rattle.records.specs.Whole.{good_unit}
 use Rattle.whole.proofs.units.good_units.Given as goal
 
 abbrev pub invariant-loop-i : goal.invariant-loop-i
-invariant-loop-i l = (l.i ≤ l.n) × (pairs (λ g f. good_unit (net l.links) (listed g f)) l.log l.k (l.k + l.n) l.n l.i ≡ all (good_unit (net l.links)) (units_at (words l.log) l.k l.n))
-
-abbrev pub decreases-loop-i : goal.decreases-loop-i
-decreases-loop-i l = l.n - l.i
+invariant-loop-i l = pairs (λ g f. good_unit (net l.links) (listed g f)) l.log l.k (l.k + l.n) l.n l.i ≡ all (good_unit (net l.links)) (units_at (words l.log) l.k l.n)
