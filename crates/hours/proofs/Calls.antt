@@ -7,12 +7,12 @@ use Rattle.std.specs.Prelude.{Option, Some, None}
 use native.Mathlib.Omega.{arith}
 use borrow.Author.Tests.{not-true, not-false, ltb-true, leb-true, le-leb, lt-leb}
 use lib.Dec.{leb}
-use lib.ListN.{length, set, take, drop, replicate}
+use lib.ListN.{length, set, take, drop}
 use lib.Seq.{length-take-le, take-length}
 use Rattle.words.specs.Words.{words, bytes, Filled}
 use Rattle.words.proofs.Laws.{Below, length_bytes}
 use Rattle.words.proofs.Filling.{filled_bytes}
-use Rattle.model.specs.Base.{if◌then◌otherwise◌, each, joined, among}
+use Rattle.model.specs.Base.{if◌then◌otherwise◌, joined, among}
 use Rattle.model.specs.Circuit.{Circuit, circuit}
 use Rattle.model.specs.Script.{most_ticks}
 use Rattle.model.specs.Record.{LogRecord}
@@ -27,10 +27,12 @@ use Rattle.whole.specs.Asked.{Asked}
 use Rattle.whole.proofs.Passing.{passed}
 use Rattle.walk.specs.Walk.{WholeLog}
 use Rattle.hours.specs.Hours.{Share, shares, drivers, line_words, lines_of, report, report_words, longest, wrong_names, good_names, most_drivers, no_room, has_room, reported, hours}
-use Rattle.hours.specs.Tally.{most_counts, Tally, tallied, tally, UpTo, Named, CountsAll, line_row, driver_rows, rows_from, line_size, driver_size}
+use Rattle.hours.specs.Counted.{CountedAll}
+use Rattle.hours.specs.declared.tally.Tally.{Tally as Kept}
+use Rattle.hours.specs.Tally.{tally, at_start, Named, line_row, driver_rows, rows_from, line_size, driver_size}
 use Rattle.hours.specs.Call.{Call, Left, hours_answer, reply_size, Written, numbers, Right}
 use Rattle.hours.proofs.Counts.{Each, GoodShare}
-use Rattle.hours.proofs.Tallies.{all_zero, at_start, drivers_are, report_is}
+use Rattle.hours.proofs.Tallies.{drivers_are, report_is}
 use Rattle.hours.proofs.Theorems.{shares_good, adds_up}
 
 -- ---- 17
@@ -69,11 +71,6 @@ names_good c driver activity len h =
 
 -- ---- the report
 
--- at the start every count is 0
-pub none_counted : UpTo 0 (replicate most_counts 0)
-unfolding UpTo
-none_counted i = let z = all_zero most_counts i in omega (arith, z)
-
 pub good_shares : (driver activity : ℕ) (rs : List LogRecord) → Each GoodShare (shares driver activity rs)
 unfolding shares
 good_shares driver activity rs = shares_good driver activity (ticks_read rs)
@@ -87,42 +84,34 @@ not_written : (len : ℕ) (ss : List Share) (old : List ℕ) → has_room len (l
 unfolding reported if◌then◌otherwise◌ reply_size buffer_after
 not_written len ss old e = rw e (record { size = refl; buffer = refl })
 
-module _ (len : ℕ) (ss : List Share) (good : Each GoodShare ss) (ds cs ds₁ cs₁ : List ℕ) (r : Option ℕ) (q : CountsAll ss ds cs ds₁ cs₁ r) (ecs : cs ≡ replicate most_counts 0) (long : length ds₁ ≡ most_drivers) (old : List ℕ) where
-  started : tally ds cs 0 ≡ at_start
-  unfolding tally
-  started = λ j. record { drivers = []; counts = ecs j }
-
+module _ (len : ℕ) (ss : List Share) (good : Each GoodShare ss) (r : Option Kept) (q : CountedAll ss r) (old : List ℕ) where
   -- a 33rd driver
   pub too_many : r ≡ None → Written (reported len (length old) ss) old old 0
   unfolding has_room drivers
   too_many l =
       let m = q.many l in
-      let a = ap (λ (t : Tally). length (each tallied t ss).drivers) started in
       let b = ap (λ (x : List ℕ). length x) (drivers_are ss at_start) in
-      not_written len ss old (rw (lt-leb (length (drivers ss)) most_drivers (omega (arith, m, a, b))))
+      not_written len ss old (rw (lt-leb (length (drivers ss)) most_drivers (omega (arith, m, b))))
 
-  module _ (n : ℕ) (er : r ≡ Some n) where
-    abbrev l : n ≤ most_drivers
-    l = q.most n er
-
+  module _ (t : Kept) (er : r ≡ Some t) (l : t.n ≤ most_drivers) (long : length t.drivers ≡ most_drivers) where
     -- the tables give the report
-    tables_report : (rows_from len cs₁ 0 (take n ds₁) ≡ report_words (report len ss)) × (take n ds₁ ≡ drivers ss)
+    tables_report : (rows_from len t.counts 0 (take t.n t.drivers) ≡ report_words (report len ss)) × (take t.n t.drivers ≡ drivers ss)
     unfolding tally
     tables_report =
-        let t = length-take-le n ds₁ (omega (arith, l, long)) in
-        report_is len ss (record { drivers = take n ds₁; counts = cs₁ }) good (q.few n er ∙ ap (λ (t : Tally). each tallied t ss) started) (omega (arith, t, l))
+        let m = length-take-le t.n t.drivers (omega (arith, l, long)) in
+        report_is len ss (record { drivers = take t.n t.drivers; counts = t.counts }) good (q.few t er) (omega (arith, m, l))
 
-    sizes : (length (drivers ss) ≡ n) × (length (report_words (report len ss)) ≡ driver_size * n + line_size)
+    sizes : (length (drivers ss) ≡ t.n) × (length (report_words (report len ss)) ≡ driver_size * t.n + line_size)
     sizes =
         let r = tables_report in
-        let t = length-take-le n ds₁ (omega (arith, l, long)) in
+        let m = length-take-le t.n t.drivers (omega (arith, l, long)) in
         let a = ap (λ (x : List ℕ). length x) r.1 in
         let b = ap (λ (x : List ℕ). length x) r.0 in
-        let d = rows_length len cs₁ 0 (take n ds₁) in
-        (omega (arith, a, t), omega (arith, b, d, t))
+        let d = rows_length len t.counts 0 (take t.n t.drivers) in
+        (omega (arith, a, m), omega (arith, b, d, m))
 
     -- the report does not fit
-    pub too_long : length old < 8 * (driver_size * n + line_size) → Written (reported len (length old) ss) old old 0
+    pub too_long : length old < 8 * (driver_size * t.n + line_size) → Written (reported len (length old) ss) old old 0
     unfolding has_room
     too_long h =
         let z = sizes in
@@ -133,8 +122,8 @@ module _ (len : ℕ) (ss : List Share) (good : Each GoodShare ss) (ds cs ds₁ c
 
     -- it is written
     pub all_written :
-        8 * (driver_size * n + line_size) ≤ length old → (new : List ℕ) → Below 256 old → Below 256 new → Filled old new 0 (rows_from len cs₁ 0 (take n ds₁)) →
-        Written (reported len (length old) ss) old new (8 * (driver_size * n + line_size))
+        8 * (driver_size * t.n + line_size) ≤ length old → (new : List ℕ) → Below 256 old → Below 256 new → Filled old new 0 (rows_from len t.counts 0 (take t.n t.drivers)) →
+        Written (reported len (length old) ss) old new (8 * (driver_size * t.n + line_size))
     unfolding has_room reported if◌then◌otherwise◌ reply_size buffer_after
     all_written h new b₁ b₂ f =
         let z = sizes in

@@ -7,7 +7,7 @@ use Prim.Native.Nat.{ℕ, zero, suc, ◌+◌, ◌-◌, ◌*◌, ◌/◌, ◌≤�
 use native.Mathlib.Nat.{mul-le-mul_right}
 use native.Mathlib.Omega.{arith}
 use lib.Dec.{leb, eqb}
-use lib.ListN.{length, get_or, set, take, drop, length-append}
+use lib.ListN.{length, get_or, set, replicate, take, drop, length-append}
 use lib.Seq.{drop-cons, length-take-le, take-suc-set, set_out}
 use borrow.Author.Tests.{eqb-true, eqb-false, eq-eqb, ne_eqb, leb-true, leb-false}
 use Rattle.words.specs.Words.{words}
@@ -17,12 +17,14 @@ use Rattle.model.specs.Value.{value_of}
 use Rattle.model.specs.Script.{most_ticks}
 use Rattle.model.specs.Record.{LogRecord, stop_in, shown_at, record_size, record_at}
 use Rattle.records.specs.Records.{records_in, ticks_read, shown_in}
-use Rattle.walk.specs.Walk.{Fits, shown_there}
-use Rattle.walk.proofs.Walk.{Left, records_left, records_next, records_over}
+use Rattle.walk.specs.Walk.{Fits, WholeLog, shown_there}
+use Rattle.walk.proofs.Walk.{Left, records_left, records_next, records_over, walk_begins, walk_next, tick_left}
 use Rattle.walk.proofs.Shown.{value_there}
 use Rattle.hours.specs.Hours.{Share, unassigned, assigned, last_activity, active, share, shares, most_drivers, longest}
-use Rattle.hours.specs.Tally.{place, Tally, more, with_driver, tallied, tally, UpTo, above_all, Counts, CountsAll, is_assigned, share_there}
-use Rattle.hours.proofs.Tallies.{place_in, place_out, more_same, more_other, all_grows}
+use Rattle.hours.specs.Tally.{place, most_counts, Tally, more, with_driver, tallied, tally, at_start, UpTo, above_all, Counts, is_assigned, share_there}
+use Rattle.hours.specs.Counted.{CountedAll}
+use Rattle.hours.specs.declared.tally.Tally.{Tally as Kept}
+use Rattle.hours.proofs.Tallies.{place_in, place_out, more_same, more_other, all_grows, all_zero}
 
 -- ---- the place of a driver
 
@@ -94,24 +96,19 @@ up_one b cs i h j = go (eqb j i) refl (leb (suc i) (length cs)) refl
 
 -- ---- one tick
 
--- the tables of as many drivers
-same_tally : (n m : ℕ) (ds cs : List ℕ) (t : Tally) → Some n ≡ Some m → tally ds cs n ≡ t → tally ds cs m ≡ t
-same_tally n m ds cs t k e = let z : n ≡ m = cc in subst (λ (x : ℕ). tally ds cs x ≡ t) z e
-
 -- none
-pub counts_none : (ds cs : List ℕ) (n : ℕ) → n ≤ most_drivers → Counts [] ds cs n ds cs (Some n)
+pub counts_none : (ds cs : List ℕ) (n : ℕ) → Counts [] ds cs n ds cs n (Some tt)
 unfolding each
-counts_none ds cs n l = record { most = λ m k. let z : n ≡ m = cc in omega (arith, l, z); few = λ m k. same_tally n m ds cs _ k refl; many = λ k. cc; low = λ b h. up_more b (b + 0) cs (omega arith) h }
+counts_none ds cs n = record { few = λ k. refl; many = λ k. cc; low = λ b h. up_more b (b + 0) cs (omega arith) h }
 
 -- nobody's
-pub counts_nobody : (ds cs cs₁ : List ℕ) (n : ℕ) (s : Share) → n ≤ most_drivers → s ≡ unassigned → cs₁ ≡ more cs 0 → Counts (s ∷ []) ds cs n ds cs₁ (Some n)
+pub counts_nobody : (ds cs ds₁ cs₁ : List ℕ) (n n₁ : ℕ) (s : Share) → s ≡ unassigned → (cs₁ ≡ more cs 0) × (ds₁ ≡ ds) × (n₁ ≡ n) → Counts (s ∷ []) ds cs n ds₁ cs₁ n₁ (Some tt)
 unfolding each tallied tally
-counts_nobody ds cs cs₁ n s l e q =
+counts_nobody ds cs ds₁ cs₁ n n₁ s e q =
     record {
-      most = λ m k. let z : n ≡ m = cc in omega (arith, l, z);
-      few = λ m k. same_tally n m ds cs₁ _ k ((λ j. record { drivers = take n ds; counts = q j }) ∙ ap (λ (x : Share). tallied (record { drivers = take n ds; counts = cs }) x) (sym e));
+      few = λ k. (λ j. record { drivers = take (q.2 j) (q.1 j); counts = q.0 j }) ∙ ap (λ (x : Share). tallied (record { drivers = take n ds; counts = cs }) x) (sym e);
       many = λ k. cc;
-      low = λ b h. subst (UpTo (b + 1)) (sym q) (up_one b cs 0 h);
+      low = λ b h. subst (UpTo (b + 1)) (sym q.0) (up_one b cs 0 h);
     }
 
 module _ (ds cs : List ℕ) (n d a p : ℕ) (few_n : n ≤ most_drivers) (long : length ds ≡ most_drivers) (ep : p ≡ place d (take n ds)) where
@@ -134,43 +131,44 @@ module _ (ds cs : List ℕ) (n d a p : ℕ) (few_n : n ≤ most_drivers) (long :
       go true e = absurd (let z = place_in d (take n ds) e in let t = taken in omega (arith, z, t, ep, l))
       go false e = refl
 
-  pub assign_old : p < n → (cs₁ : List ℕ) → cs₁ ≡ more cs (1 + 4 * p + a) → Counts (assigned d a ∷ []) ds cs n ds cs₁ (Some n)
+  pub assign_old : (p ≡ n → ⊥) → p ≤ n → (ds₁ cs₁ : List ℕ) (n₁ : ℕ) → (cs₁ ≡ more cs (1 + 4 * p + a)) × (ds₁ ≡ ds) × (n₁ ≡ n) → Counts (assigned d a ∷ []) ds cs n ds₁ cs₁ n₁ (Some tt)
   unfolding each tallied tally
-  assign_old l cs₁ q =
-      let w = with_old l in
-      let z : cs₁ ≡ more cs (1 + 4 * place d (take n ds) + a) = q ∙ ap (λ (k : ℕ). more cs (1 + 4 * k + a)) ep in
+  assign_old u l ds₁ cs₁ n₁ q =
+      let w = with_old (omega (arith, u, l)) in
+      let z : cs₁ ≡ more cs (1 + 4 * place d (take n ds) + a) = q.0 ∙ ap (λ (k : ℕ). more cs (1 + 4 * k + a)) ep in
+      let y : take n₁ ds₁ ≡ with_driver (take n ds) d = (λ j. take (q.2 j) (q.1 j)) ∙ sym w in
       record {
-        most = λ m k. let x : n ≡ m = cc in omega (arith, few_n, x);
-        few = λ m k. same_tally n m ds cs₁ _ k (λ j. record { drivers = sym w j; counts = z j });
+        few = λ k. λ j. record { drivers = y j; counts = z j };
         many = λ k. cc;
-        low = λ b h. subst (UpTo (b + 1)) (sym q) (up_one b cs (1 + 4 * p + a) h);
+        low = λ b h. subst (UpTo (b + 1)) (sym q.0) (up_one b cs (1 + 4 * p + a) h);
       }
 
-  pub assign_full : n ≤ p → n ≡ most_drivers → Counts (assigned d a ∷ []) ds cs n ds cs None
+  pub assign_full : p ≡ n → n ≡ most_drivers → Counts (assigned d a ∷ []) ds cs n ds cs n None
   unfolding each tallied tally
   assign_full l e =
-      let w = ap (λ (x : List ℕ). length x) (with_new l) in
+      let w = ap (λ (x : List ℕ). length x) (with_new (omega (arith, l))) in
       let t = taken in
       record {
-        most = λ m k. cc;
-        few = λ m k. cc;
+        few = λ k. cc;
         many = λ k. let u = length-append (take n ds) (d ∷ []) in omega (arith, w, t, e, u);
         low = λ b h. up_more b (b + 1) cs (omega arith) h;
       }
 
-  pub assign_new : n ≤ p → (n ≡ most_drivers → ⊥) → (ds₁ cs₁ : List ℕ) → ds₁ ≡ set ds n d → cs₁ ≡ more cs (1 + 4 * p + a) → Counts (assigned d a ∷ []) ds cs n ds₁ cs₁ (Some (n + 1))
+  pub assign_new :
+      p ≡ n → (n ≡ most_drivers → ⊥) → (ds₁ cs₁ : List ℕ) (n₁ : ℕ) → (cs₁ ≡ more cs (1 + 4 * p + a)) × (ds₁ ≡ set ds p d) × (n₁ ≡ n + 1) →
+      Counts (assigned d a ∷ []) ds cs n ds₁ cs₁ n₁ (Some tt)
   unfolding each tallied tally
-  assign_new l e ds₁ cs₁ f q =
-      let w = with_new l in
-      let k : n + 1 ≡ suc n = omega arith in
-      let t : take (n + 1) ds₁ ≡ take n ds ++ (d ∷ []) = (λ j. take (k j) (f j)) ∙ take-suc-set ds n d (omega (arith, e, few_n, long)) in
-      let z : cs₁ ≡ more cs (1 + 4 * place d (take n ds) + a) = q ∙ ap (λ (k : ℕ). more cs (1 + 4 * k + a)) ep in
-      let y : take (n + 1) ds₁ ≡ with_driver (take n ds) d = t ∙ sym w in
+  assign_new l e ds₁ cs₁ n₁ q =
+      let w = with_new (omega (arith, l)) in
+      let k : n₁ ≡ suc n = omega (arith, q.2) in
+      let f : ds₁ ≡ set ds n d = q.1 ∙ ap (λ (x : ℕ). set ds x d) l in
+      let t : take n₁ ds₁ ≡ take n ds ++ (d ∷ []) = (λ j. take (k j) (f j)) ∙ take-suc-set ds n d (omega (arith, e, few_n, long)) in
+      let z : cs₁ ≡ more cs (1 + 4 * place d (take n ds) + a) = q.0 ∙ ap (λ (k : ℕ). more cs (1 + 4 * k + a)) ep in
+      let y : take n₁ ds₁ ≡ with_driver (take n ds) d = t ∙ sym w in
       record {
-        most = λ m k. let x : n + 1 ≡ m = cc in omega (arith, e, few_n, x);
-        few = λ m k. same_tally (n + 1) m ds₁ cs₁ _ k (λ j. record { drivers = y j; counts = z j });
+        few = λ k. λ j. record { drivers = y j; counts = z j };
         many = λ k. cc;
-        low = λ b h. subst (UpTo (b + 1)) (sym q) (up_one b cs (1 + 4 * p + a) h);
+        low = λ b h. subst (UpTo (b + 1)) (sym q.0) (up_one b cs (1 + 4 * p + a) h);
       }
 
 -- ---- whom a tick is assigned to
@@ -249,8 +247,8 @@ none_left (assigned d a) q = absurd (true≢false q)
 pub unassigned_there : (s : List ℕ) (outs k driver activity : ℕ) (t : Bool) → t ≡ is_assigned (share_there s outs k driver activity) → t ≡ false → share_there s outs k driver activity ≡ unassigned
 unassigned_there s outs k driver activity t e h = none_left (share_there s outs k driver activity) (sym e ∙ h)
 
-pub counts_as : (s s₁ : Share) (ds cs : List ℕ) (n : ℕ) (ds₁ cs₁ : List ℕ) (r : Option ℕ) → s ≡ s₁ → Counts (s₁ ∷ []) ds cs n ds₁ cs₁ r → Counts (s ∷ []) ds cs n ds₁ cs₁ r
-counts_as s s₁ ds cs n ds₁ cs₁ r e h = subst (λ (x : Share). Counts (x ∷ []) ds cs n ds₁ cs₁ r) (sym e) h
+pub counts_as : (s s₁ : Share) (ds cs : List ℕ) (n : ℕ) (ds₁ cs₁ : List ℕ) (n₁ : ℕ) (r : Option (Unit {0})) → s ≡ s₁ → Counts (s₁ ∷ []) ds cs n ds₁ cs₁ n₁ r → Counts (s ∷ []) ds cs n ds₁ cs₁ n₁ r
+counts_as s s₁ ds cs n ds₁ cs₁ n₁ r e h = subst (λ (x : Share). Counts (x ∷ []) ds cs n ds₁ cs₁ n₁ r) (sym e) h
 
 -- ---- one record
 
@@ -268,17 +266,17 @@ stop_shown outs s at b x e h = sym e ∙ h
 
 module _ (outs : ℕ) (s : List ℕ) (at : ℕ) (f : Fits outs s at) (b : Bool) (e : b ≡ eqb (stop_in (drop at (words s))) 0) (driver activity : ℕ) (ds cs : List ℕ) (n : ℕ) where
   pub record_shown :
-      b ≡ true → (k : ℕ) → k ≡ at + shown_at (drop at (words s)) → driver < outs → activity < outs → (ds₁ cs₁ : List ℕ) (r : Option ℕ) →
-      Counts (share_there s outs k driver activity ∷ []) ds cs n ds₁ cs₁ r → Counts (shares driver activity (record_at outs (drop at (words s)) ∷ [])) ds cs n ds₁ cs₁ r
+      b ≡ true → (k : ℕ) → k ≡ at + shown_at (drop at (words s)) → driver < outs → activity < outs → (ds₁ cs₁ : List ℕ) (n₁ : ℕ) (r : Option (Unit {0})) →
+      Counts (share_there s outs k driver activity ∷ []) ds cs n ds₁ cs₁ n₁ r → Counts (shares driver activity (record_at outs (drop at (words s)) ∷ [])) ds cs n ds₁ cs₁ n₁ r
   unfolding share_there
-  record_shown h k ek ld la ds₁ cs₁ r q =
+  record_shown h k ek ld la ds₁ cs₁ n₁ r q =
       let w : shares driver activity (record_at outs (drop at (words s)) ∷ []) ≡ share (shown_there s outs k driver) (shown_there s outs k activity) ∷ [] =
       shares_one driver activity (record_at outs (drop at (words s))) (stop_shown outs s at b true e h)
       ∙ (λ j. share (value_there outs s at e h ek f driver ld j) (value_there outs s at e h ek f activity la j) ∷ []) in
-      subst (λ (ss : List Share). Counts ss ds cs n ds₁ cs₁ r) (sym w) q
+      subst (λ (ss : List Share). Counts ss ds cs n ds₁ cs₁ n₁ r) (sym w) q
 
-  pub record_stopped : b ≡ false → n ≤ most_drivers → Counts (shares driver activity (record_at outs (drop at (words s)) ∷ [])) ds cs n ds cs (Some n)
-  record_stopped h l = subst (λ (ss : List Share). Counts ss ds cs n ds cs (Some n)) (sym (shares_stopped driver activity (record_at outs (drop at (words s))) (stop_shown outs s at b false e h))) (counts_none ds cs n l)
+  pub record_stopped : b ≡ false → Counts (shares driver activity (record_at outs (drop at (words s)) ∷ [])) ds cs n ds cs n (Some tt)
+  record_stopped h = subst (λ (ss : List Share). Counts ss ds cs n ds cs n (Some tt)) (sym (shares_stopped driver activity (record_at outs (drop at (words s))) (stop_shown outs s at b false e h))) (counts_none ds cs n)
 
 -- ---- all records
 
@@ -315,15 +313,11 @@ unfoldable pub count_left : ℕ → List ℕ → ℕ → ℕ → ℕ → ℕ →
 count_left outs s driver activity at t ds cs n = each tallied (tally ds cs n) (shares driver activity (records_left outs s at t))
 
 -- the count of all of them
-unfoldable pub count_whole : ℕ → List ℕ → ℕ → ℕ → List ℕ → List ℕ → Tally
-count_whole outs s driver activity ds cs = each tallied (tally ds cs 0) (shares driver activity (records_in outs most_ticks (words s)))
-
-pub count_begins : (outs : ℕ) (s : List ℕ) (driver activity : ℕ) (ds cs : List ℕ) → count_left outs s driver activity 0 1 ds cs 0 ≡ count_whole outs s driver activity ds cs
-unfolding count_left count_whole records_left
-count_begins outs s driver activity ds cs = refl
+unfoldable pub count_whole : ℕ → List ℕ → ℕ → ℕ → Tally
+count_whole outs s driver activity = each tallied at_start (shares driver activity (records_in outs most_ticks (words s)))
 
 module _ (outs : ℕ) (s : List ℕ) (driver activity at t : ℕ) (ds cs : List ℕ) (n : ℕ) (target : Tally) (h : at < length s / 8) (w : Left outs s at t)
-    (inv : count_left outs s driver activity at t ds cs n ≡ target) (ds₁ cs₁ : List ℕ) (r : Option ℕ) (q : Counts (shares driver activity (record_at outs (drop at (words s)) ∷ [])) ds cs n ds₁ cs₁ r) where
+    (inv : count_left outs s driver activity at t ds cs n ≡ target) (ds₁ cs₁ : List ℕ) (n₁ : ℕ) (r : Option (Unit {0})) (q : Counts (shares driver activity (record_at outs (drop at (words s)) ∷ [])) ds cs n ds₁ cs₁ n₁ r) where
   abbrev this : List Share
   this = shares driver activity (record_at outs (drop at (words s)) ∷ [])
 
@@ -340,9 +334,9 @@ module _ (outs : ℕ) (s : List ℕ) (driver activity at t : ℕ) (ds cs : List 
       ∙ each_more (tally ds cs n) this (shares driver activity (records_left outs s x (t + 1))))
       ∙ inv
 
-  pub count_next : (k : ℕ) → r ≡ Some k → {m x : ℕ} → m ≡ size → x ≡ at + m → count_left outs s driver activity x (t + 1) ds₁ cs₁ k ≡ target
+  pub count_next : r ≡ Some tt → {m x : ℕ} → m ≡ size → x ≡ at + m → count_left outs s driver activity x (t + 1) ds₁ cs₁ n₁ ≡ target
   unfolding count_left
-  count_next k l {x = x} em ex = ap (λ (u : Tally). each tallied u (shares driver activity (records_left outs s x (t + 1)))) (q.few k l) ∙ parted em ex
+  count_next l {x = x} em ex = ap (λ (u : Tally). each tallied u (shares driver activity (records_left outs s x (t + 1)))) (q.few l) ∙ parted em ex
 
   pub count_over : r ≡ None → most_drivers < length target.drivers
   count_over l =
@@ -354,18 +348,54 @@ module _ (outs : ℕ) (s : List ℕ) (driver activity at t : ℕ) (ds cs : List 
   pub count_low : UpTo t cs → UpTo (t + 1) cs₁
   count_low u = let k = shares_few driver activity (record_at outs (drop at (words s))) in up_more (t + length (shares driver activity (record_at outs (drop at (words s)) ∷ []))) (t + 1) cs₁ (omega (arith, k)) (q.low t u)
 
-pub count_stopped : (outs : ℕ) (s : List ℕ) (driver activity : ℕ) (ds cs ds₁ cs₁ : List ℕ) (r : Option ℕ) → r ≡ None → most_drivers < length (count_whole outs s driver activity ds cs).drivers → CountsAll (shares driver activity (records_in outs most_ticks (words s))) ds cs ds₁ cs₁ r
-unfolding count_whole
-count_stopped outs s driver activity ds cs ds₁ cs₁ r e k = record { most = λ m z. cc; few = λ m z. cc; many = λ z. k; low = λ m z. cc }
+-- Up to word `at` all ticks are counted: so many, and no count is above that.
+pub record Counting (outs : ℕ) (s : List ℕ) (driver activity at : ℕ) (ds cs : List ℕ) (n : ℕ) : Type 0 where
+  pub tick : ℕ
+  pub few : tick ≤ above_all
+  pub low : UpTo tick cs
+  pub left : Left outs s at tick
+  pub counted : count_left outs s driver activity at tick ds cs n ≡ count_whole outs s driver activity
+
+module _ (outs : ℕ) (s : List ℕ) (driver activity : ℕ) where
+  pub count_first : WholeLog outs s → (ds cs : List ℕ) (n : ℕ) → (cs ≡ replicate most_counts 0) × (n ≡ 0) → Counting outs s driver activity 0 ds cs n
+  unfolding count_left count_whole records_left tally UpTo
+  count_first w ds cs n e =
+      record {
+        tick = 1;
+        few = omega arith;
+        low = λ i. let z = all_zero most_counts i in let x : get_or cs i 0 ≡ get_or (replicate most_counts 0) i 0 = ap (λ (l : List ℕ). get_or l i 0) e.0 in omega (arith, z, x);
+        left = walk_begins outs s w;
+        counted = λ j. each tallied (record { drivers = take (e.1 j) ds; counts = e.0 j }) (shares driver activity (records_left outs s 0 1));
+      }
+
+  module _ (at : ℕ) (ds cs : List ℕ) (n : ℕ) (c : Counting outs s driver activity at ds cs n) where
+    pub counts_few : UpTo above_all cs
+    counts_few = up_more c.tick above_all cs c.few c.low
+
+    module _ (h : at < length s / 8) (ds₁ cs₁ : List ℕ) (n₁ : ℕ) (r : Option (Unit {0})) (q : Counts (shares driver activity (record_at outs (drop at (words s)) ∷ [])) ds cs n ds₁ cs₁ n₁ r) where
+      pub count_more : r ≡ Some tt → {m x : ℕ} → m ≡ min (record_size outs (drop at (words s))) (length s / 8 - at) → x ≡ at + m → Counting outs s driver activity x ds₁ cs₁ n₁
+      count_more e {x = x} em ex =
+          record {
+            tick = c.tick + 1;
+            few = let w = tick_left outs s at c.tick h c.left in omega (arith, w);
+            low = count_low outs s driver activity at c.tick ds cs n _ h c.left c.counted ds₁ cs₁ n₁ r q c.low;
+            left = walk_next outs s at c.tick h c.left em ex;
+            counted = count_next outs s driver activity at c.tick ds cs n _ h c.left c.counted ds₁ cs₁ n₁ r q e em ex;
+          }
+
+      pub count_stopped : r ≡ None → (u : Option Kept) → u ≡ None → CountedAll (shares driver activity (records_in outs most_ticks (words s))) u
+      unfolding count_whole
+      count_stopped e u k = record { few = λ t z. cc; many = λ z. count_over outs s driver activity at c.tick ds cs n _ h c.left c.counted ds₁ cs₁ n₁ r q e; low = λ t z. cc }
 
 pub count_done :
-    (outs : ℕ) (s : List ℕ) (driver activity at t : ℕ) (ds cs ds₁ cs₁ : List ℕ) (n : ℕ) → length s / 8 ≤ at → n ≤ most_drivers → t ≤ above_all → UpTo t cs₁ →
-    count_left outs s driver activity at t ds₁ cs₁ n ≡ count_whole outs s driver activity ds cs → CountsAll (shares driver activity (records_in outs most_ticks (words s))) ds cs ds₁ cs₁ (Some n)
+    (outs : ℕ) (s : List ℕ) (driver activity at : ℕ) (t : Kept) → Counting outs s driver activity at t.drivers t.counts t.n → length s / 8 ≤ at →
+    CountedAll (shares driver activity (records_in outs most_ticks (words s))) (Some t)
 unfolding count_left count_whole each
-count_done outs s driver activity at t ds cs ds₁ cs₁ n h l m u e =
+count_done outs s driver activity at t c h =
+    let done : tally t.drivers t.counts t.n ≡ each tallied at_start (shares driver activity (records_in outs most_ticks (words s))) =
+    sym (ap (λ (rs : List LogRecord). each tallied (tally t.drivers t.counts t.n) (shares driver activity rs)) (records_over outs s at c.tick h) ∙ ap (each tallied (tally t.drivers t.counts t.n)) (no_shares driver activity)) ∙ c.counted in
     record {
-      most = λ k z. let x : n ≡ k = cc in omega (arith, l, x);
-      few = λ k z. same_tally n k ds₁ cs₁ _ z (sym (ap (λ (rs : List LogRecord). each tallied (tally ds₁ cs₁ n) (shares driver activity rs)) (records_over outs s at t h) ∙ ap (each tallied (tally ds₁ cs₁ n)) (no_shares driver activity)) ∙ e);
+      few = λ u z. let x : t ≡ u = cc in subst (λ (y : Kept). tally y.drivers y.counts y.n ≡ each tallied at_start (shares driver activity (records_in outs most_ticks (words s)))) x done;
       many = λ z. cc;
-      low = λ k z. up_more t above_all cs₁ m u;
+      low = λ u z. let x : t ≡ u = cc in subst (λ (y : Kept). UpTo above_all y.counts) x (up_more c.tick above_all t.counts c.few c.low);
     }

@@ -12,7 +12,7 @@ use borrow.Author.Tests.{leb-true, leb-false, eqb-true, eqb-false, eq-eqb}
 use Rattle.model.specs.Base.{if◌then◌otherwise◌, each, keep, joined, snoc, among}
 use Rattle.model.specs.Value.{bit}
 use Rattle.hours.specs.Hours.{Share, unassigned, assigned, last_activity, most_drivers, drivers_after, drivers, is_share, is_nobodys, line_words, line_of, last_line, lines_of, report, report_words}
-use Rattle.hours.specs.Tally.{most_counts, place, Tally, more, with_driver, tallied, line_row, driver_rows, rows_from}
+use Rattle.hours.specs.Tally.{most_counts, place, Tally, more, with_driver, tallied, line_row, driver_rows, rows_from, at_start}
 use Rattle.hours.proofs.Counts.{Each, counted, GoodShare}
 
 -- ---- places
@@ -330,10 +330,6 @@ pub all_zero : (n j : ℕ) → ◌≡◌ {A = ℕ} (get_or (replicate n 0) j 0) 
 all_zero zero j = refl
 all_zero (suc n) zero = refl
 all_zero (suc n) (suc j) = all_zero n j
-
--- no ticks yet
-abbrev pub at_start : Tally
-at_start = record { drivers = []; counts = replicate most_counts 0 }
 
 sound_start : Sound at_start
 sound_start = record { long = refl; free = λ j l. all_zero most_counts j }

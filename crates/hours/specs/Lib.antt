@@ -6,3 +6,5 @@ pub mod Examples
 pub mod Call
 -- how the ticks are counted in one pass
 pub mod Tally
+-- what contracts say of the code's tally
+pub mod Counted

@@ -1,7 +1,6 @@
 -- How the ticks of each driver are counted in one pass, and written down: what the contracts of the code cite.
 use Rattle.words.specs.Words.{words}
-use Rattle.std.specs.Prelude.{ℕ, suc, ◌+◌, ◌*◌, ◌≤◌, ◌<◌, ◌≡◌, Bool, true, false, Option, Some, None, List, [], ◌∷◌, ◌++◌, eqb, length, get_or, set, take}
-use Rattle.words.specs.Slices.{Slice, before, after}
+use Rattle.std.specs.Prelude.{ℕ, suc, ◌+◌, ◌*◌, ◌≤◌, ◌<◌, ◌≡◌, Bool, true, false, Option, Some, None, List, [], ◌∷◌, ◌++◌, eqb, length, get_or, replicate, set, take}
 use Rattle.model.specs.Base.{if◌then◌otherwise◌, each, snoc, among}
 use Rattle.model.specs.Script.{most_ticks}
 use Rattle.links.specs.Links.{most_outputs}
@@ -41,6 +40,10 @@ tallied t (assigned d a) = record { drivers = with_driver t.drivers d; counts = 
 unfoldable pub tally : List ℕ → List ℕ → ℕ → Tally
 tally ds cs n = record { drivers = take n ds; counts = cs }
 
+-- before the first tick
+abbrev pub at_start : Tally
+at_start = record { drivers = []; counts = replicate most_counts 0 }
+
 -- ---- counting
 
 -- no count is above b
@@ -51,38 +54,15 @@ UpTo b cs = (i : ℕ) → get_or cs i 0 ≤ b
 abbrev pub above_all : ℕ
 above_all = suc most_ticks
 
--- counts, of which none is above that
-abbrev pub Few : List ℕ → Type 0
-Few counts = (length counts ≡ most_counts) × UpTo above_all counts
-
--- the table of drivers, with n of them
-abbrev pub Known : List ℕ → ℕ → Type 0
-Known drivers n = (n ≤ most_drivers) × (length drivers ≡ most_drivers)
-
 -- driver and activity are two of so many outputs
 abbrev pub Named : ℕ → ℕ → ℕ → Type 0
 Named outs driver activity = (outs ≤ most_outputs) × (driver < outs) × (activity < outs)
 
--- What counting some ticks does to the two tables: r tells how many drivers there are now, or that a 33rd appeared.
-pub record Counts (ss : List Share) (ds cs : List ℕ) (n : ℕ) (ds' cs' : List ℕ) (r : Option ℕ) : Type 0 where
-  pub most : (m : ℕ) → r ≡ Some m → m ≤ most_drivers
-  pub few : (m : ℕ) → r ≡ Some m → tally ds' cs' m ≡ each tallied (tally ds cs n) ss
+-- What counting some ticks does to the tables: n' drivers now, or r tells that a 33rd appeared.
+pub record Counts (ss : List Share) (ds cs : List ℕ) (n : ℕ) (ds' cs' : List ℕ) (n' : ℕ) (r : Option (Unit {0})) : Type 0 where
+  pub few : r ≡ Some tt → tally ds' cs' n' ≡ each tallied (tally ds cs n) ss
   pub many : r ≡ None → most_drivers < length (each tallied (tally ds cs n) ss).drivers
   pub low : (b : ℕ) → UpTo b cs → UpTo (b + length ss) cs'
-
--- The same of all ticks of a log, from no driver on.
-pub record CountsAll (ss : List Share) (ds cs ds' cs' : List ℕ) (r : Option ℕ) : Type 0 where
-  pub most : (m : ℕ) → r ≡ Some m → m ≤ most_drivers
-  pub few : (m : ℕ) → r ≡ Some m → tally ds' cs' m ≡ each tallied (tally ds cs 0) ss
-  pub many : r ≡ None → most_drivers < length (each tallied (tally ds cs 0) ss).drivers
-  pub low : (m : ℕ) → r ≡ Some m → UpTo above_all cs'
-
--- of a contract's slices
-abbrev pub Counted : List Share → Slice → Slice → ℕ → Option ℕ → Type 0
-Counted ss drivers counts n r = Counts ss (before drivers) (before counts) n (after drivers) (after counts) r
-
-abbrev pub AllCounted : List Share → Slice → Slice → Option ℕ → Type 0
-AllCounted ss drivers counts r = CountsAll ss (before drivers) (before counts) (after drivers) (after counts) r
 
 -- whom the ticks of a log are assigned to, where the circuit has so many outputs
 abbrev pub shares_of : ℕ → ℕ → ℕ → List ℕ → List Share

@@ -1,20 +1,16 @@
-// The ticks of each driver, counted in one pass over the log. The tables are those of specs/Tally.antt: the drivers, and counts, first nobody's, then four for each driver.
+// The ticks of each driver, counted in one pass over the log.
 ghost use Rattle.words.specs.Words.{words};
-ghost use Rattle.std.specs.Prelude.{◌≡◌, [], ◌∷◌, ◌+◌, ◌*◌, ◌/◌, ◌<◌, ◌≤◌, length, take, drop};
+ghost use Rattle.std.specs.Prelude.{◌≡◌, [], ◌∷◌, ◌+◌, ◌*◌, drop};
 ghost use Rattle.words.specs.Slices.{HasWords};
 ghost use Rattle.model.specs.Record.{record_at};
 ghost use Rattle.walk.specs.Walk.{Fits, WholeLog};
-ghost use Rattle.hours.specs.Hours.{last_activity, assigned, shares};
-ghost use Rattle.hours.specs.Tally.{most_counts, place, more, UpTo, Few, Known, Named, Counted, AllCounted, shares_of, share_there, is_assigned};
+ghost use Rattle.hours.specs.Hours.{shares};
+ghost use Rattle.hours.specs.Tally.{above_all, UpTo, Named, shares_of, share_there, is_assigned};
+ghost use Rattle.hours.specs.Counted.{Counted, CountedAll};
 
+use crate::tally::Tally;
 use walk::{record_size, shown_at, unstopped};
 use words::get;
-
-// The drivers of a report at the most.
-pub const MOST_DRIVERS: usize = 32;
-
-// The counts: nobody's, and four for each driver.
-pub const MOST_COUNTS: usize = 1 + 4 * MOST_DRIVERS;
 
 // The kind of an Int.
 const INT: u64 = 1;
@@ -22,126 +18,67 @@ const INT: u64 = 1;
 // The activities are 0 to 3.
 const LAST_ACTIVITY: u64 = 3;
 
-// The place of driver d among the first n of the table, or n.
-fn place(drivers: &[u64], n: usize, d: u64) -> usize
-    requires { Known drivers.now n }
-    ensures { (result ≡ place d (take n drivers.now)) × (result ≤ n) }
-{
-    for i in 0..n {
-        if drivers[i] == d {
-            return i;
+// Which outputs of so many show the driver and the activity.
+#[derive(Clone, Copy)]
+pub struct Names {
+    pub outs: usize,
+    pub driver: usize,
+    pub activity: usize,
+    pub ghost named: { Named outs driver activity },
+}
+
+impl Names {
+    // Whether both show an Int, the activity one of 0 to 3. The kinds of the outputs stand from word k on, and their contents behind them.
+    fn is_assigned(self, log: &[u8], k: usize) -> bool
+        requires { HasWords log.now k (self.outs + self.outs) }
+        ensures { result ≡ is_assigned (share_there log.now self.outs k self.driver self.activity) }
+    {
+        if get(log, k + self.driver) != INT {
+            return false;
         }
+        if get(log, k + self.activity) != INT {
+            return false;
+        }
+        get(log, k + self.outs + self.activity) <= LAST_ACTIVITY
     }
-    n
 }
 
-// One more in place i.
-fn more(counts: &mut [u64], i: usize)
-    requires { Few counts.old × (i < most_counts) }
-    ensures { counts.new ≡ more counts.old i }
+// A tick whose outputs stand from word k on; none where its driver is one too many.
+fn count_tick(log: &[u8], k: usize, names: Names, tally: &mut Tally) -> Option<()>
+    requires { HasWords log.now k (names.outs + names.outs) × UpTo above_all tally.old.counts }
+    ensures { Counted (share_there log.now names.outs k names.driver names.activity ∷ []) tally.old tally.new result }
 {
-    counts[i] += 1;
-}
-
-// A tick of driver d in activity a; n drivers so far. How many there are then, if it is not one too many.
-fn assign(drivers: &mut [u64], counts: &mut [u64], n: usize, d: u64, a: usize) -> Option<usize>
-    requires { Known drivers.old n × Few counts.old × (a ≤ last_activity) }
-    ensures { Counted (assigned d a ∷ []) (drivers.old, drivers.new) (counts.old, counts.new) n result }
-{
-    let p = place(drivers, n, d);
-    if p < n {
-        more(counts, 1 + 4 * p + a);
-        return Some(n);
+    if names.is_assigned(log, k) {
+        let d = get(log, k + names.outs + names.driver);
+        let a = get(log, k + names.outs + names.activity) as usize;
+        return tally.assign(d, a);
     }
-    if n == MOST_DRIVERS {
-        return None;
-    }
-    drivers[n] = d;
-    more(counts, 1 + 4 * p + a);
-    Some(n + 1)
-}
-
-// Whether both outputs show an Int, the activity one of 0 to 3. The kinds of the outputs stand from word k on, and their contents behind them.
-fn is_assigned(log: &[u8], k: usize, outs: usize, driver: usize, activity: usize) -> bool
-    requires { Named outs driver activity × HasWords log.now k (outs + outs) }
-    ensures { result ≡ is_assigned (share_there log.now outs k driver activity) }
-{
-    if get(log, k + driver) != INT {
-        return false;
-    }
-    if get(log, k + activity) != INT {
-        return false;
-    }
-    get(log, k + outs + activity) <= LAST_ACTIVITY
-}
-
-// A tick whose outputs stand from word k on.
-fn count_tick(
-    log: &[u8],
-    k: usize,
-    outs: usize,
-    driver: usize,
-    activity: usize,
-    drivers: &mut [u64],
-    counts: &mut [u64],
-    n: usize,
-) -> Option<usize>
-    requires named { Named outs driver activity × HasWords log.now k (outs + outs) }
-    requires known { Known drivers.old n × Few counts.old }
-    ensures { Counted (share_there log.now outs k driver activity ∷ []) (drivers.old, drivers.new) (counts.old, counts.new) n result }
-{
-    if is_assigned(log, k, outs, driver, activity) {
-        let d = get(log, k + outs + driver);
-        let a = get(log, k + outs + activity) as usize;
-        return assign(drivers, counts, n, d, a);
-    }
-    more(counts, 0);
-    Some(n)
+    tally.skip();
+    Some(())
 }
 
 // The record at word `at`; a stopped one is no tick.
-fn count_record(
-    log: &[u8],
-    at: usize,
-    outs: usize,
-    driver: usize,
-    activity: usize,
-    drivers: &mut [u64],
-    counts: &mut [u64],
-    n: usize,
-) -> Option<usize>
-    requires named { Named outs driver activity × Fits outs log.now at }
-    requires known { Known drivers.old n × Few counts.old }
-    ensures { Counted (shares driver activity (record_at outs (drop at (words log.now)) ∷ [])) (drivers.old, drivers.new) (counts.old, counts.new) n result }
+fn count_record(log: &[u8], at: usize, names: Names, tally: &mut Tally) -> Option<()>
+    requires { Fits names.outs log.now at × UpTo above_all tally.old.counts }
+    ensures { Counted (shares names.driver names.activity (record_at names.outs (drop at (words log.now)) ∷ [])) tally.old tally.new result }
 {
     if unstopped(log, at) {
-        let k = shown_at(log, at);
-        return count_tick(log, k, outs, driver, activity, drivers, counts, n);
+        return count_tick(log, shown_at(log, at), names, tally);
     }
-    Some(n)
+    Some(())
 }
 
-// All records of a whole log, tick by tick: how many drivers there are, or none as soon as there is one too many.
-pub fn count_all(
-    log: &[u8],
-    outs: usize,
-    driver: usize,
-    activity: usize,
-    drivers: &mut [u64],
-    counts: &mut [u64],
-) -> Option<usize>
-    requires named { Named outs driver activity × WholeLog outs log.now }
-    requires known { Known drivers.old 0 × (length counts.old ≡ most_counts) × UpTo 0 counts.old }
-    ensures { AllCounted (shares_of outs driver activity log.now) (drivers.old, drivers.new) (counts.old, counts.new) result }
+// All records of a whole log, tick by tick; none as soon as there is one driver too many.
+pub fn count_all(log: &[u8], names: Names) -> Option<Tally>
+    requires { WholeLog names.outs log.now }
+    ensures { CountedAll (shares_of names.outs names.driver names.activity log.now) result }
 {
     let size = log.len() / 8;
+    let mut tally = Tally::new();
     let mut at: usize = 0;
-    let mut tick: u64 = 1;
-    let mut n: usize = 0;
     while at < size {
-        n = count_record(log, at, outs, driver, activity, drivers, counts, n)?;
-        at += record_size(log, at, size - at, outs);
-        tick += 1;
+        count_record(log, at, names, &mut tally)?;
+        at += record_size(log, at, size - at, names.outs);
     }
-    Some(n)
+    Some(tally)
 }

@@ -9,7 +9,7 @@ ghost use Rattle.hours.specs.Tally.{Named, shares_of};
 ghost use Rattle.hours.specs.Call.{Written, Right, call_of, left_of};
 
 use circuit::inputs::value_output;
-use counting::{MOST_COUNTS, MOST_DRIVERS, count_all};
+use counting::{Names, count_all};
 use links::layout::CELLS;
 use whole::log_refusal;
 use words::told::put_at;
@@ -17,6 +17,7 @@ use writing::{DRIVER, LINE, write_report};
 
 mod counting;
 mod minutes;
+mod tally;
 mod writing;
 
 // The milliseconds of a tick at the most.
@@ -57,16 +58,19 @@ fn write_hours(
     requires { Named outs driver activity × WholeLog outs log.now × (len ≤ longest) }
     ensures { Written (reported len (length report.old) (shares_of outs driver activity log.now)) report.old report.new result }
 {
-    let mut drivers = [0u64; MOST_DRIVERS];
-    let mut counts = [0u64; MOST_COUNTS];
-    let Some(n) = count_all(log, outs, driver, activity, &mut drivers, &mut counts) else {
+    let names = Names {
+        outs,
+        driver,
+        activity,
+    };
+    let Some(tally) = count_all(log, names) else {
         return 0;
     };
-    let size = 8 * (DRIVER * n + LINE);
+    let size = 8 * (DRIVER * tally.n + LINE);
     if report.len() < size {
         return 0;
     }
-    write_report(report, &drivers, n, &counts, len);
+    write_report(report, &tally, len);
     size
 }
 

@@ -2,10 +2,11 @@
 ghost use Rattle.std.specs.Prelude.{◌≡◌, ◌+◌, ◌*◌, ◌<◌, ◌≤◌, get_or, take};
 ghost use Rattle.words.specs.Words.{Filled};
 ghost use Rattle.words.specs.Slices.{HasWords};
-ghost use Rattle.hours.specs.Hours.{most_drivers, longest};
-ghost use Rattle.hours.specs.Tally.{most_counts, Few, Known, line_row, driver_rows, rows_from, line_size, driver_size};
+ghost use Rattle.hours.specs.Hours.{longest};
+ghost use Rattle.hours.specs.Tally.{above_all, UpTo, line_row, driver_rows, rows_from, line_size, driver_size};
 
 use super::minutes::minutes;
+use super::tally::Tally;
 use words::put;
 
 // The words of a line.
@@ -26,20 +27,13 @@ fn write_line(report: &mut [u8], p: usize, first: u64, d: u64, a: u64, ms: u64)
     put(report, p + 4, minutes(ms));
 }
 
-// The ticks in place i as milliseconds.
-fn spent(counts: &[u64], i: usize, len: u64) -> u64
-    requires { Few counts.now × (i < most_counts) × (len ≤ longest) }
-    ensures { result ≡ get_or counts.now i 0 * len }
-{
-    counts[i] * len
-}
-
 // The four lines of driver i.
-fn write_driver(report: &mut [u8], i: usize, d: u64, counts: &[u64], len: u64)
-    requires i_lt_most_drivers { (i < most_drivers) × HasWords report.old (driver_size * i) driver_size }
-    requires few { Few counts.now × (len ≤ longest) }
-    ensures { Filled report.old report.new (driver_size * i) (driver_rows len d counts.now i) }
+fn write_driver(report: &mut [u8], i: usize, tally: &Tally, len: u64)
+    requires i_lt_n { (i < tally.now.n) × HasWords report.old (driver_size * i) driver_size }
+    requires few { UpTo above_all tally.now.counts × (len ≤ longest) }
+    ensures { Filled report.old report.new (driver_size * i) (driver_rows len (get_or tally.now.drivers i 0) tally.now.counts i) }
 {
+    let d = tally.drivers[i];
     let k = 1 + 4 * i;
     for a in 0..4 {
         write_line(
@@ -48,19 +42,19 @@ fn write_driver(report: &mut [u8], i: usize, d: u64, counts: &[u64], len: u64)
             1,
             d,
             a as u64,
-            spent(counts, k + a, len),
+            tally.spent(k + a, len),
         );
     }
 }
 
-// The whole report of n drivers.
-pub fn write_report(report: &mut [u8], drivers: &[u64], n: usize, counts: &[u64], len: u64)
-    requires known { Known drivers.now n × HasWords report.old 0 (driver_size * n + line_size) }
-    requires few { Few counts.now × (len ≤ longest) }
-    ensures { Filled report.old report.new 0 (rows_from len counts.now 0 (take n drivers.now)) }
+// The whole report.
+pub fn write_report(report: &mut [u8], tally: &Tally, len: u64)
+    requires has_words { HasWords report.old 0 (driver_size * tally.now.n + line_size) }
+    requires few { UpTo above_all tally.now.counts × (len ≤ longest) }
+    ensures { Filled report.old report.new 0 (rows_from len tally.now.counts 0 (take tally.now.n tally.now.drivers)) }
 {
-    for i in 0..n {
-        write_driver(report, i, drivers[i], counts, len);
+    for i in 0..tally.n {
+        write_driver(report, i, tally, len);
     }
-    write_line(report, DRIVER * n, 0, 0, 0, spent(counts, 0, len));
+    write_line(report, DRIVER * tally.n, 0, 0, 0, tally.spent(0, len));
 }

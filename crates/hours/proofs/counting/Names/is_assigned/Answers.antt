@@ -1,5 +1,5 @@
 use Rattle.hours.proofs.Passing.{driver_none, activity_none, activity_some}
-use Rattle.hours.proofs.counting.is_assigned.Goals as goal
+use Rattle.hours.proofs.counting.Names.is_assigned.Goals as goal
 
 pub returns-then-get-ne-INT : goal.returns-then-get-ne-INT
 returns-then-get-ne-INT c = driver_none _ _ _ _ _ _ c.get.ensures c.if-get-ne-INT.true
