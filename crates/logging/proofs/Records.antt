@@ -2,13 +2,14 @@
 use Prim.Native.Nat.{ℕ, ◌+◌, ◌-◌, ◌*◌, ◌/◌, ◌≤◌, ◌<◌}
 use mathlib.Core.Path.{◌≡◌, refl, sym, ap, subst, ◌∙◌}
 use mathlib.Core.Bool.{Bool, true, false}
+use Rattle.std.specs.Prelude.{Some, None}
 use mathlib.Core.List.{List, [], ◌∷◌, ◌++◌, map}
 use native.Mathlib.Omega.{arith}
 use borrow.Author.Tests.{eq-eqb, ne_eqb, le-leb, lt-leb}
 use lib.Dec.{eqb, leb}
 use lib.ListN.{length, take, drop, length-map, length-take, length-drop, take-append-drop}
 use lib.Seq.{sets-eq}
-use Rattle.words.specs.Words.{words, tail, Filled}
+use Rattle.words.specs.Words.{words, Filled}
 use Rattle.words.proofs.Laws.{count_words}
 use Rattle.model.specs.declared.Value.{Value}
 use Rattle.model.specs.Base.{if◌then◌otherwise◌}
@@ -20,7 +21,6 @@ use Rattle.model.proofs.ReadBack.{length_units, record_length}
 use Rattle.wires.specs.View.{values}
 use Rattle.units.specs.View.{units}
 use Rattle.logging.specs.declared.Head.{Head}
-use Rattle.logging.specs.declared.Written.TheVariants.{Fits, Full}
 use Rattle.logging.specs.Log.{record_of, fits, written_as, Writes}
 use Rattle.logging.specs.Rows.{head_row, begun_first, carried_first, entries_in, outs_in}
 use Rattle.words.proofs.Filling.{filled_more}
@@ -109,7 +109,7 @@ module _ (c : Circuit) (us vs : List ℕ) (h : Head) {n k o : ℕ} (l : 65536 �
       )
 
   -- It does not fit.
-  pub record_full : {s : List ℕ} {at : ℕ} → length s / 8 < at + (head_size + 2 * n + 2 * k + 2 * o) → (Full ≡ written_as (fits s at the_record) the_record) × Writes s s at the_record
+  pub record_full : {s : List ℕ} {at : ℕ} → length s / 8 < at + (head_size + 2 * n + 2 * k + 2 * o) → (None ≡ written_as (fits s at the_record) the_record) × Writes s s at the_record
   unfolding fits written_as if◌then◌otherwise◌
   record_full {s = s} {at = at} x =
       let q : leb (at + length the_record) (length (words s)) ≡ false = lt-leb (at + length the_record) (length (words s)) (omega (arith, count_words s, record_size)) in
@@ -119,7 +119,7 @@ module _ (c : Circuit) (us vs : List ℕ) (h : Head) {n k o : ℕ} (l : 65536 �
   pub record_written :
       {s t u v w : List ℕ} {at : ℕ} → at + (head_size + 2 * n + 2 * k + 2 * o) ≤ length s / 8 → Filled s t at (head_row h n k) → Filled t u (at + head_size) (gates_and_forms (entries_in begun_first n us)) →
       Filled u v (at + head_size + 2 * n) (gates_and_forms (entries_in carried_first k us)) → Filled v w (at + head_size + 2 * n + 2 * k) (kinds_and_contents (outs_in o vs)) →
-      (Fits (head_size + 2 * n + 2 * k + 2 * o) ≡ written_as (fits s at the_record) the_record) × Writes s w at the_record
+      (Some (head_size + 2 * n + 2 * k + 2 * o) ≡ written_as (fits s at the_record) the_record) × Writes s w at the_record
   unfolding fits written_as if◌then◌otherwise◌ head_row
   record_written {s = s} {w = w} {at = at} x a b d e =
       let y : at + head_size + 2 * n ≡ at + head_size + length (gates_and_forms (entries_in begun_first n us)) = omega (arith, length_units (entries_in begun_first n us), entries_length begun_first n us) in

@@ -1,12 +1,10 @@
 -- The record of a tick by what the areas hold, and the log after it.
-use Rattle.std.specs.Prelude.{ℕ, ◌+◌, ◌≡◌, Bool, true, false, List, [], ◌++◌, leb, eqb, length, take, drop}
+use Rattle.std.specs.Prelude.{ℕ, ◌+◌, ◌≡◌, Bool, true, false, Option, Some, None, List, [], ◌++◌, leb, eqb, length, take, drop}
 use Rattle.words.specs.Words.{words, tail}
 use Rattle.model.specs.declared.Value.{Value}
 use Rattle.model.specs.Base.{if◌then◌otherwise◌}
 use Rattle.model.specs.Record.{Listed, LogRecord}
 use Rattle.logging.specs.declared.Head.{Head}
-use Rattle.logging.specs.declared.Written.{Written}
-use Rattle.logging.specs.declared.Written.TheVariants.{Fits, Full}
 
 -- the record with this head, of the units begun and carried and of what the outputs show; a stopped tick shows none
 unfoldable pub record_of : Head → List Listed → List Listed → List Value → LogRecord
@@ -27,9 +25,9 @@ unfoldable pub fits : List ℕ → ℕ → List ℕ → Bool
 fits log at rs = leb (at + length rs) (length (words log))
 
 -- how many words were written, or none
-unfoldable pub written_as : Bool → List ℕ → Written
-written_as true rs = Fits (length rs)
-written_as false rs = Full
+unfoldable pub written_as : Bool → List ℕ → Option ℕ
+written_as true rs = Some (length rs)
+written_as false rs = None
 
 -- The log became `after`: the record stands behind the first `at` words if it fits; all else is as it was.
 pub record Writes (before after : List ℕ) (at : ℕ) (rs : List ℕ) : Type 0 where

@@ -1,5 +1,5 @@
 -- What the rows of a record are.
-use Rattle.std.specs.Prelude.{ℕ, ◌+◌, ◌-◌, List, [], ◌∷◌, map, get_or, take}
+use Rattle.std.specs.Prelude.{ℕ, ◌≡◌, ◌<◌, ◌+◌, ◌-◌, length, List, [], ◌∷◌, map, get_or, take}
 use Rattle.words.specs.Words.{words}
 use Rattle.words.specs.Tables.{base}
 use Rattle.model.specs.declared.Value.{Value}
@@ -28,3 +28,8 @@ entries_in k n bs = map (λ i. listed_of (get_or (words bs) i 0)) (from k n)
 -- what the first n outputs show, by the area `values`
 unfoldable pub outs_in : ℕ → List ℕ → List Value
 outs_in n bs = take n (both held (cut_values (words bs)).out_tags (cut_values (words bs)).out_contents)
+
+-- A row of n words: each is what f says of its place.
+pub record Says (f : ℕ → ℕ → Type 0) (n : ℕ) (row : List ℕ) : Type 0 where
+  pub length : length row ≡ n
+  pub words : (i r : ℕ) → i < n → f i r → r ≡ get_or row i 0

@@ -1,7 +1,7 @@
 // The record that a tick writes to the log.
 #![tactic(auto)]
 
-ghost use Rattle.std.specs.Prelude.{◌≡◌, map, ◌+◌, ◌*◌, ◌<◌, ◌≤◌, eqb, length, get_or};
+ghost use Rattle.std.specs.Prelude.{◌≡◌, ℕ, List, ◌+◌, ◌*◌, ◌<◌, ◌≤◌, eqb, length, get_or};
 ghost use Rattle.words.specs.Words.{words, Filled};
 ghost use Rattle.words.specs.Slices.{HasWords};
 ghost use Rattle.model.specs.Base.{if◌then◌otherwise◌};
@@ -13,7 +13,7 @@ ghost use Rattle.links.specs.Links.{most_outputs};
 ghost use Rattle.wires.specs.Held.{held};
 ghost use Rattle.wires.specs.View.{out_tags_at, out_contents_at};
 ghost use Rattle.logging.specs.Log.{fits, written_as, Writes};
-ghost use Rattle.logging.specs.Rows.{head_row, entries_in, outs_in};
+ghost use Rattle.logging.specs.Rows.{head_row, entries_in, outs_in, Says};
 ghost use Rattle.logging.specs.Lent.{record_in};
 
 use links::outputs;
@@ -24,7 +24,6 @@ use units::layout::{BEGUN_COUNT, CARRIED_COUNT};
 use units::raising::carried;
 use wires::held::{content_held, kind_held};
 use wires::layout::{OUT_CONTENTS, OUT_TAGS};
-use words::counting::less;
 use words::{get, put};
 
 // What a record says of its tick beside its units and outputs: its number, its steps, how many of its units began in the late pass, its stop, or 0, and how many of
@@ -38,13 +37,6 @@ pub struct Head {
     pub changed: u64,
 }
 
-// How many words a record has that was written, or that it does not fit: then no part of it is written.
-#[derive(Clone, Copy)]
-pub enum Written {
-    Fits(usize),
-    Full,
-}
-
 // Where the entries of the units begun and of those carried begin in the area `units`, in words: behind their counts.
 const BEGUN: usize = BEGUN_COUNT + 1;
 
@@ -55,7 +47,7 @@ fn write_head(log: &mut [u8], p: usize, head: Head, n: usize, k: usize)
     requires { HasWords log.old p head_size }
     ensures { Filled log.old log.new p (head_row head n k) }
 {
-    let main = less(n, head.late);
+    let main = n.saturating_sub(head.late);
     put(log, p, head.tick);
     put(log, p + 1, head.steps);
     put(log, p + 2, (n - main) as u64);
@@ -65,27 +57,14 @@ fn write_head(log: &mut [u8], p: usize, head: Head, n: usize, k: usize)
     put(log, p + 6, head.changed);
 }
 
-// The gates of the n units whose entries stand from word `first` on become the words of the log from word p on.
-fn write_gates(units: &[u8], first: usize, n: usize, log: &mut [u8], p: usize)
-    requires { HasWords units.now first n × HasWords log.old p n }
-    ensures { Filled log.old log.new p (map (λ u. u.gate) (entries_in first n units.now)) }
+// The words of the log from word p on become what `word` says of each number below n.
+fn write_row<F: Fn(usize) -> u64>(log: &mut [u8], p: usize, n: usize, word: F)
+    requires has_words { HasWords log.old p n }
+    requires callable { (i : ℕ) → i < n → F.pre word i }
+    ensures { (row : List ℕ) → Says (F.post word) n row → Filled log.old log.new p row }
 {
-    let mut i = 0;
-    while i < n {
-        put(log, p + i, gate_of(get(units, first + i)) as u64);
-        i += 1;
-    }
-}
-
-// Their forms become the words from word p on.
-fn write_forms(units: &[u8], first: usize, n: usize, log: &mut [u8], p: usize)
-    requires { HasWords units.now first n × HasWords log.old p n }
-    ensures { Filled log.old log.new p (map (λ u. u.form) (entries_in first n units.now)) }
-{
-    let mut i = 0;
-    while i < n {
-        put(log, p + i, form_of(get(units, first + i)) as u64);
-        i += 1;
+    for i in 0..n {
+        put(log, p + i, word(i));
     }
 }
 
@@ -94,8 +73,8 @@ fn write_units(units: &[u8], first: usize, n: usize, log: &mut [u8], p: usize)
     requires { HasWords units.now first n × HasWords log.old p (2 * n) }
     ensures { Filled log.old log.new p (gates_and_forms (entries_in first n units.now)) }
 {
-    write_gates(units, first, n, log, p);
-    write_forms(units, first, n, log, p + n);
+    write_row(log, p, n, |i| gate_of(get(units, first + i)) as u64);
+    write_row(log, p + n, n, |i| form_of(get(units, first + i)) as u64);
 }
 
 // How many outputs the record of a tick with this stop shows: all, or none where there is a stop.
@@ -122,40 +101,16 @@ fn content_at(values: &[u8], o: usize) -> u64
     content_held(get(values, OUT_TAGS + o), get(values, OUT_CONTENTS + o))
 }
 
-// The kinds of the first n outputs become the words from word p on.
-fn write_kinds(values: &[u8], log: &mut [u8], p: usize, n: usize)
-    requires { Room values.now × (n ≤ most_outputs) × HasWords log.old p n }
-    ensures { Filled log.old log.new p (map kind_of (outs_in n values.now)) }
-{
-    let mut i = 0;
-    while i < n {
-        put(log, p + i, kind_at(values, i));
-        i += 1;
-    }
-}
-
-// Their contents become the words from word p on.
-fn write_contents(values: &[u8], log: &mut [u8], p: usize, n: usize)
-    requires { Room values.now × (n ≤ most_outputs) × HasWords log.old p n }
-    ensures { Filled log.old log.new p (map content_of (outs_in n values.now)) }
-{
-    let mut i = 0;
-    while i < n {
-        put(log, p + i, content_at(values, i));
-        i += 1;
-    }
-}
-
 // The kinds and then the contents of the first n outputs become the words from word p on.
 fn write_outputs(values: &[u8], log: &mut [u8], p: usize, n: usize)
     requires { Room values.now × (n ≤ most_outputs) × HasWords log.old p (2 * n) }
     ensures { Filled log.old log.new p (kinds_and_contents (outs_in n values.now)) }
 {
-    write_kinds(values, log, p, n);
-    write_contents(values, log, p + n, n);
+    write_row(log, p, n, |o| kind_at(values, o));
+    write_row(log, p + n, n, |o| content_at(values, o));
 }
 
-// The record of a tick becomes the words of the log from word `at` on, if it fits there; else nothing is written.
+// The record of a tick becomes the words of the log from word `at` on, if it fits there: how many words it has. Else nothing is written.
 pub fn write_record(
     links: &[usize],
     values: &[u8],
@@ -163,7 +118,7 @@ pub fn write_record(
     log: &mut [u8],
     at: usize,
     head: Head,
-) -> Written
+) -> Option<usize>
     requires { Linked links.now × Room values.now × Room units.now × (at * 8 ≤ length log.old) }
     ensures value { result ≡ written_as (fits log.old at (record_in links.now values.now units.now head)) (record_in links.now values.now units.now head) }
     ensures writes { Writes log.old log.new at (record_in links.now values.now units.now head) }
@@ -173,11 +128,11 @@ pub fn write_record(
     let o = outputs_shown(links, head.stop);
     let size = HEAD + 2 * n + 2 * k + 2 * o;
     if log.len() / 8 < at + size {
-        return Written::Full;
+        return None;
     }
     write_head(log, at, head, n, k);
     write_units(units, BEGUN, n, log, at + HEAD);
     write_units(units, CARRIED, k, log, at + HEAD + 2 * n);
     write_outputs(values, log, at + HEAD + 2 * n + 2 * k, o);
-    Written::Fits(size)
+    Some(size)
 }

@@ -7,7 +7,7 @@ use native.Mathlib.Omega.{arith}
 use borrow.Author.Tests.{leb-true, leb-false, le-leb, lt-leb}
 use lib.Dec.{eqb, leb}
 use lib.ListN.{length, take, drop, length-map, take-append-drop}
-use Rattle.words.specs.Words.{words, tail}
+use Rattle.words.specs.Words.{words}
 use Rattle.words.proofs.Laws.{lengths}
 use Rattle.schedule.specs.Schedule.{Setup, Activation, LateQ, MainQ, OpenQ, log_full, Passed, main_pass, acts, outcome, tick, Closed}
 use Rattle.model.specs.Base.{if◌then◌otherwise◌}

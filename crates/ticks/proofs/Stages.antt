@@ -21,8 +21,7 @@ use Rattle.passes.specs.Waiting.{bare, for_late, for_main}
 use Rattle.passes.specs.Passes.{with_begun, units_left, Passes}
 use Rattle.passes.proofs.Turns.{stopped}
 use Rattle.logging.specs.declared.Head.{Head}
-use Rattle.logging.specs.declared.Written.{Written}
-use Rattle.logging.specs.declared.Written.TheVariants.{Fits, Full as TooLong}
+use Rattle.std.specs.Prelude.{Option, Some, None}
 use Rattle.logging.specs.Log.{fits, written_as, Writes}
 use Rattle.ticks.specs.declared.Ticked.{Ticked}
 use Rattle.ticks.specs.Stages.{RanLate, RanMain, steps_made, outputs_read, head_of, words_with, words_of, ticked_as, Closes}
@@ -108,9 +107,9 @@ unfolding head_of
 head_is limit late changed left stop tick made v e₁ e₂ = rw (e₁, e₂) refl
 
 -- what a tick answers, by what writing its record came to
-abbrev pub ticked_by : Written → ℕ → Ticked
-ticked_by (Fits n) stop = record { size = n; stop = stop }
-ticked_by TooLong stop = record { size = 0; stop = log_full }
+abbrev pub ticked_by : Option ℕ → ℕ → Ticked
+ticked_by (Some n) stop = record { size = n; stop = stop }
+ticked_by None stop = record { size = 0; stop = log_full }
 
 ticked_is : (t : Bool) (rs : List ℕ) (stop : ℕ) → ticked_by (written_as t rs) stop ≡ ticked_as t rs stop
 unfolding written_as ticked_as
@@ -119,7 +118,7 @@ ticked_is false rs stop = refl
 
 -- the record was written, or did not fit
 pub closes :
-    (c : Circuit) (limit late changed : ℕ) (r : Ran) (v b : Values) (u : Units) (before after : List ℕ) (at : ℕ) (h : Head) {x y : Written} →
+    (c : Circuit) (limit late changed : ℕ) (r : Ran) (v b : Values) (u : Units) (before after : List ℕ) (at : ℕ) (h : Head) {x y : Option ℕ} →
     b ≡ with_wires v (outputs_read c v.wires r.stop) → h ≡ head_of limit late changed r.left r.stop b →
     x ≡ written_as (fits before at (words_with h b u)) (words_with h b u) → Writes before after at (words_with h b u) → x ≡ y →
     Closes c limit late changed r v b u before after at (ticked_by y r.stop)
@@ -130,7 +129,7 @@ closes c limit late changed r v b u before after at h e₁ e₂ e₃ e₄ e₅ =
     record {
       values = e₁;
       answer =
-          ap (λ (z : Written). ticked_by z r.stop) (sym e₅ ∙ e₃ ∙ ap (λ (z : List ℕ). written_as (fits before at z) z) same)
+          ap (λ (z : Option ℕ). ticked_by z r.stop) (sym e₅ ∙ e₃ ∙ ap (λ (z : List ℕ). written_as (fits before at z) z) same)
           ∙ ticked_is (fits before at rs) rs r.stop;
       log = subst (λ (z : List ℕ). Writes before after at z) same e₄;
     }

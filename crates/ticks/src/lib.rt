@@ -19,7 +19,7 @@ ghost use Rattle.ticks.specs.Lent.{TicksAs};
 
 use chain::Ran;
 use lists::Filed;
-use logging::{Head, Written, write_record};
+use logging::{Head, write_record};
 use opening::open;
 use passes::{late_pass, main_pass};
 use states::counting::changed;
@@ -27,7 +27,6 @@ use stops::{LIST_FULL, LOG_FULL, RUNAWAY};
 use units::begun::begun;
 use wires;
 use wires::refreshing::refresh_all;
-use words::counting::less;
 
 // What a tick comes to: how many words its record has, 0 where it does not fit, and its stop, or 0.
 #[derive(Clone, Copy)]
@@ -81,7 +80,7 @@ fn steps(limit: u64, left: u64, stop: u64) -> u64
     requires { limit < 2 ^ 63 }
     ensures { result ≡ steps_made limit left stop }
 {
-    let made = less(limit as usize, left as usize) as u64;
+    let made = limit.saturating_sub(left);
     if stop == RUNAWAY { made + 1 } else { made }
 }
 
@@ -138,8 +137,8 @@ fn close(
     read_outputs(links, values, stop);
     let h = head(links, values, limit, late, changed, left, stop);
     match write_record(links, values, units, log, at, h) {
-        Written::Fits(n) => Ticked { size: n, stop },
-        Written::Full => Ticked {
+        Some(n) => Ticked { size: n, stop },
+        None => Ticked {
             size: 0,
             stop: LOG_FULL,
         },
