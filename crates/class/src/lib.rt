@@ -69,12 +69,10 @@ fn scripts(
     requires { Linked links.now × Ready links.now circuit.now values.old units.old delays.old × Scripts book.now log.old n size }
     ensures { SoFar (call_of circuit.now book.now log.old values.old units.old delays.old told.old) size n (left_of log.new values.new units.new delays.new told.new) }
 {
-    let mut i = 0;
-    while i < n {
+    for i in 0..n {
         turn(
             circuit, links, book, n, size, i, log, values, units, delays, told,
         );
-        i += 1;
     }
 }
 

@@ -5,10 +5,5 @@ ghost use Rattle.run.specs.Running.{Zeroed};
 pub fn clear(area: &mut [u8])
     ensures { Zeroed (area.old, area.new) }
 {
-    let n = area.len();
-    let mut i = 0;
-    while i < n {
-        area[i] = 0;
-        i += 1;
-    }
+    area.fill(0);
 }

@@ -68,10 +68,9 @@ fn play(
     let stimuli = get(script, 1) as usize;
     let gates = 2 + 2 * ticks;
     let constants = gates + stimuli;
-    let mut k = 0;
     let mut used = 0;
     let mut at = 0;
-    while k < ticks {
+    for k in 0..ticks {
         let n = get(script, 2 + ticks + k) as usize;
         let dt = get(script, 2 + k);
         let t = tick(
@@ -97,7 +96,6 @@ fn play(
             };
         }
         used += n;
-        k += 1;
     }
     Outcome {
         stop: 0,

@@ -9,8 +9,5 @@ use mathlib.Core.Path.{◌≡◌}
 use Rattle.run.proofs.play.Given as goal
 
 abbrev pub invariant-loop-k : goal.invariant-loop-k
-invariant-loop-k l = (length l.values ≡ length l.initial.values) × (length l.units ≡ length l.initial.units) × (length l.delays ≡ length l.initial.delays) × (length l.log ≡ length l.initial.log) × (l.k ≤ l.ticks) × (l.ticks ≤ 100000) × ((2 + 2 * (l.ticks + l.stimuli)) * 8 ≤ length l.script) × (l.used ≤ l.stimuli) × (l.at * 8 ≤ length l.initial.log) × Lent (net l.links) l.delays
+invariant-loop-k l = (length l.values ≡ length l.initial.values) × (length l.units ≡ length l.initial.units) × (length l.delays ≡ length l.initial.delays) × (length l.log ≡ length l.initial.log) × (l.ticks ≤ 100000) × ((2 + 2 * (l.ticks + l.stimuli)) * 8 ≤ length l.script) × (l.used ≤ l.stimuli) × (l.at * 8 ≤ length l.initial.log) × Lent (net l.links) l.delays
     × Playing (net l.links) l.limit (words l.script) l.k l.used l.at (areas (net l.links) l.values l.units l.delays) l.initial.log l.log
-
-abbrev pub decreases-loop-k : goal.decreases-loop-k
-decreases-loop-k l = l.ticks - l.k
