@@ -23,9 +23,9 @@ pub fn record_size(log: &[u8], at: usize, left: usize, outputs: usize) -> usize
     let stop = read(log, at + STOP);
     let units = HEAD + 2 * (late + main) + 2 * carried;
     if stop == 0 {
-        least((units + 2 * outputs) as u64, left)
+        (units + 2 * outputs).min(left)
     } else {
-        least(units as u64, left)
+        units.min(left)
     }
 }
 

@@ -63,25 +63,14 @@ fn can_have(links: &[usize], g: usize, form: usize) -> bool
     ensures { result ≡ can_have (net_of links.now) g form }
 {
     let kind = kind_of_gate(links, g);
-    if form == FIRE {
-        return firing(kind);
+    match form {
+        FIRE => firing(kind),
+        EVENT => receiving(kind),
+        STIMULUS => kind == WORLD_EVENT,
+        BY_PIN..BY_OUTPUT => driven(links, g, form - BY_PIN),
+        BY_OUTPUT..END => kind == EDGE_EXEC,
+        _ => false,
     }
-    if form == EVENT {
-        return receiving(kind);
-    }
-    if form == STIMULUS {
-        return kind == WORLD_EVENT;
-    }
-    if form < BY_PIN {
-        return false;
-    }
-    if form < BY_OUTPUT {
-        return driven(links, g, form - BY_PIN);
-    }
-    if form < END {
-        return kind == EDGE_EXEC;
-    }
-    false
 }
 
 // Whether there is such a gate, and it can have this form.
