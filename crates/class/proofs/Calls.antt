@@ -1,5 +1,5 @@
 -- A whole call: turned away, or each script answered.
-use Prim.Native.Nat.{ℕ, zero, suc, ◌<◌}
+use Prim.Native.Nat.{ℕ, zero, suc}
 use mathlib.Core.Path.{◌≡◌, refl, sym, ap, ◌∙◌}
 use mathlib.Core.Bool.{Bool, true, false}
 use mathlib.Core.List.{List, [], ◌∷◌, map}
@@ -7,12 +7,11 @@ use mathlib.Core.Option.{some}
 use native.Mathlib.Omega.{arith}
 use lib.ListN.{length}
 use Rattle.model.specs.Base.{if◌then◌otherwise◌, from}
-use Rattle.model.specs.Questions.{circuit_refusal, or_else}
+use Rattle.model.specs.Questions.{circuit_refusal}
 use Rattle.model.specs.Answer.{Answer, answer}
 use Rattle.model.specs.Book.{count, good_book, entry, entries, part_of}
 use Rattle.model.specs.Several.{Several, turned_away, answered, call_number, call_log, call_told}
 use Rattle.model.specs.Class.{most_scripts, no_book, class_refusal, class_to, class, class_area}
-use Rattle.promises.specs.Promises.{Promised}
 use Rattle.promises.proofs.Promises.{promised}
 use Rattle.model.proofs.Classes.{class_numbers}
 use Rattle.circuit.proofs.Order.{first_number, later_number}

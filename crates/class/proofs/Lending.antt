@@ -1,6 +1,6 @@
 -- One script: its part of the book and of the log is lent, and what comes back is told.
 use Prim.Native.Nat.{ℕ, ◌+◌, ◌-◌, ◌*◌, ◌≤◌, ◌<◌}
-use mathlib.Core.Path.{◌≡◌, sym, ap, ◌∙◌}
+use mathlib.Core.Path.{◌≡◌, ap, ◌∙◌}
 use mathlib.Core.List.{List}
 use native.Mathlib.Omega.{arith}
 use lib.ListN.{length, take, drop, length-drop}
@@ -8,8 +8,7 @@ use lib.Seq.{length-take-le}
 use borrow.Rule.Slice.PartMut.{put_mid}
 use Rattle.model.specs.Answer.{answer, log_after, area_after}
 use Rattle.model.specs.Answer as model
-use Rattle.model.specs.Book.{entry, cut}
-use Rattle.model.specs.Several.{told_of}
+use Rattle.model.specs.Book.{cut}
 use Rattle.run.specs.declared.Answer.{Answer}
 use Rattle.run.specs.Told.{told}
 use Rattle.run.specs.Call as run
@@ -18,7 +17,7 @@ use Rattle.books.specs.declared.Span.{Span}
 use Rattle.books.proofs.Parts.{part_in}
 use Rattle.telling.specs.Numbers.{all_of, put_from}
 use Rattle.telling.proofs.Numbers.{all_told}
-use Rattle.class.specs.Call.{Call, Left, lent}
+use Rattle.class.specs.Call.{Call, lent}
 use Rattle.class.specs.Scripts.{answer_of, Turned}
 
 module _ (k : Call) (n size i : ℕ) (s : Span) (h : i < n) (l : n * size ≤ length k.log) (b : Spans k.book i s) where

@@ -9,7 +9,7 @@ use lib.ListN.{length, take, drop, length-drop}
 use lib.Seq.{length-take-le, take_at, drop_at}
 use Rattle.model.specs.Base.{from, joined}
 use Rattle.model.specs.Answer.{Answer, answer, log_after}
-use Rattle.model.specs.Book.{count, entry, entries, part_of, cut}
+use Rattle.model.specs.Book.{count, entries, part_of, cut}
 use Rattle.model.specs.Several.{Several, answered, call_number, parts_after, call_log, told_of, over, call_told}
 use Rattle.model.specs.Class.{class_refusal, class_to, class}
 use Rattle.books.proofs.Parts.{parts_in}

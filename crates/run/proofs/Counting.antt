@@ -1,7 +1,7 @@
 -- A tick counts up the number of ticks by one: its opening does at its start, and nothing after that changes the number.
 use mathlib.Core.Path.{◌≡◌, refl}
 use mathlib.Core.Bool.{Bool, true}
-use mathlib.Core.List.{List, [], ◌∷◌}
+use mathlib.Core.List.{List, []}
 use mathlib.Core.Option.{Option}
 use Prim.Native.Nat.{ℕ, suc}
 use Rattle.schedule.specs.Schedule.{Raise, When, Outcome, Closed, plain, Activation, tick}

@@ -8,7 +8,6 @@ use lib.Dec.{ltb, eqb}
 use borrow.Author.Tests.{ltb-true, ltb-false, eqb-true}
 use lib.ListN.{length, get_or, take, drop, length-drop, drop_of_length-le, get_or-eq_default}
 use lib.Seq.{drop-drop, get_or-drop, get_or-take, length-take-le}
-use Rattle.words.specs.Words.{words}
 use Rattle.model.specs.Base.{all, both, sum}
 use Rattle.model.specs.Circuit.{Circuit, part, word_at, kind_of_gate}
 use Rattle.model.specs.Script.{Given, stimulus, given, script}

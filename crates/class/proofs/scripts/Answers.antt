@@ -1,8 +1,7 @@
 use Rattle.class.proofs.Going.{still_good, going_first, going_next, going_last}
 use Rattle.class.specs.Call.{call_of, left_of}
-use mathlib.Core.List.{List}
 use mathlib.Core.Path.{refl, sym, subst}
-use Prim.Native.Nat.{ℕ, ◌-◌, ◌*◌, ◌≤◌}
+use Prim.Native.Nat.{ℕ, ◌*◌, ◌≤◌}
 use borrow.Author.Rules.{rules}
 use Rattle.class.proofs.scripts.Goals as goal
 

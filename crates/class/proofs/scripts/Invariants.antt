@@ -2,7 +2,7 @@ use Rattle.class.specs.Call.{call_of, left_of}
 use Rattle.class.specs.Scripts.{SoFar}
 use lib.ListN.{length}
 use mathlib.Core.Path.{◌≡◌}
-use Prim.Native.Nat.{ℕ, ◌-◌, ◌≤◌}
+use Prim.Native.Nat.{ℕ}
 use Rattle.class.proofs.scripts.Given as goal
 
 abbrev pub invariant-loop-i : goal.invariant-loop-i

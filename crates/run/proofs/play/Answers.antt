@@ -1,6 +1,5 @@
 use native.Mathlib.Omega.{arith}
 use Rattle.run.proofs.Playing.{playing_first, script_head, script_room, few_ticks, fits, record_in, playing_on, playing_stop, playing_end}
-use Prim.Native.Nat.{◌-◌}
 use borrow.Author.Rules.{rules}
 use Rattle.run.proofs.play.Goals as goal
 

@@ -3,7 +3,7 @@ use Rattle.words.specs.Words.{words}
 use Rattle.links.specs.Links.{net}
 use Rattle.states.specs.View.{Lent}
 use Rattle.areas.specs.Areas.{areas}
-use Prim.Native.Nat.{◌+◌, ◌-◌, ◌*◌, ◌≤◌}
+use Prim.Native.Nat.{◌+◌, ◌*◌, ◌≤◌}
 use lib.ListN.{length}
 use mathlib.Core.Path.{◌≡◌}
 use Rattle.run.proofs.play.Given as goal
