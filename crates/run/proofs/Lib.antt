@@ -8,7 +8,7 @@ pub mod Fewer
 pub mod Bytes
 -- the number of the tick: `tick_by_one`, `start_at_zero`
 pub mod Counting
--- an area made zero: `zero_next`, `all_zero`
+-- an area made zero: `zero_as`
 pub mod Zeros
 -- the turns of the loop that plays a script: `playing_first`, `playing_on`, `playing_stop`, `playing_end`
 pub mod Playing
