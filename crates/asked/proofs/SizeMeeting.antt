@@ -18,8 +18,8 @@ words_decide d n told words r h q = rw (eq-eqb n d.number h) q
 
 -- the call answered, and all compared
 pub size_meets :
-    (d : SizeDue) (cb words told left : List ℕ) (n : ℕ) (r : Bool) →
-    Right cb d.ticks told left n → r ≡ size_as_due d n left words →
+    (d : SizeDue) (cb words told left : List ℕ) (n m : ℕ) (r : Bool) →
+    Right cb d.ticks told left m → n ≡ m → r ≡ size_as_due d n left words →
     r ≡ size_met d cb words told
 unfolding size_met
-size_meets d cb words told left n r h f = f ∙ (λ i. size_as_due d (h.number i) (h.told_words i) words)
+size_meets d cb words told left n m r h e f = f ∙ (λ i. size_as_due d ((e ∙ h.number) i) (h.told_words i) words)

@@ -3,6 +3,7 @@ ghost use Rattle.words.specs.Words.{words};
 ghost use Rattle.std.specs.Prelude.{◌≡◌};
 ghost use Rattle.asked.specs.Case.{case_of, answers, right};
 
+use circuit::refusals::refused;
 use circuit::{check, refusal};
 use words::read;
 
@@ -17,7 +18,7 @@ pub struct Case {
     pub circuit: usize,
 }
 
-// What the two functions answered.
+// The numbers that the two functions answered.
 #[derive(Clone, Copy)]
 pub struct Answers {
     pub check: u64,
@@ -43,8 +44,8 @@ pub fn ask(case: Case, circuit: &[u8], script: &[u8]) -> Answers
     ensures { result ≡ answers case circuit.now script.now }
 {
     Answers {
-        check: check(circuit, script),
-        refusal: refusal(circuit, script, case.values, case.units, case.delays),
+        check: refused(check(circuit, script)),
+        refusal: refused(refusal(circuit, script, case.values, case.units, case.delays)),
     }
 }
 

@@ -11,6 +11,7 @@ mod size_due;
 mod tally;
 
 use case::{Answers, Case, ask, is_right, numbers};
+use circuit::refusals::refused;
 use packed::failing::fail;
 use packed::filled::{TOLD, filled_words};
 use packed::read_full;
@@ -136,7 +137,7 @@ fn ask_next_case(rt: &impl Print, file: &mut impl Read, tally: Tally) -> io::Res
 fn ask_size_lent(due: SizeDue, circuit: &[u8], words: &[u64], told: &mut [u64]) -> bool
     ensures { result ≡ size_met due circuit.now words.now told.old }
 {
-    let number = size::size(circuit, due.ticks, told);
+    let number = refused(size::size(circuit, due.ticks, told));
     is_size_as_due(due, number, told, words)
 }
 

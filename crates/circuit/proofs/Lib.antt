@@ -26,6 +26,8 @@ pub mod Descent
 pub mod Unplaced
 -- question 6: what a gate reads, and the rounds
 pub mod Sources
+-- what a refusal is told with
+pub mod Numbers
 -- the questions one after the other
 pub mod Order
 -- what is known where nothing is refused: an order of the pure gates, and that the links show the circuit

@@ -1,3 +1,4 @@
 pub mod Bodies
 pub mod Gates
+pub mod Numbers
 pub mod Refusals

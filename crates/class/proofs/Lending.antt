@@ -9,8 +9,7 @@ use borrow.Rule.Slice.PartMut.{put_mid}
 use Rattle.model.specs.Answer.{answer, log_after, area_after}
 use Rattle.model.specs.Answer as model
 use Rattle.model.specs.Book.{cut}
-use Rattle.run.specs.declared.Answer.{Answer}
-use Rattle.run.specs.Told.{told}
+use Rattle.run.specs.Told.{Answer, told}
 use Rattle.run.specs.Call as run
 use Rattle.books.specs.Lent.{Spans}
 use Rattle.books.specs.declared.Span.{Span}

@@ -3,21 +3,20 @@
 
 ghost use Rattle.std.specs.Prelude.{◌<◌};
 ghost use Rattle.links.specs.Lent.{Linked};
+ghost use Rattle.circuit.specs.Numbers.{refused};
 ghost use Rattle.run.specs.Call.{Ready};
 ghost use Rattle.class.specs.Call.{Right, call_of, left_of};
 ghost use Rattle.class.specs.Scripts.{Scripts, Turned, SoFar};
 
 use books::{count, entry, good_book, part_of};
 use circuit::refusal_lent;
+use circuit::refusals::Refusal;
 use links::layout::CELLS;
 use run::script_answer;
 use telling::tell;
 
 // The most scripts of a class.
 const MOST_SCRIPTS: usize = 16;
-
-// The number of a book that is none.
-const NO_BOOK: u64 = 15;
 
 // Script i of n: its span of the book, its part of the log, of so many bytes, and what is told of it.
 fn turn(
@@ -86,21 +85,18 @@ pub fn class(
     units: &mut [u8],
     delays: &mut [u8],
     told: &mut [u64],
-) -> u64
-    ensures { Right (call_of circuit.now book.now log.old values.old units.old delays.old told.old) (left_of log.new values.new units.new delays.new told.new) result }
+) -> Result<(), Refusal>
+    ensures { Right (call_of circuit.now book.now log.old values.old units.old delays.old told.old) (left_of log.new values.new units.new delays.new told.new) (refused result) }
 {
     let mut links = [0usize; CELLS];
-    let number = refusal_lent(circuit, &mut links, values.len(), units.len(), delays.len());
-    if number != 0 {
-        return number;
-    }
+    refusal_lent(circuit, &mut links, values.len(), units.len(), delays.len())?;
     if !good_book(MOST_SCRIPTS, book) {
-        return NO_BOOK;
+        return Err(Refusal::NoBook);
     }
     let n = count(book);
     let size = part_of(n, log.len());
     scripts(
         circuit, &links, book, n, size, log, values, units, delays, told,
     );
-    0
+    Ok(())
 }

@@ -3,8 +3,9 @@ use Prim.Native.Nat.{ℕ, zero, suc, ◌+◌, ◌*◌, ◌≤◌, ◌<◌}
 use mathlib.Core.Path.{◌≡◌, refl, sym, ap, ◌∙◌, subst}
 use mathlib.Core.Bool.{Bool, true, false, not, ◌&&◌}
 use mathlib.Core.List.{List, [], ◌∷◌, ◌++◌, map}
-use Rattle.std.specs.Prelude.{Option, Some, None}
 use native.Mathlib.Omega.{arith}
+use Rattle.std.specs.Prelude.{Option, Some, None, Err, ok_or}
+use Rattle.std.proofs.lemmas.Option.{none-some, same_Some}
 use borrow.Author.Tests.{not-true, not-false, ltb-true, leb-true, le-leb, lt-leb}
 use lib.Dec.{leb}
 use lib.ListN.{length, set, take, drop}
@@ -23,6 +24,8 @@ use Rattle.links.specs.Links.{most_outputs, net}
 use Rattle.records.specs.Whole.{not_whole, whole, log_refusal}
 use Rattle.records.specs.Records.{records_in, records, ticks_read}
 use Rattle.records.specs.Reply.{Reply, refused, writes, or_refused, reply_number, buffer_after, told_after}
+use Rattle.circuit.specs.declared.refusals.Refusal.{Refusal}
+use Rattle.circuit.specs.Numbers as code
 use Rattle.whole.specs.Asked.{Asked}
 use Rattle.whole.proofs.Passing.{passed}
 use Rattle.walk.specs.Walk.{WholeLog}
@@ -80,13 +83,13 @@ unfolding rows_from driver_rows line_row line_words
 rows_length len cs i [] = refl
 rows_length len cs i (d ∷ ds) = let r = rows_length len cs (suc i) ds in omega (arith, r)
 
-not_written : (len : ℕ) (ss : List Share) (old : List ℕ) → has_room len (length old) ss ≡ false → Written (reported len (length old) ss) old old 0
+not_written : (len : ℕ) (ss : List Share) (old : List ℕ) → has_room len (length old) ss ≡ false → Written (reported len (length old) ss) old old None
 unfolding reported if◌then◌otherwise◌ reply_size buffer_after
 not_written len ss old e = rw e (record { size = refl; buffer = refl })
 
 module _ (len : ℕ) (ss : List Share) (good : Each GoodShare ss) (r : Option Kept) (q : CountedAll ss r) (old : List ℕ) where
   -- a 33rd driver
-  pub too_many : r ≡ None → Written (reported len (length old) ss) old old 0
+  pub too_many : r ≡ None → Written (reported len (length old) ss) old old None
   unfolding has_room drivers
   too_many l =
       let m = q.many l in
@@ -111,7 +114,7 @@ module _ (len : ℕ) (ss : List Share) (good : Each GoodShare ss) (r : Option Ke
         (omega (arith, a, m), omega (arith, b, d, m))
 
     -- the report does not fit
-    pub too_long : length old < 8 * (driver_size * t.n + line_size) → Written (reported len (length old) ss) old old 0
+    pub too_long : length old < 8 * (driver_size * t.n + line_size) → Written (reported len (length old) ss) old old None
     unfolding has_room
     too_long h =
         let z = sizes in
@@ -123,7 +126,7 @@ module _ (len : ℕ) (ss : List Share) (good : Each GoodShare ss) (r : Option Ke
     -- it is written
     pub all_written :
         8 * (driver_size * t.n + line_size) ≤ length old → (new : List ℕ) → Below 256 old → Below 256 new → Filled old new 0 (rows_from len t.counts 0 (take t.n t.drivers)) →
-        Written (reported len (length old) ss) old new (8 * (driver_size * t.n + line_size))
+        Written (reported len (length old) ss) old new (Some (8 * (driver_size * t.n + line_size)))
     unfolding has_room reported if◌then◌otherwise◌ reply_size buffer_after
     all_written h new b₁ b₂ f =
         let z = sizes in
@@ -135,7 +138,7 @@ module _ (len : ℕ) (ss : List Share) (good : Each GoodShare ss) (r : Option Ke
         let k = length_bytes (report_words (report len ss)) in
         rw (x, y)
         (record {
-          size = omega (arith, z₁, k);
+          size = (let m : 8 * (driver_size * t.n + line_size) ≡ length (bytes (report_words (report len ss))) = omega (arith, z₁, k) in ap (λ (m : ℕ). Some m) m);
           buffer = filled_bytes old new (report_words (report len ss)) b₁ b₂ (omega (arith, z₁, h)) g
               ∙ ap (λ (n : ℕ). bytes (report_words (report len ss)) ++ drop n old) (sym k);
         })
@@ -161,14 +164,9 @@ unfolding over
 one_told [] v = refl
 one_told (x ∷ told) v = ap (λ (l : List ℕ). v ∷ l) (sym (take-length told))
 
--- a report has its last line at the least
-none_written : (len : ℕ) (ss : List Share) → length (bytes (report_words (report len ss))) ≡ 0 → ⊥
-unfolding report_words report lines_of joined line_words
-none_written len ss e = go (drivers ss) (let k = length_bytes (joined (map line_words (lines_of len ss (drivers ss)))) in omega (arith, k, e))
-  where
-    go : (ds : List ℕ) → length (joined (map line_words (lines_of len ss ds))) ≡ 0 → ⊥
-    go [] z = omega (arith, z)
-    go (d ∷ ds) z = omega (arith, z)
+-- what is handed on where nothing was written
+pub no_size : (o : Option ℕ) (f e : Refusal) → o ≡ None → Err e ≡ ok_or o f → code.number_of e ≡ code.number_of f
+no_size o f e z h = ap code.refused (h ∙ ap (λ (x : Option ℕ). ok_or x f) z)
 
 module _ (k : Call) where
   abbrev c : Circuit
@@ -237,7 +235,7 @@ module _ (k : Call) where
       unfolding records
       same_records = ap (λ (n : ℕ). shares k.driver k.activity (records_in n most_ticks (words k.log))) (eo ∙ ap (λ (c : Circuit). length c.outputs) shows)
 
-      module _ {new : List ℕ} {size : ℕ} (w : Written (reported k.len (length k.report) (shares k.driver k.activity (records_in outs most_ticks (words k.log)))) k.report new size) where
+      module _ {new : List ℕ} {size : Option ℕ} (w : Written (reported k.len (length k.report) (shares k.driver k.activity (records_in outs most_ticks (words k.log)))) k.report new size) where
         written : Written (hours_answer k) k.report new size
         written = subst (λ (a : Reply). Written a k.report new size) (ap (reported k.len (length k.report)) same_records ∙ sym asked) w
 
@@ -251,22 +249,22 @@ module _ (k : Call) where
         fits_not q = asked ∙ rw q refl
 
         -- by 18
-        pub refused_room : size ≡ 0 → Right k (record { report = new; told = k.told }) no_room
+        pub refused_room : size ≡ None → Right k (record { report = new; told = k.told }) no_room
         unfolding reply_size reply_number told_after
         refused_room z = go (has_room k.len (length k.report) ss) refl
           where
             go : (b : Bool) → has_room k.len (length k.report) ss ≡ b → Right k (record { report = new; told = k.told }) no_room
-            go true q = absurd (none_written k.len ss (sym (ap reply_size (fits q)) ∙ sym written.size ∙ z))
+            go true q = absurd (none-some _ (sym z ∙ written.size ∙ ap reply_size (fits q)))
             go false q = let e = fits_not q in right (ap reply_number (sym e)) written.buffer (ap (λ (a : Reply). told_after a k.told) (sym e))
 
         -- by none
-        pub report_told : (size ≡ 0 → ⊥) → {told₁ : List ℕ} → told₁ ≡ set k.told 0 size → Right k (record { report = new; told = told₁ }) 0
+        pub report_told : {n : ℕ} → size ≡ Some n → {told₁ : List ℕ} → told₁ ≡ set k.told 0 n → Right k (record { report = new; told = told₁ }) 0
         unfolding reply_size reply_number told_after
-        report_told z {told₁ = told₁} t = go (has_room k.len (length k.report) ss) refl
+        report_told {n = n} z {told₁ = told₁} t = go (has_room k.len (length k.report) ss) refl
           where
             go : (b : Bool) → has_room k.len (length k.report) ss ≡ b → Right k (record { report = new; told = told₁ }) 0
-            go false q = absurd (z (written.size ∙ ap reply_size (fits_not q)))
+            go false q = absurd (none-some n (sym (written.size ∙ ap reply_size (fits_not q)) ∙ z))
             go true q =
                 let e = fits q in
                 right (ap reply_number (sym e)) written.buffer
-                (t ∙ ap (set k.told 0) (written.size ∙ ap reply_size e) ∙ one_told k.told (length (bytes (report_words (report k.len ss)))) ∙ ap (λ (a : Reply). told_after a k.told) (sym e))
+                (t ∙ ap (set k.told 0) (same_Some n _ (sym z ∙ written.size ∙ ap reply_size e)) ∙ one_told k.told (length (bytes (report_words (report k.len ss)))) ∙ ap (λ (a : Reply). told_after a k.told) (sym e))

@@ -1,5 +1,5 @@
 -- A call for the hours per driver: what it is lent, what it leaves, and what is right of it.
-use Rattle.std.specs.Prelude.{ℕ, ◌*◌, ◌≡◌, true, List, [], ◌∷◌, map, length}
+use Rattle.std.specs.Prelude.{ℕ, ◌*◌, ◌≡◌, true, List, [], ◌∷◌, map, length, Option, Some, None}
 use Rattle.words.specs.Words.{words}
 use Rattle.model.specs.Base.{among, sum}
 use Rattle.model.specs.Circuit.{circuit as circuit_of}
@@ -27,13 +27,13 @@ pub record Left : Type 0 where
 abbrev pub hours_answer : Call → Reply
 hours_answer k = hours k.circuit k.log k.driver k.activity k.len (length k.report)
 
--- how many bytes are written
-unfoldable pub reply_size : Reply → ℕ
-reply_size (refused n) = 0
-reply_size (writes new) = length new
+-- how many bytes are written, where there is a report
+unfoldable pub reply_size : Reply → Option ℕ
+reply_size (refused n) = None
+reply_size (writes new) = Some (length new)
 
 -- What is done with an answer: its bytes are written, and r tells how many they are.
-pub record Written (a : Reply) (old new : List ℕ) (r : ℕ) : Type 0 where
+pub record Written (a : Reply) (old new : List ℕ) (r : Option ℕ) : Type 0 where
   pub size : r ≡ reply_size a
   pub buffer : new ≡ buffer_after a old
 

@@ -4,11 +4,13 @@
 ghost use Rattle.std.specs.Prelude.{◌≡◌, ◌≤◌, length};
 ghost use Rattle.links.specs.Lent.{Linked, net_of};
 ghost use Rattle.walk.specs.Walk.{WholeLog};
+ghost use Rattle.circuit.specs.Numbers.{refused};
 ghost use Rattle.hours.specs.Hours.{longest, good_names, reported};
 ghost use Rattle.hours.specs.Tally.{Named, shares_of};
 ghost use Rattle.hours.specs.Call.{Written, Right, call_of, left_of};
 
 use circuit::inputs::value_output;
+use circuit::refusals::Refusal;
 use counting::{Names, count_all};
 use links::layout::CELLS;
 use whole::log_refusal;
@@ -22,12 +24,6 @@ mod writing;
 
 // The milliseconds of a tick at the most.
 const LONGEST: u64 = 60000;
-
-// What is answered where the outputs or the length are wrong.
-const WRONG_NAMES: u64 = 17;
-
-// Where there is a driver too many, or the report does not fit.
-const NO_ROOM: u64 = 18;
 
 // Whether driver and activity are value outputs, and the length is 1 to 60,000 milliseconds.
 fn good_names(links: &[usize], driver: u64, activity: u64, len: u64) -> bool
@@ -46,7 +42,7 @@ fn good_names(links: &[usize], driver: u64, activity: u64, len: u64) -> bool
     len <= LONGEST
 }
 
-// The report of a whole log, where there is room for it: how many bytes it has; else 0, and nothing is written.
+// The report of a whole log, where there is room for it: how many bytes it has; else nothing is written.
 fn write_hours(
     log: &[u8],
     outs: usize,
@@ -54,7 +50,7 @@ fn write_hours(
     activity: usize,
     len: u64,
     report: &mut [u8],
-) -> usize
+) -> Option<usize>
     requires { Named outs driver activity × WholeLog outs log.now × (len ≤ longest) }
     ensures { Written (reported len (length report.old) (shares_of outs driver activity log.now)) report.old report.new result }
 {
@@ -64,17 +60,17 @@ fn write_hours(
         activity,
     };
     let Some(tally) = count_all(log, names) else {
-        return 0;
+        return None;
     };
     let size = 8 * (DRIVER * tally.n + LINE);
     if report.len() < size {
-        return 0;
+        return None;
     }
     write_report(report, &tally, len);
-    size
+    Some(size)
 }
 
-// The whole call: the number that it is refused with, or 0; then the report is written, and the first word of `told` becomes the number of its bytes.
+// The whole call: what it is refused with; or the report is written, and the first word of `told` becomes the number of its bytes.
 pub fn hours(
     circuit: &[u8],
     log: &[u8],
@@ -83,22 +79,17 @@ pub fn hours(
     len: u64,
     report: &mut [u8],
     told: &mut [u64],
-) -> u64
-    ensures { Right (call_of circuit.now log.now driver activity len report.old told.old) (left_of report.new told.new) result }
+) -> Result<(), Refusal>
+    ensures { Right (call_of circuit.now log.now driver activity len report.old told.old) (left_of report.new told.new) (refused result) }
 {
     let mut links = [0usize; CELLS];
-    let number = log_refusal(circuit, log, &mut links);
-    if number != 0 {
-        return number;
-    }
+    log_refusal(circuit, log, &mut links)?;
     if !good_names(&links, driver, activity, len) {
-        return WRONG_NAMES;
+        return Err(Refusal::WrongNames);
     }
     let outs = links::outputs(&links);
-    let size = write_hours(log, outs, driver as usize, activity as usize, len, report);
-    if size == 0 {
-        return NO_ROOM;
-    }
+    let written = write_hours(log, outs, driver as usize, activity as usize, len, report);
+    let size = written.ok_or(Refusal::NoRoom)?;
     put_at(told, 0, size as u64);
-    0
+    Ok(())
 }

@@ -9,7 +9,6 @@ mod text;
 
 use outputs::outputs;
 use packed::read_full;
-use run::Answer;
 use std::fs::File;
 use std::io;
 use std::io::Read;
@@ -112,11 +111,11 @@ fn play(rt: &impl Print, circuit: &[u8], script: &[u8]) -> io::Result<()> {
         &mut delays,
     );
     match answer {
-        Answer::Refused(number) => print_refused(rt, number),
-        Answer::Played { stop, ticks, bytes } => {
-            print_records(rt, circuit, &log, (bytes / 8) as usize)?;
-            print_end(rt, stop, ticks)
+        Ok(played) => {
+            print_records(rt, circuit, &log, (played.bytes / 8) as usize)?;
+            print_end(rt, played.stop, played.ticks)
         }
+        Err(refusal) => print_refused(rt, refusal.number()),
     }
 }
 

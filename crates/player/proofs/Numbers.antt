@@ -3,8 +3,7 @@ use Prim.Native.Nat.{ℕ}
 use mathlib.Core.Path.{◌≡◌, ap, ◌∙◌}
 use mathlib.Core.List.{List, [], ◌∷◌}
 use Rattle.model.specs.Answer as model
-use Rattle.run.specs.declared.Answer.{Answer}
-use Rattle.run.specs.Told.{told}
+use Rattle.run.specs.Told.{Answer, told}
 use Rattle.telling.specs.Numbers.{number_of, end_of, put_from}
 use Rattle.telling.proofs.Numbers.{number_told, end_told}
 use Rattle.telling.proofs.Telling.{put_over}

@@ -11,6 +11,7 @@ ghost use Rattle.size.specs.Call.{Right as RightSize};
 ghost use Rattle.player.specs.Numbers.{TellsHost};
 
 use circuit::check;
+use circuit::refusals::refused;
 use telling::{number_of, tell_end};
 
 // The number of the first question whose answer is no, for a call that is lent no areas; 0 where all are yes.
@@ -18,7 +19,7 @@ use telling::{number_of, tell_end};
 pub extern "C" fn hazhirun_check(circuit: &[u8], script: &[u8]) -> u64
     ensures { result ≡ refusal none circuit.now script.now }
 {
-    check(circuit, script)
+    refused(check(circuit, script))
 }
 
 // Asks the questions, and where none of them refuses the call plays the script over the circuit. The number of the answer; the words of `told` become the ticks
@@ -35,9 +36,9 @@ pub extern "C" fn hazhirun_run(
 ) -> u64
     ensures { RightCall circuit.now script.now (log.old, log.new) (values.old, values.new) (units.old, units.new) (delays.old, delays.new) (λ a. TellsHost a result told.old told.new) }
 {
-    let a = run::run(circuit, script, log, values, units, delays);
-    tell_end(told, 0, a);
-    number_of(a)
+    let answer = run::run(circuit, script, log, values, units, delays);
+    tell_end(told, 0, answer);
+    number_of(answer)
 }
 
 // Asks the questions about the circuit, and 15 of the book; where none of them refuses the call each script of the book is asked about and played over the circuit,
@@ -55,7 +56,7 @@ pub extern "C" fn hazhirun_class(
 ) -> u64
     ensures { RightClass (call_of circuit.now book.now log.old values.old units.old delays.old told.old) (left_of log.new values.new units.new delays.new told.new) result }
 {
-    class::class(circuit, book, log, values, units, delays, told)
+    refused(class::class(circuit, book, log, values, units, delays, told))
 }
 
 // Asks the questions about the circuit, and 16, 17 and 18 of a finished log, of the outputs for driver and activity, the length of a tick in milliseconds, and the room;
@@ -72,7 +73,7 @@ pub extern "C" fn hazhirun_hours(
 ) -> u64
     ensures { RightHours (hours_call circuit.now log.now driver activity len report.old told.old) (hours_left report.new told.new) result }
 {
-    hours::hours(circuit, log, driver, activity, len, report, told)
+    refused(hours::hours(circuit, log, driver, activity, len, report, told))
 }
 
 // Asks the questions about the circuit, 23 of its calls and its gates, and 24 of the ticks. The number of the answer; where none of them refuses the call the words of
@@ -81,5 +82,5 @@ pub extern "C" fn hazhirun_hours(
 pub extern "C" fn hazhirun_size(circuit: &[u8], ticks: u64, told: &mut [u64]) -> u64
     ensures { RightSize circuit.now ticks told.old told.new result }
 {
-    size::size(circuit, ticks, told)
+    refused(size::size(circuit, ticks, told))
 }

@@ -2,6 +2,5 @@
 mod ClassEnding
 mod ClassMeeting
 mod Comparing
-mod Ending
 mod Meeting
 mod ReportMeeting

@@ -1,8 +1,7 @@
 -- A run that was played is the definition's.
 use Rattle.std.proofs.Common.{◌≡◌, ℕ, Bool, List, ◌∙◌}
-use Rattle.run.specs.declared.Answer.{Answer}
 use Rattle.run.specs.Call.{Right}
-use Rattle.run.specs.Told.{told}
+use Rattle.run.specs.Told.{Answer, told}
 use Rattle.replay.specs.declared.due.Due.{Due}
 use Rattle.replay.specs.Due.{as_due}
 use Rattle.replay.specs.Met.{called, met}

@@ -7,8 +7,8 @@ use Rattle.replay.specs.ReportMet.{report_called, report_met}
 
 -- the call answered, and all compared
 pub report_meets :
-    (d : ReportDue) (cb lb lines words b t b₁ t₁ : List ℕ) (n : ℕ) (r : Bool) →
-    Right (report_called d cb lb b t) (record { report = b₁; told = t₁ }) n → r ≡ answered n d.number b₁ lines t₁ words →
+    (d : ReportDue) (cb lb lines words b t b₁ t₁ : List ℕ) (n m : ℕ) (r : Bool) →
+    Right (report_called d cb lb b t) (record { report = b₁; told = t₁ }) m → n ≡ m → r ≡ answered n d.number b₁ lines t₁ words →
     r ≡ report_met d cb lb lines words b t
 unfolding report_met
-report_meets d cb lb lines words b t b₁ t₁ n r h f = f ∙ (λ i. answered (h.number i) d.number (h.report i) lines (h.told i) words)
+report_meets d cb lb lines words b t b₁ t₁ n m r h e f = f ∙ (λ i. answered ((e ∙ h.number) i) d.number (h.report i) lines (h.told i) words)

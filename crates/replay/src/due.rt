@@ -1,10 +1,12 @@
 // A run of the packed ones: its numbers, and whether what came of it is what was due.
 ghost use Rattle.words.specs.Words.{words};
 ghost use Rattle.std.specs.Prelude.{◌≡◌};
+ghost use Rattle.circuit.specs.Numbers.{numbered};
 ghost use Rattle.replay.specs.Due.{due_of, ends, as_due};
 
 use crate::bytes::{are_alike, is_holding};
-use run::Answer;
+use circuit::refusals::Refusal;
+use run::Played;
 use words::read;
 
 // The numbers before a run's circuit: the bytes lent, the stop and the ticks due, and the lengths of circuit, script and records.
@@ -39,27 +41,23 @@ pub fn numbers(head: &[u8]) -> Due
 }
 
 // Whether the answer is of a run with the stop, the ticks and the bytes of records that are due.
-pub fn is_end(due: Due, answer: Answer) -> bool
-    ensures { result ≡ ends due answer }
+pub fn is_end(due: Due, answer: Result<Played, Refusal>) -> bool
+    ensures { result ≡ ends due (numbered answer) }
 {
     match answer {
-        Answer::Refused(_) => false,
-        Answer::Played { stop, ticks, bytes } => {
-            if stop != due.stop {
-                return false;
-            }
-            if ticks != due.ticks {
-                return false;
-            }
-            bytes == due.records as u64
+        Ok(played) => {
+            played.stop == due.stop
+                && played.ticks == due.ticks
+                && played.bytes == due.records as u64
         }
+        Err(_) => false,
     }
 }
 
 // Whether the answer is the one due, the log holds the records and behind them what it was filled with, and the areas are zero.
 pub fn is_as_due(
     due: Due,
-    answer: Answer,
+    answer: Result<Played, Refusal>,
     records: &[u8],
     filled: u8,
     log: &[u8],
@@ -67,7 +65,7 @@ pub fn is_as_due(
     units: &[u8],
     delays: &[u8],
 ) -> bool
-    ensures { result ≡ as_due due answer records.now filled log.now values.now units.now delays.now }
+    ensures { result ≡ as_due due (numbered answer) records.now filled log.now values.now units.now delays.now }
 {
     if !is_end(due, answer) {
         return false;

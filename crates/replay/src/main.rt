@@ -14,6 +14,7 @@ mod rooms;
 mod tally;
 
 use bytes::is_answered;
+use circuit::refusals::refused;
 use class_due::{ClassDue, class_numbers, is_class_as_due};
 use due::{Due, is_as_due, numbers};
 use packed::failing::fail;
@@ -190,7 +191,7 @@ fn play_class_lent(
 ) -> bool
     ensures { result ≡ class_met due circuit.now book.now records.now words.now log.old values.old units.old delays.old told.old }
 {
-    let number = class::class(circuit, book, log, values, units, delays, told);
+    let number = refused(class::class(circuit, book, log, values, units, delays, told));
     is_class_as_due(
         due, number, records, words, log, values, units, delays, told,
     )
@@ -293,7 +294,7 @@ fn play_report_lent(
 ) -> bool
     ensures { result ≡ report_met due circuit.now log.now lines.now words.now report.old told.old }
 {
-    let number = hours::hours(
+    let number = refused(hours::hours(
         circuit,
         log,
         due.driver,
@@ -301,7 +302,7 @@ fn play_report_lent(
         due.length,
         report,
         told,
-    );
+    ));
     is_answered(number, due.number, report, lines, told, words)
 }
 

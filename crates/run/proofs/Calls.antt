@@ -4,6 +4,7 @@ use mathlib.Core.Path.{◌≡◌, refl, sym, ap, ◌∙◌, subst}
 use mathlib.Core.List.{List}
 use mathlib.Core.Option.{some}
 use native.Mathlib.Omega.{arith}
+use Rattle.std.specs.Prelude.{Ok, Err}
 use lib.ListN.{length, replicate}
 use Rattle.words.specs.Words.{words}
 use Rattle.words.proofs.Laws.{Below}
@@ -18,12 +19,16 @@ use Rattle.links.specs.Lent.{least_area}
 use Rattle.circuit.proofs.Order.{asked_early, asked_late}
 use Rattle.states.specs.View.{queue_at}
 use Rattle.unit.specs.Unit.{FewCalls}
-use Rattle.run.specs.declared.Answer.TheVariants.{Refused, Played as Finished}
+use Rattle.run.specs.declared.Played as code
 use Rattle.run.specs.Running.{GoodScript, seen_of, Logged}
 use Rattle.run.specs.Call.{Call, Left, lent, call_answer, Right}
-use Rattle.run.specs.Told.{told}
+use Rattle.run.specs.Told.{Answer, told}
 use Rattle.run.proofs.Fewer.{few_calls, good_script, large}
 use Rattle.run.proofs.Bytes.{logged_bytes}
+
+-- what playing came to
+abbrev pub finished : ℕ → ℕ → ℕ → code.Played
+finished s t b = record { stop = s; ticks = t; bytes = b }
 
 module _ (k : Call) (n : ℕ) (e : n ≡ refusal (some (lent k)) k.circuit k.script) where
   refused_answer : (n ≡ 0 → ⊥) → call_answer k ≡ refused n
@@ -35,7 +40,7 @@ module _ (k : Call) (n : ℕ) (e : n ≡ refusal (some (lent k)) k.circuit k.scr
       go (suc m) f = refl
 
   -- a call that is refused leaves all as it was
-  call_refused : (n ≡ 0 → ⊥) → Right k (record { log = k.log; values = k.values; units = k.units; delays = k.delays }) (λ a. Refused n ≡ told a)
+  call_refused : (n ≡ 0 → ⊥) → Right k (record { log = k.log; values = k.values; units = k.units; delays = k.delays }) (λ a. Err n ≡ told a)
   unfolding told log_after area_after
   call_refused f =
       let x = refused_answer f in
@@ -51,7 +56,7 @@ module _ (k : Call) (n : ℕ) (e : n ≡ refusal (some (lent k)) k.circuit k.scr
 -- by its circuit
 pub circuit_refused :
     (k : Call) (n : ℕ) → n ≡ circuit_refusal (some (lent k)) k.circuit → (n ≡ 0 → ⊥) →
-    Right k (record { log = k.log; values = k.values; units = k.units; delays = k.delays }) (λ a. Refused n ≡ told a)
+    Right k (record { log = k.log; values = k.values; units = k.units; delays = k.delays }) (λ a. Err n ≡ told a)
 circuit_refused k n e f = call_refused k n (asked_early _ _ _ n e f) f
 
 -- ---- a circuit that is not refused
@@ -60,7 +65,7 @@ module _ (k : Call) (good : circuit_refusal (some (lent k)) k.circuit ≡ 0) (n 
   asked = asked_late _ _ _ 0 (sym good) n refl e
 
   -- refused by its script
-  pub script_refused : (n ≡ 0 → ⊥) → Right k (record { log = k.log; values = k.values; units = k.units; delays = k.delays }) (λ a. Refused n ≡ told a)
+  pub script_refused : (n ≡ 0 → ⊥) → Right k (record { log = k.log; values = k.values; units = k.units; delays = k.delays }) (λ a. Err n ≡ told a)
   script_refused f = call_refused k n asked f
 
   -- ---- not refused
@@ -107,7 +112,7 @@ module _ (k : Call) (good : circuit_refusal (some (lent k)) k.circuit ≡ 0) (n 
           (left : Left) (size stop t : ℕ) → Below 256 k.log → Below 256 left.log →
           Logged (seen_of (net links) most_steps (words k.script) (length k.log)) k.log left.log size stop t → size * 8 ≤ length k.log →
           left.values ≡ replicate (length k.values) 0 → left.units ≡ replicate (length k.units) 0 → left.delays ≡ replicate (length k.delays) 0 →
-          Right k left (λ a. Finished stop t (size * 8) ≡ told a)
+          Right k left (λ a. Ok (finished stop t (size * 8)) ≡ told a)
       unfolding told log_after area_after
       call_played left size stop t b b₁ g h ev eu ed =
           let x = played_answer in
@@ -122,5 +127,5 @@ module _ (k : Call) (good : circuit_refusal (some (lent k)) k.circuit ≡ 0) (n 
             promised = promised _ _ _ _;
           }
         where
-          alike : (s s₁ t t₁ a b : ℕ) → s₁ ≡ s → t₁ ≡ t → b ≡ a → Finished s t (a * 8) ≡ Finished s₁ t₁ (8 * b)
+          alike : (s s₁ t t₁ a b : ℕ) → s₁ ≡ s → t₁ ≡ t → b ≡ a → ◌≡◌ {A = Answer} (Ok (finished s t (a * 8))) (Ok (finished s₁ t₁ (8 * b)))
           alike s s₁ t t₁ a b es et ea = rw (es, et, (let z : 8 * b ≡ a * 8 = omega arith in z)) refl

@@ -6,6 +6,7 @@ ghost use Rattle.words.specs.Words.{words};
 ghost use Rattle.model.specs.Opening.{start};
 ghost use Rattle.model.specs.Run.{most_steps};
 ghost use Rattle.links.specs.Links.{net};
+ghost use Rattle.circuit.specs.Numbers.{numbered};
 ghost use Rattle.links.specs.Lent.{Linked, Room};
 ghost use Rattle.states.specs.Lent.{Parts, Slots, SlotsStay};
 ghost use Rattle.areas.specs.Lent.{OverAll};
@@ -15,6 +16,7 @@ ghost use Rattle.run.specs.Told.{told};
 ghost use Rattle.run.specs.Call.{RightCall, Ready};
 
 use crate::clearing::clear;
+use circuit::refusals::Refusal;
 use circuit::{refusal_lent, script_refusal};
 use links::layout::CELLS;
 use records::MOST_STEPS;
@@ -23,11 +25,12 @@ use words::get;
 
 pub mod clearing;
 
-// The answer to a call: refused with the number of a question; or played, with the stop, or 0, the ticks done, and how many bytes of the log hold records.
-#[derive(Clone, Copy)]
-pub enum Answer {
-    Refused(u64),
-    Played { stop: u64, ticks: u64, bytes: u64 },
+// The answer to a call that is not refused: the stop, or 0, the ticks done, and how many bytes of the log hold records.
+#[derive(Clone, Copy, PartialEq, Eq, Debug)]
+pub struct Played {
+    pub stop: u64,
+    pub ticks: u64,
+    pub bytes: u64,
 }
 
 // What playing came to: the stop, or 0, the ticks done, and how many words of the log hold records.
@@ -136,20 +139,17 @@ pub fn script_answer(
     values: &mut [u8],
     units: &mut [u8],
     delays: &mut [u8],
-) -> Answer
+) -> Result<Played, Refusal>
     requires { Linked links.now × Ready links.now circuit.now values.old units.old delays.old }
-    ensures { RightCall circuit.now script.now (log.old, log.new) (values.old, values.new) (units.old, units.new) (delays.old, delays.new) (λ a. result ≡ told a) }
+    ensures { RightCall circuit.now script.now (log.old, log.new) (values.old, values.new) (units.old, units.new) (delays.old, delays.new) (λ a. numbered result ≡ told a) }
 {
-    let question = script_refusal(circuit, script);
-    if question != 0 {
-        return Answer::Refused(question);
-    }
+    script_refusal(circuit, script)?;
     let played = perform(links, script, log, values, units, delays);
-    Answer::Played {
+    Ok(Played {
         stop: played.stop,
         ticks: played.ticks,
         bytes: (played.size * 8) as u64,
-    }
+    })
 }
 
 // The whole call: the questions, and where none of them refuses it the run of the script over the circuit.
@@ -160,13 +160,10 @@ pub fn run(
     values: &mut [u8],
     units: &mut [u8],
     delays: &mut [u8],
-) -> Answer
-    ensures { RightCall circuit.now script.now (log.old, log.new) (values.old, values.new) (units.old, units.new) (delays.old, delays.new) (λ a. result ≡ told a) }
+) -> Result<Played, Refusal>
+    ensures { RightCall circuit.now script.now (log.old, log.new) (values.old, values.new) (units.old, units.new) (delays.old, delays.new) (λ a. numbered result ≡ told a) }
 {
     let mut links = [0usize; CELLS];
-    let number = refusal_lent(circuit, &mut links, values.len(), units.len(), delays.len());
-    if number != 0 {
-        return Answer::Refused(number);
-    }
+    refusal_lent(circuit, &mut links, values.len(), units.len(), delays.len())?;
     script_answer(circuit, &links, script, log, values, units, delays)
 }

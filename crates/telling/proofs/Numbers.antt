@@ -6,48 +6,18 @@ use lib.ListN.{set}
 use Rattle.model.specs.Answer.{refused, played, number, ticks_done, log_bytes}
 use Rattle.model.specs.Answer as model
 use Rattle.model.specs.Several.{told_of}
-use Rattle.run.specs.declared.Answer.{Answer}
-use Rattle.run.specs.declared.Answer.TheVariants.{Refused, Played}
 use Rattle.run.specs.Told.{told}
 use Rattle.telling.specs.Numbers.{number_of, ticks_of, bytes_of, end_of, all_of, put_from}
-
--- ---- the code's answer, by its case
-
-module _ (a : Answer) (n : ℕ) (e : a ≡ Refused n) where
-  pub number_refused : n ≡ number_of a
-  unfolding number_of
-  number_refused = rw e refl
-
-  pub ticks_refused : 0 ≡ ticks_of a
-  unfolding ticks_of
-  ticks_refused = rw e refl
-
-  pub bytes_refused : 0 ≡ bytes_of a
-  unfolding bytes_of
-  bytes_refused = rw e refl
-
-module _ (a : Answer) (s t b : ℕ) (e : a ≡ Played s t b) where
-  pub number_played : s ≡ number_of a
-  unfolding number_of
-  number_played = rw e refl
-
-  pub ticks_played : t ≡ ticks_of a
-  unfolding ticks_of
-  ticks_played = rw e refl
-
-  pub bytes_played : b ≡ bytes_of a
-  unfolding bytes_of
-  bytes_played = rw e refl
 
 -- ---- the definition's
 
 pub number_told : (m : model.Answer) → number_of (told m) ≡ number m
-unfolding number_of told number
+unfolding told number
 number_told (refused n) = refl
 number_told (played p) = refl
 
 pub end_told : (m : model.Answer) → end_of (told m) ≡ ticks_done m ∷ log_bytes m ∷ []
-unfolding ticks_of bytes_of told ticks_done log_bytes
+unfolding told ticks_done log_bytes
 end_told (refused n) = refl
 end_told (played p) = refl
 

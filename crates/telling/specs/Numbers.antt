@@ -1,20 +1,19 @@
 -- The numbers of the code's answer, and words put in their places.
-use Rattle.std.specs.Prelude.{ℕ, ◌+◌, List, [], ◌∷◌, set}
-use Rattle.run.specs.declared.Answer.{Answer}
-use Rattle.run.specs.declared.Answer.TheVariants.{Refused, Played}
+use Rattle.std.specs.Prelude.{ℕ, ◌+◌, List, [], ◌∷◌, Ok, Err, set}
+use Rattle.run.specs.Told.{Answer}
 
 -- 1 to 10 or 19 for a refused call; else the stop, 11 to 13, or 0
-unfoldable pub number_of : Answer → ℕ
-number_of (Refused n) = n
-number_of (Played stop ticks bytes) = stop
+abbrev pub number_of : Answer → ℕ
+number_of (Err n) = n
+number_of (Ok p) = p.stop
 
-unfoldable pub ticks_of : Answer → ℕ
-ticks_of (Refused n) = 0
-ticks_of (Played stop ticks bytes) = ticks
+abbrev pub ticks_of : Answer → ℕ
+ticks_of (Err n) = 0
+ticks_of (Ok p) = p.ticks
 
-unfoldable pub bytes_of : Answer → ℕ
-bytes_of (Refused n) = 0
-bytes_of (Played stop ticks bytes) = bytes
+abbrev pub bytes_of : Answer → ℕ
+bytes_of (Err n) = 0
+bytes_of (Ok p) = p.bytes
 
 -- what is told beside the number, and all of it
 abbrev pub end_of : Answer → List ℕ

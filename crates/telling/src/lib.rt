@@ -2,55 +2,57 @@
 #![tactic(auto)]
 
 ghost use Rattle.std.specs.Prelude.{◌≡◌, [], ◌∷◌, ◌≤◌};
+ghost use Rattle.circuit.specs.Numbers.{numbered};
 ghost use Rattle.telling.specs.Numbers.{number_of, ticks_of, bytes_of, put_from, end_of, all_of};
 
-use run::Answer;
+use circuit::refusals::Refusal;
+use run::Played;
 use words::told::put_at;
 
 // The number of an answer.
-pub fn number_of(a: Answer) -> u64
-    ensures { result ≡ number_of a }
+pub fn number_of(answer: Result<Played, Refusal>) -> u64
+    ensures { result ≡ number_of (numbered answer) }
 {
-    match a {
-        Answer::Refused(n) => n,
-        Answer::Played { stop, .. } => stop,
+    match answer {
+        Ok(played) => played.stop,
+        Err(refusal) => refusal.number(),
     }
 }
 
 // The ticks done.
-fn ticks_of(a: Answer) -> u64
-    ensures { result ≡ ticks_of a }
+fn ticks_of(answer: Result<Played, Refusal>) -> u64
+    ensures { result ≡ ticks_of (numbered answer) }
 {
-    match a {
-        Answer::Refused(_) => 0,
-        Answer::Played { ticks, .. } => ticks,
+    match answer {
+        Ok(played) => played.ticks,
+        Err(_) => 0,
     }
 }
 
 // The bytes of the log that hold records.
-fn bytes_of(a: Answer) -> u64
-    ensures { result ≡ bytes_of a }
+fn bytes_of(answer: Result<Played, Refusal>) -> u64
+    ensures { result ≡ bytes_of (numbered answer) }
 {
-    match a {
-        Answer::Refused(_) => 0,
-        Answer::Played { bytes, .. } => bytes,
+    match answer {
+        Ok(played) => played.bytes,
+        Err(_) => 0,
     }
 }
 
 // Two words from word `at` on, as far as there is room: the ticks done and the bytes of the log that hold records.
-pub fn tell_end(told: &mut [u64], at: usize, a: Answer)
+pub fn tell_end(told: &mut [u64], at: usize, answer: Result<Played, Refusal>)
     requires { at ≤ 48 }
-    ensures { told.new ≡ put_from at (end_of a) told.old }
+    ensures { told.new ≡ put_from at (end_of (numbered answer)) told.old }
 {
-    put_at(told, at, ticks_of(a));
-    put_at(told, at + 1, bytes_of(a));
+    put_at(told, at, ticks_of(answer));
+    put_at(told, at + 1, bytes_of(answer));
 }
 
 // Three words: the number, and these two.
-pub fn tell(told: &mut [u64], at: usize, a: Answer)
+pub fn tell(told: &mut [u64], at: usize, answer: Result<Played, Refusal>)
     requires { at ≤ 45 }
-    ensures { told.new ≡ put_from at (all_of a) told.old }
+    ensures { told.new ≡ put_from at (all_of (numbered answer)) told.old }
 {
-    put_at(told, at, number_of(a));
-    tell_end(told, at + 1, a);
+    put_at(told, at, number_of(answer));
+    tell_end(told, at + 1, answer);
 }

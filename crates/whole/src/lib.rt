@@ -3,6 +3,7 @@
 
 ghost use Rattle.std.specs.Prelude.{◌≡◌, ◌*◌, ◌≤◌, length};
 ghost use Rattle.links.specs.Lent.{Linked, net_of};
+ghost use Rattle.circuit.specs.Numbers.{refused};
 ghost use Rattle.records.specs.Whole.{good_rows, whole};
 ghost use Rattle.whole.specs.Lent.{behind, Complete};
 ghost use Rattle.whole.specs.Asked.{Asked, size_if_good};
@@ -11,6 +12,7 @@ use crate::head::{begun_count, carried_count, good_head, good_stop, shown_count,
 use crate::outputs::good_outputs;
 use crate::units::good_units;
 use circuit::circuit_refusal;
+use circuit::refusals::Refusal;
 use records::MOST_TICKS;
 use records::head::HEAD;
 use walk::{record_size, shown_at};
@@ -18,9 +20,6 @@ use walk::{record_size, shown_at};
 mod head;
 mod outputs;
 mod units;
-
-// What a reader answers where the log is not whole.
-pub const NOT_WHOLE: u64 = 16;
 
 // Whether the units and the outputs of the record at word `at` are good.
 fn good_rows(links: &[usize], log: &[u8], at: usize) -> bool
@@ -82,15 +81,16 @@ pub fn whole(links: &[usize], log: &[u8]) -> bool
     at == size
 }
 
-// What a reader of a log is refused with before it asks anything of its own, or 0: the circuit's own refusals first, then 16. The links are made as the circuit's
-// questions make them.
-pub fn log_refusal(circuit: &[u8], log: &[u8], links: &mut [usize]) -> u64
+// What a reader of a log is refused with before it asks anything of its own: the circuit's own refusals first, then 16. The links are made as the circuit's questions make
+// them.
+pub fn log_refusal(circuit: &[u8], log: &[u8], links: &mut [usize]) -> Result<(), Refusal>
     requires { Linked links.old }
-    ensures { Asked circuit.now log.now links.old links.new result }
+    ensures { Asked circuit.now log.now links.old links.new (refused result) }
 {
-    let refused = circuit_refusal(circuit, links);
-    if refused != 0 {
-        return refused;
+    circuit_refusal(circuit, links)?;
+    if whole(links, log) {
+        Ok(())
+    } else {
+        Err(Refusal::NotWhole)
     }
-    if whole(links, log) { 0 } else { NOT_WHOLE }
 }
