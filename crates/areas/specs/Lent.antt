@@ -2,7 +2,7 @@
 -- some of them leaves the others, whatever they hold.
 use Rattle.std.specs.Prelude.{◌≡◌, List, ℕ}
 use Rattle.words.specs.Slices.{Slice, before, after}
-use Rattle.lists.specs.declared.Filed.{Filed}
+use Rattle.lists.specs.Lists.{Filed}
 use Rattle.model.specs.Circuit.{Circuit}
 use Rattle.links.specs.Lent.{Linked, Room, net_of}
 use Rattle.wires.specs.View.{Values, values}

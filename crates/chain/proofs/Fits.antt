@@ -7,8 +7,7 @@ use native.Mathlib.Omega.{arith}
 use borrow.Author.Tests.{le-leb, lt-leb, leb-true, ltb-true, ltb-false}
 use lib.Dec.{leb, ltb}
 use lib.ListN.{length, length-append}
-use Rattle.lists.specs.declared.Filed.{Filed}
-use Rattle.lists.specs.declared.Filed.TheVariants.{Full, Done}
+use Rattle.lists.specs.Lists.{Filed, NoRoom, Done}
 use Rattle.lists.proofs.Stacks.{stacked_length}
 use Rattle.lists.proofs.Rings.{queued_length}
 use Rattle.words.specs.Words.{words}
@@ -51,11 +50,11 @@ held_fit c bs =
 
 -- ---- answers
 
-pub was_done : (b : Bool) → Done ≡ cond b Done Full → b ≡ true
+pub was_done : (b : Bool) → Done ≡ cond b Done NoRoom → b ≡ true
 was_done true e = refl
 was_done false e = cc
 
-pub was_full : (b : Bool) → Full ≡ cond b Done Full → b ≡ false
+pub was_full : (b : Bool) → NoRoom ≡ cond b Done NoRoom → b ≡ false
 was_full true e = cc
 was_full false e = refl
 
@@ -64,7 +63,7 @@ pub pushes_done : (u v : Units) (q : Calls) → fit q ≡ true → v.calls ≡ q
 pushes_done u v q f e s = record { answer = rw f; calls = λ _. e; others = s }
 
 -- they do not fit
-pub pushes_full : (u v : Units) (q : Calls) → fit q ≡ false → with_calls v no_calls ≡ with_calls u no_calls → Pushes u v Full q
+pub pushes_full : (u v : Units) (q : Calls) → fit q ≡ false → with_calls v no_calls ≡ with_calls u no_calls → Pushes u v NoRoom q
 pushes_full u v q f s = record { answer = rw f; calls = λ t. absurd (true≢false (sym t ∙ f)); others = s }
 
 -- ---- one call
@@ -75,7 +74,7 @@ module _ (u v : Units) (r : Filed) (k : Call) (f : fit u.calls ≡ true) where
   unfolding fits_one called
   stack_added e = go (ltb (length u.calls.stack) 256) refl e.0 e.1
     where
-      go : (b : Bool) → ltb (length u.calls.stack) 256 ≡ b → r ≡ cond b Done Full → v ≡ with_calls u (cond b (stack≔ u.calls (k.to ∷ u.calls.stack)) u.calls) →
+      go : (b : Bool) → ltb (length u.calls.stack) 256 ≡ b → r ≡ cond b Done NoRoom → v ≡ with_calls u (cond b (stack≔ u.calls (k.to ∷ u.calls.stack)) u.calls) →
           Pushes u v r (stack≔ u.calls (k.to ∷ u.calls.stack))
       go true h er ev =
           rw (er, ev) (pushes_done u _ _ (fit_is (stack≔ u.calls (k.to ∷ u.calls.stack)) (omega (arith, ltb-true (length u.calls.stack) 256 h)) (fits u.calls f).1) refl refl)
@@ -90,7 +89,7 @@ module _ (u v : Units) (r : Filed) (k : Call) (f : fit u.calls ≡ true) where
       n : length (u.calls.forks ++ (k.to ∷ [])) ≡ length u.calls.forks + 1
       n = length-append u.calls.forks (k.to ∷ [])
 
-      go : (b : Bool) → ltb (length u.calls.forks) 256 ≡ b → r ≡ cond b Done Full → v ≡ with_calls u (cond b (forks≔ u.calls (u.calls.forks ++ (k.to ∷ []))) u.calls) →
+      go : (b : Bool) → ltb (length u.calls.forks) 256 ≡ b → r ≡ cond b Done NoRoom → v ≡ with_calls u (cond b (forks≔ u.calls (u.calls.forks ++ (k.to ∷ []))) u.calls) →
           Pushes u v r (forks≔ u.calls (u.calls.forks ++ (k.to ∷ [])))
       go true h er ev =
           rw (er, ev) (pushes_done u _ _ (fit_is (forks≔ u.calls (u.calls.forks ++ (k.to ∷ []))) (fits u.calls f).0 (omega (arith, n, ltb-true (length u.calls.forks) 256 h))) refl refl)

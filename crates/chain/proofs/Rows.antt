@@ -6,8 +6,7 @@ use mathlib.Core.List.{List, [], ◌∷◌, ◌++◌, map, append-nil, append_as
 use mathlib.Core.Option.{some}
 use native.Mathlib.Omega.{arith}
 use lib.ListN.{length-append}
-use Rattle.lists.specs.declared.Filed.{Filed}
-use Rattle.lists.specs.declared.Filed.TheVariants.{Full, Done}
+use Rattle.lists.specs.Lists.{Filed, NoRoom, Done}
 use Rattle.model.specs.Base.{if◌then◌otherwise◌, keep, from}
 use Rattle.model.specs.Circuit.{Circuit, Call}
 use Rattle.model.specs.Chain.{Calls, no_calls, fit, push_calls}
@@ -103,7 +102,7 @@ grown a false f h = refl
 
 module _ (u₀ u v : Units) (q₁ q : Calls) (s : with_calls u no_calls ≡ with_calls u₀ no_calls) where
   -- one more did not fit, and q holds more
-  row_full : (r : Filed) → Pushes u v r q₁ → r ≡ Full → (fit q ≡ true → fit q₁ ≡ true) → Pushes u₀ v Full q
+  row_full : (r : Filed) → Pushes u v r q₁ → r ≡ NoRoom → (fit q ≡ true → fit q₁ ≡ true) → Pushes u₀ v NoRoom q
   row_full r p e g = pushes_full u₀ v q (grown (fit q₁) (fit q) g (was_full (fit q₁) (sym e ∙ p.answer))) (p.others ∙ s)
 
 -- one more was added or not, and nothing else changed
@@ -125,7 +124,7 @@ module _ (l : List ℕ) (a n k t : ℕ) (u v : Units) (q : Calls) (h : k < n) (e
       ∙ sym (ap (λ (ks : List Call). forks_behind ks u.calls) (row_first l a n k h))
       ∙ i
 
-  pub forks_stop : (u₀ : Units) (r : Filed) → with_calls u no_calls ≡ with_calls u₀ no_calls → Pushes u v r (forks_behind (call_of t ∷ []) u.calls) → r ≡ Full → Pushes u₀ v Full q
+  pub forks_stop : (u₀ : Units) (r : Filed) → with_calls u no_calls ≡ with_calls u₀ no_calls → Pushes u v r (forks_behind (call_of t ∷ []) u.calls) → r ≡ NoRoom → Pushes u₀ v NoRoom q
   forks_stop u₀ r s p e = row_full u₀ u v _ q s r p e (λ f. forks_fewer (calls_in l (a + (k + 1)) (n - (k + 1))) _ (ap fit forks_split ∙ f))
 
   pub forks_next :
@@ -159,7 +158,7 @@ module _ (l : List ℕ) (a k t : ℕ) (u v : Units) (q : Calls) (h : 0 < k) (et 
       ∙ sym (ap (λ (ks : List Call). stack_before ks u.calls) (row_last l a k h))
       ∙ i
 
-  pub stack_stop : (u₀ : Units) (r : Filed) → with_calls u no_calls ≡ with_calls u₀ no_calls → Pushes u v r (stack_before (call_of t ∷ []) u.calls) → r ≡ Full → Pushes u₀ v Full q
+  pub stack_stop : (u₀ : Units) (r : Filed) → with_calls u no_calls ≡ with_calls u₀ no_calls → Pushes u v r (stack_before (call_of t ∷ []) u.calls) → r ≡ NoRoom → Pushes u₀ v NoRoom q
   stack_stop u₀ r s p e = row_full u₀ u v _ q s r p e (λ f. stack_fewer (calls_in l a (k - 1)) _ (ap fit stack_split ∙ f))
 
   pub stack_next : (r : Filed) → Pushes u v r (stack_before (call_of t ∷ []) u.calls) → r ≡ Done → stack_before (calls_in l a (k - 1)) v.calls ≡ q
@@ -176,7 +175,7 @@ stack_end l a k c bs bs₀ q h s i =
 -- ---- both ways
 
 module _ (ks : List Call) (u u₁ : Units) where
-  pub all_stop : (r : Filed) → Pushes u u₁ r (forks_behind ks u.calls) → r ≡ Full → Pushes u u₁ Full (stack_before ks (forks_behind ks u.calls))
+  pub all_stop : (r : Filed) → Pushes u u₁ r (forks_behind ks u.calls) → r ≡ NoRoom → Pushes u u₁ NoRoom (stack_before ks (forks_behind ks u.calls))
   all_stop r p f = row_full u u u₁ _ _ refl r p f (stack_fewer ks (forks_behind ks u.calls))
 
   pub all_done :
@@ -184,7 +183,7 @@ module _ (ks : List Call) (u u₁ : Units) where
       Pushes u v r (stack_before ks (forks_behind ks u.calls))
   all_done r₁ p d v r s =
       let e : stack_before ks u₁.calls ≡ stack_before ks (forks_behind ks u.calls) = ap (stack_before ks) (added u u₁ r₁ _ p d) in
-      record { answer = s.answer ∙ ap (λ (x : Calls). cond (fit x) Done Full) e; calls = λ f. s.calls (ap fit e ∙ f) ∙ e; others = s.others ∙ p.others }
+      record { answer = s.answer ∙ ap (λ (x : Calls). cond (fit x) Done NoRoom) e; calls = λ f. s.calls (ap fit e ∙ f) ∙ e; others = s.others ∙ p.others }
 
 -- ---- the calls of an output
 

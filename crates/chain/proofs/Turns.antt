@@ -5,8 +5,8 @@ use mathlib.Core.Bool.{Bool, true, false, not, ◌&&◌, and-true, and-false}
 use mathlib.Core.List.{List}
 use mathlib.Core.Option.{Option, none, some}
 use native.Mathlib.Omega.{arith}
-use Rattle.lists.specs.declared.Filed.{Filed}
-use Rattle.lists.specs.declared.Filed.TheVariants.{Full, Done}
+use Rattle.std.specs.Prelude.{Option as Found, Some, None, Ok}
+use Rattle.lists.specs.Lists.{Filed, NoRoom, Done}
 use Rattle.schedule.specs.Schedule.{list_full}
 use Rattle.model.specs.Base.{if◌then◌otherwise◌}
 use Rattle.model.specs.Circuit.{Circuit}
@@ -16,9 +16,7 @@ use Rattle.units.specs.View.{Units}
 use Rattle.wires.specs.View.{Values}
 use Rattle.states.specs.View.{Delays}
 use Rattle.areas.specs.Areas.{Contents, together, with_state, with_calls}
-use Rattle.steps.specs.declared.Step.{Step}
-use Rattle.steps.specs.declared.Step.TheVariants.{Fires, Ends, Full as NoRoom}
-use Rattle.steps.specs.Steps.{stepped, Makes}
+use Rattle.steps.specs.Steps.{stepped, Makes, Step, Fires, Ends, Stops}
 use Rattle.chain.specs.declared.Ran.{Ran}
 use Rattle.chain.specs.Chain.{Pushes, Runs, started}
 use Rattle.chain.proofs.Fits.{was_done, was_full}
@@ -47,7 +45,7 @@ module _ (c : Circuit) (o left : ℕ) (vs : Values) (ds : Delays) (u v : Units) 
   unfolding if◌then◌otherwise◌
   output_fired h = fired true (was_done _ (sym h ∙ p.answer)) 0 refl
 
-  pub output_full : f ≡ Full → Runs (together vs u ds) (together vs v ds) (record { left = left; stop = 12 }) (fire_output c o (started (together vs u ds) left))
+  pub output_full : f ≡ NoRoom → Runs (together vs u ds) (together vs v ds) (record { left = left; stop = 12 }) (fire_output c o (started (together vs u ds) left))
   unfolding if◌then◌otherwise◌
   output_full h = fired false (was_full _ (sym h ∙ p.answer)) 12 refl
 
@@ -77,17 +75,19 @@ module _ (c : Circuit) (inside : Bool) (i left : ℕ) (a b : Contents) (step : S
   unfolding make_call chained
   made_is x f h = let n = next_is x f h in (λ j. after (n.0 j) (n.1 j))
 
-  pub call_fires : (o : ℕ) → step ≡ Fires o → (v : Contents) (r : Ran) → Runs b v r (fire_output c o (started b left)) → Runs a v r made
+  pub call_fires : (x : Found ℕ) (o : ℕ) → step ≡ Ok x → x ≡ Some o → (v : Contents) (r : Ran) → Runs b v r (fire_output c o (started b left)) → Runs a v r made
   unfolding stepped fire_output chained if◌then◌otherwise◌
-  call_fires o h v r p =
+  call_fires x o hx ho v r p =
+      let h : step ≡ Fires o = subst (λ (y : Found ℕ). step ≡ Ok y) ho hx in
       let k : fire_output c o (started b left) ≡ after (some o) false =
       (λ j. fire_output c o (started (e.state j) left)) ∙ ap (λ (x : Bool). chained d.state left (if x then 0 otherwise list_full) (push_calls c (some o) a.calls)) (sym (and-true (fit (push_calls c (some o) a.calls)))) in
       subst (Runs a v r) (k ∙ sym (made_is (some o) false (ap (stepped d.state) h))) (runs_from same_lists same_kept p)
 
   -- it fires nothing, and the calls fit as they did
-  pub call_ends : fit a.calls ≡ true → step ≡ Ends → Runs a b (record { left = left; stop = 0 }) made
+  pub call_ends : fit a.calls ≡ true → (x : Found ℕ) → step ≡ Ok x → x ≡ None → Runs a b (record { left = left; stop = 0 }) made
   unfolding stepped push_calls chained if◌then◌otherwise◌
-  call_ends f h =
+  call_ends f x hx hn =
+      let h : step ≡ Ends = subst (λ (y : Found ℕ). step ≡ Ok y) hn hx in
       subst (Runs a b (record { left = left; stop = 0 })) (sym (made_is none false (ap (stepped d.state) h)))
       record {
         state = ap (λ (x : Contents). with_calls x no_calls) e.state;
@@ -97,7 +97,7 @@ module _ (c : Circuit) (inside : Bool) (i left : ℕ) (a b : Contents) (step : S
       }
 
   -- a list was full
-  pub call_full : step ≡ NoRoom → Runs a b (record { left = left; stop = 12 }) made
+  pub call_full : step ≡ Stops → Runs a b (record { left = left; stop = 12 }) made
   unfolding stepped chained if◌then◌otherwise◌
   call_full h =
       let z : (fit (push_calls c none a.calls) && not true) ≡ false = and-false (fit (push_calls c none a.calls)) in

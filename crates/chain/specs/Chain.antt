@@ -1,7 +1,6 @@
 -- What the code's chains make of the areas. After a stop the calls that were left stay open: no rule decides them, and the next unit clears them.
 use Rattle.std.specs.Prelude.{ℕ, ◌≡◌, true, not, cond, List, ◌++◌, map}
-use Rattle.lists.specs.declared.Filed.{Filed}
-use Rattle.lists.specs.declared.Filed.TheVariants.{Full, Done}
+use Rattle.lists.specs.Lists.{Filed, NoRoom, Done}
 use Rattle.model.specs.Base.{keep, from}
 use Rattle.model.specs.Circuit.{Call}
 use Rattle.model.specs.Chain.{Calls, no_calls, fit, Chained, chained}
@@ -13,7 +12,7 @@ use Rattle.chain.specs.declared.Ran.{Ran}
 
 -- The calls of an output were added and are now q, if they all fit: u became v.
 pub record Pushes (u v : Units) (r : Filed) (q : Calls) : Type 0 where
-  pub answer : r ≡ cond (fit q) Done Full
+  pub answer : r ≡ cond (fit q) Done NoRoom
   pub calls : fit q ≡ true → v.calls ≡ q
   pub others : units.with_calls v no_calls ≡ units.with_calls u no_calls
 

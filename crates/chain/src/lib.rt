@@ -10,8 +10,7 @@ ghost use Rattle.steps.specs.Steps.{Entered};
 ghost use Rattle.chain.specs.Chain.{Runs, started};
 
 use crate::pushing::push_calls;
-use lists::Filed;
-use steps::{Step, exec};
+use steps::exec;
 use stops::LIST_FULL;
 
 pub mod pushing;
@@ -29,14 +28,11 @@ pub fn fire_output(links: &[usize], units: &mut [u8], left: u64, o: usize) -> Ra
     ensures { OverUnits links.now (units.old, units.new) (λ c old new. Runs old new result (fire_output c o (started old left))) }
 {
     match push_calls(links, units, o) {
-        Filed::Full => Ran {
-            left: left,
+        Err(_) => Ran {
+            left,
             stop: LIST_FULL,
         },
-        Filed::Done => Ran {
-            left: left,
-            stop: 0,
-        },
+        Ok(()) => Ran { left, stop: 0 },
     }
 }
 
@@ -57,15 +53,11 @@ pub fn make_call(
     ensures over_all { OverAll links.now (values.old, values.new) (units.old, units.new) (delays.old, delays.new) (λ c old new. Runs old new result (make_call c inside i (started old left))) }
     ensures slots_stay { SlotsStay links.now delays.new }
 {
-    let step = exec(links, values, units, delays, i, g, k, inside);
-    match step {
-        Step::Fires(o) => fire_output(links, units, left, o),
-        Step::Ends => Ran {
-            left: left,
-            stop: 0,
-        },
-        Step::Full => Ran {
-            left: left,
+    match exec(links, values, units, delays, i, g, k, inside) {
+        Ok(Some(o)) => fire_output(links, units, left, o),
+        Ok(None) => Ran { left, stop: 0 },
+        Err(_) => Ran {
+            left,
             stop: LIST_FULL,
         },
     }

@@ -8,33 +8,33 @@ ghost use Rattle.units.specs.Lent.{Changes, UnitsChange};
 ghost use Rattle.chain.specs.Chain.{Pushes, calls_in, forks_behind, stack_before};
 
 use links::{call, call_count, called_input, first_call, is_remote};
-use lists::Filed;
+use lists::Full;
 use units::calls::{push_call, push_fork};
 
 // The call with this target goes behind the forks, if it is remote.
-fn fork_one(units: &mut [u8], target: usize) -> Filed
+fn fork_one(units: &mut [u8], target: usize) -> Result<(), Full>
     requires { Room units.old }
     ensures { Changes (units.old, units.new) (λ _ old new. Pushes old new result (forks_behind (call_of target ∷ []) old.calls)) }
 {
     if is_remote(target) {
         return push_fork(units, called_input(target));
     }
-    Filed::Done
+    Ok(())
 }
 
 // The call with this target goes on top of the stack, if it is not remote.
-fn stack_one(units: &mut [u8], target: usize) -> Filed
+fn stack_one(units: &mut [u8], target: usize) -> Result<(), Full>
     requires { Room units.old }
     ensures { Changes (units.old, units.new) (λ _ old new. Pushes old new result (stack_before (call_of target ∷ []) old.calls)) }
 {
     if is_remote(target) {
-        return Filed::Done;
+        return Ok(());
     }
     push_call(units, called_input(target))
 }
 
 // The call with this target, where it belongs.
-fn push_one(units: &mut [u8], target: usize) -> Filed
+fn push_one(units: &mut [u8], target: usize) -> Result<(), Full>
     requires { Room units.old }
     ensures { Changes (units.old, units.new) (λ _ old new. Pushes old new result (stack_before (call_of target ∷ []) (forks_behind (call_of target ∷ []) old.calls))) }
 {
@@ -45,54 +45,44 @@ fn push_one(units: &mut [u8], target: usize) -> Filed
 }
 
 // The remote ones of n calls from call a on, in their order, behind the forks.
-fn push_forks(links: &[usize], units: &mut [u8], a: usize, n: usize) -> Filed
+fn push_forks(links: &[usize], units: &mut [u8], a: usize, n: usize) -> Result<(), Full>
     requires { Linked links.now × Room units.old × Short a × Short n }
     ensures { UnitsChange links.now (units.old, units.new) (λ _ old new. Pushes old new result (forks_behind (calls_in links.now a n) old.calls)) }
 {
-    let mut k = 0;
-    while k < n {
-        match fork_one(units, call(links, a + k)) {
-            Filed::Full => return Filed::Full,
-            Filed::Done => k += 1,
-        }
+    for k in 0..n {
+        fork_one(units, call(links, a + k))?;
     }
-    Filed::Done
+    Ok(())
 }
 
 // The others, from the last to the first, before the stack.
-fn push_stack(links: &[usize], units: &mut [u8], a: usize, n: usize) -> Filed
+fn push_stack(links: &[usize], units: &mut [u8], a: usize, n: usize) -> Result<(), Full>
     requires { Linked links.now × Room units.old × Short a × Short n }
     ensures { UnitsChange links.now (units.old, units.new) (λ _ old new. Pushes old new result (stack_before (calls_in links.now a n) old.calls)) }
 {
-    let mut k = n;
-    while 0 < k {
-        match stack_one(units, call(links, a + (k - 1))) {
-            Filed::Full => return Filed::Full,
-            Filed::Done => k -= 1,
-        }
+    for k in (0..n).rev() {
+        stack_one(units, call(links, a + k))?;
     }
-    Filed::Done
+    Ok(())
 }
 
 // n calls from call a on, each where it belongs.
-fn push_all(links: &[usize], units: &mut [u8], a: usize, n: usize) -> Filed
+fn push_all(links: &[usize], units: &mut [u8], a: usize, n: usize) -> Result<(), Full>
     requires { Linked links.now × Room units.old × Short a × Short n }
     ensures { UnitsChange links.now (units.old, units.new) (λ _ old new. Pushes old new result (stack_before (calls_in links.now a n) (forks_behind (calls_in links.now a n) old.calls))) }
 {
-    match push_forks(links, units, a, n) {
-        Filed::Full => Filed::Full,
-        Filed::Done => push_stack(links, units, a, n),
-    }
+    push_forks(links, units, a, n)?;
+    push_stack(links, units, a, n)
 }
 
 // The calls of output o. Most outputs have one or none.
-pub fn push_calls(links: &[usize], units: &mut [u8], o: usize) -> Filed
+pub fn push_calls(links: &[usize], units: &mut [u8], o: usize) -> Result<(), Full>
     requires { Linked links.now × Room units.old }
     ensures { UnitsChange links.now (units.old, units.new) (λ c old new. Pushes old new result (push_calls c (some o) old.calls)) }
 {
     let n = call_count(links, o);
     if n == 0 {
-        return Filed::Done;
+        return Ok(());
     }
     let a = first_call(links, o);
     if n == 1 {

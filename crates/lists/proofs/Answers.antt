@@ -7,12 +7,11 @@ use native.Mathlib.Omega.{arith}
 use borrow.Author.Tests.{lt-ltb, le-ltb, ltb-true, ltb-false}
 use lib.Dec.{ltb}
 use lib.ListN.{length, drop}
-use Rattle.lists.specs.declared.Filed.TheVariants.{Full, Done}
-use Rattle.lists.specs.declared.Taken.TheVariants.{Empty, Entry}
-use Rattle.lists.specs.Lists.{filed, if_room, taken}
+use Rattle.std.specs.Prelude.{Some, None}
+use Rattle.lists.specs.Lists.{Done, NoRoom, filed, if_room, taken}
 
 -- the list is full
-pub no_room : (most n : ℕ) (l m : List ℕ) → n ≡ length l → most ≤ n → (Full ≡ filed most l) × (l ≡ if_room most l m)
+pub no_room : (most n : ℕ) (l m : List ℕ) → n ≡ length l → most ≤ n → (NoRoom ≡ filed most l) × (l ≡ if_room most l m)
 unfolding filed if_room
 no_room most n l m e h =
     let k : ltb (length l) most ≡ false = le-ltb (length l) most (omega arith) in
@@ -26,7 +25,7 @@ with_room most n l m r e h q =
     (rw k, rw k q)
 
 -- there is nothing to take
-pub none_left : (n : ℕ) (l : List ℕ) → n ≡ length l → n ≡ 0 → (Empty ≡ taken l) × (l ≡ drop 1 l)
+pub none_left : (n : ℕ) (l : List ℕ) → n ≡ length l → n ≡ 0 → (None ≡ taken l) × (l ≡ drop 1 l)
 unfolding taken
 none_left n [] e z = (refl, refl)
 none_left n (x ∷ l) e z = absurd (omega arith)
@@ -38,27 +37,27 @@ pub was_done : (most : ℕ) (l m : List ℕ) → Done ≡ filed most l → (leng
 unfolding filed if_room
 was_done most l m e = go (ltb (length l) most) refl e
   where
-    go : (b : Bool) → ltb (length l) most ≡ b → Done ≡ cond b Done Full → (length l < most) × (cond b m l ≡ m)
+    go : (b : Bool) → ltb (length l) most ≡ b → Done ≡ cond b Done NoRoom → (length l < most) × (cond b m l ≡ m)
     go true t e = (ltb-true (length l) most t, refl)
     go false t e = let z : ◌≡◌ {A = ℕ} 0 1 = cc in absurd (omega arith)
 
 -- It was not: the list is full, and stays.
-pub was_full : (most : ℕ) (l m : List ℕ) → Full ≡ filed most l → (most ≤ length l) × (if_room most l m ≡ l)
+pub was_full : (most : ℕ) (l m : List ℕ) → NoRoom ≡ filed most l → (most ≤ length l) × (if_room most l m ≡ l)
 unfolding filed if_room
 was_full most l m e = go (ltb (length l) most) refl e
   where
-    go : (b : Bool) → ltb (length l) most ≡ b → Full ≡ cond b Done Full → (most ≤ length l) × (cond b m l ≡ l)
+    go : (b : Bool) → ltb (length l) most ≡ b → NoRoom ≡ cond b Done NoRoom → (most ≤ length l) × (cond b m l ≡ l)
     go true t e = let z : ◌≡◌ {A = ℕ} 0 1 = cc in absurd (omega arith)
     go false t e = (ltb-false (length l) most t, refl)
 
 -- The entry taken off was the first.
-pub was_entry : (x : ℕ) (l : List ℕ) → Entry x ≡ taken l → l ≡ x ∷ drop 1 l
+pub was_entry : (x : ℕ) (l : List ℕ) → Some x ≡ taken l → l ≡ x ∷ drop 1 l
 unfolding taken
 was_entry x [] e = cc
 was_entry x (y ∷ l) e = let q : x ≡ y = cc in rw q
 
 -- Nothing was taken off: there was nothing.
-pub was_empty : (l : List ℕ) → Empty ≡ taken l → l ≡ []
+pub was_empty : (l : List ℕ) → None ≡ taken l → l ≡ []
 unfolding taken
 was_empty [] e = refl
 was_empty (x ∷ l) e = cc

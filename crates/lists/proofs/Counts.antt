@@ -1,5 +1,5 @@
 -- What the proofs of `count` and `clear` cite: they serve every list.
-use Prim.Native.Nat.{ℕ, ◌≤◌, ◌<◌}
+use Prim.Native.Nat.{ℕ, ◌≤◌, min}
 use mathlib.Core.Path.{◌≡◌}
 use mathlib.Core.List.{List}
 use native.Mathlib.Omega.{arith}
@@ -15,12 +15,9 @@ use Rattle.lists.proofs.Rings.{queued_length, queued_none}
 abbrev pub Counted : ℕ → List ℕ → ℕ → Type 0
 Counted most w r = (r ≡ length (stacked most w)) × ((r ≡ length (queued most w)) × (r ≤ most))
 
--- the two answers of `count`
-pub count_below : (most n : ℕ) (w : List ℕ) → n ≡ get_or w 0 0 → n < most → Counted most w n
-count_below most n w e h = (omega (arith, stacked_length most w), (omega (arith, queued_length most w), omega arith))
-
-pub count_beyond : (most n : ℕ) (w : List ℕ) → n ≡ get_or w 0 0 → most ≤ n → Counted most w most
-count_beyond most n w e h = (omega (arith, stacked_length most w), (omega (arith, queued_length most w), omega arith))
+-- the answer of `count`
+pub count_is : (most n r : ℕ) (w : List ℕ) → n ≡ get_or w 0 0 → r ≡ min n most → Counted most w r
+count_is most n r w e h = (omega (arith, stacked_length most w), (omega (arith, queued_length most w), omega arith))
 
 -- what `clear` leaves
 pub emptied : (s t : List ℕ) → 8 ≤ length s → Stored s t 0 0 → Emptied (words t) × Stored s t 0 0

@@ -9,9 +9,8 @@ use borrow.Author.Tests.{lt-ltb, le-ltb, ltb-true, ltb-false}
 use lib.Dec.{ltb}
 use lib.ListN.{length, get_or, set, drop, length-set}
 use lib.Seq.{get_or-set_same, get_or-set_other}
-use Rattle.lists.specs.declared.Filed.TheVariants.{Done}
-use Rattle.lists.specs.declared.Taken.TheVariants.{Entry}
-use Rattle.lists.specs.Lists.{held, wrapped, ring, first_slot, queued, filed, if_room, taken}
+use Rattle.std.specs.Prelude.{Some}
+use Rattle.lists.specs.Lists.{Done, held, wrapped, ring, first_slot, queued, filed, if_room, taken}
 use Rattle.lists.proofs.Answers.{with_room}
 
 -- ---- slots
@@ -122,7 +121,7 @@ enqueued most n h i x w w1 w2 l e f eh p ei e1 e2 =
 -- `dequeue` of a ring that holds something
 pub dequeued : (most n i j x : ℕ) (w w1 w2 : List ℕ) → length w ≡ most + 2 → n ≡ length (queued most w) → n ≤ most → (n ≡ 0 → ⊥) → i ≡ first_slot most w → x ≡ get_or w (2 + i) 0
     → j ≡ wrapped most (i + 1) → j < most → w1 ≡ set w 1 j → w2 ≡ set w1 0 (n - 1)
-    → (Entry x ≡ taken (queued most w)) × (queued most w2 ≡ drop 1 (queued most w))
+    → (Some x ≡ taken (queued most w)) × (queued most w2 ≡ drop 1 (queued most w))
 unfolding ring taken
 dequeued most zero i j x w w1 w2 l e h z ei ex ej p e1 e2 = absurd (z refl)
 dequeued most (suc n) i j x w w1 w2 l e h z ei ex ej p e1 e2 =

@@ -9,9 +9,8 @@ use borrow.Author.Tests.{ltb-true, ltb-false}
 use lib.Dec.{ltb}
 use lib.ListN.{length, get_or, set, drop, length-set, length-reverse, get_or-append}
 use lib.Seq.{get_or-set_same, get_or-set_other, get_or_at}
-use Rattle.lists.specs.declared.Filed.TheVariants.{Done}
-use Rattle.lists.specs.declared.Taken.TheVariants.{Entry}
-use Rattle.lists.specs.Lists.{held, downward, stacked, appended, filed, if_room, taken}
+use Rattle.std.specs.Prelude.{Some}
+use Rattle.lists.specs.Lists.{Done, held, downward, stacked, appended, filed, if_room, taken}
 use Rattle.lists.proofs.Answers.{with_room}
 
 -- ---- the view
@@ -72,7 +71,7 @@ pushed most n x w w1 w2 l e h e1 e2 =
 
 -- `stack_pop` of a stack that holds something
 pub popped : (most n x : ℕ) (w w2 : List ℕ) → length w ≡ most + 1 → n ≡ length (stacked most w) → n ≤ most → (n ≡ 0 → ⊥) → x ≡ get_or w n 0 → w2 ≡ set w 0 (n - 1)
-    → (Entry x ≡ taken (stacked most w)) × (stacked most w2 ≡ drop 1 (stacked most w))
+    → (Some x ≡ taken (stacked most w)) × (stacked most w2 ≡ drop 1 (stacked most w))
 unfolding downward taken
 popped most zero x w w2 l e h z ex e2 = absurd (z refl)
 popped most (suc n) x w w2 l e h z ex e2 =

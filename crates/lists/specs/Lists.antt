@@ -1,10 +1,7 @@
 -- Bounded lists of words, as a part of an area holds them. Word 0 says how many entries there are; in a ring word 1 says in which slot the first one stands.
 -- The entries follow, one word each.
-use Rattle.std.specs.Prelude.{ℕ, zero, suc, ◌+◌, ◌-◌, min, ◌≡◌, cond, List, [], ◌∷◌, reverse, ltb, length, get_or}
-use Rattle.lists.specs.declared.Filed.{Filed}
-use Rattle.lists.specs.declared.Filed.TheVariants.{Full, Done}
-use Rattle.lists.specs.declared.Taken.{Taken}
-use Rattle.lists.specs.declared.Taken.TheVariants.{Empty, Entry}
+use Rattle.std.specs.Prelude.{Option, Some, None, Result, Ok, Err, ℕ, zero, suc, ◌+◌, ◌-◌, min, ◌≡◌, cond, List, [], ◌∷◌, reverse, ltb, length, get_or}
+use Rattle.lists.specs.declared.Full.{Full}
 
 -- ---- the views: a list of at most `most` entries, whatever the words hold. A count above `most` is read as `most`. Slots that hold no entry stay open.
 
@@ -48,9 +45,21 @@ queued most ws = ring most ws (first_slot most ws) (held most ws)
 
 -- ---- one more entry
 
+-- what the code answers to it
+abbrev pub Filed : Type 0
+Filed = Result (Unit {0}) Full
+
+-- it was added
+abbrev pub Done : Filed
+Done = Ok tt
+
+-- the list is full
+abbrev pub NoRoom : Filed
+NoRoom = Err (record {})
+
 -- whether the list l had room for it
 unfoldable pub filed : ℕ → List ℕ → Filed
-filed most l = cond (ltb (length l) most) Done Full
+filed most l = cond (ltb (length l) most) Done NoRoom
 
 -- m, the list l with the entry in it, if l had room for it; else l
 unfoldable pub if_room : ℕ → List ℕ → List ℕ → List ℕ
@@ -59,9 +68,9 @@ if_room most l m = cond (ltb (length l) most) m l
 -- ---- one entry less: the first one is taken off, and `drop 1` is left
 
 -- what was taken off
-unfoldable pub taken : List ℕ → Taken
-taken [] = Empty
-taken (x ∷ l) = Entry x
+unfoldable pub taken : List ℕ → Option ℕ
+taken [] = None
+taken (x ∷ l) = Some x
 
 -- ---- no entry
 

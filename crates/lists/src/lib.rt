@@ -7,19 +7,9 @@ ghost use Rattle.lists.specs.Lists.{stacked, wrapped, first_slot, queued, filed,
 
 use words::{get, put};
 
-// Whether an entry was added to a list. If the list is full, nothing changes.
-#[derive(Clone, Copy)]
-pub enum Filed {
-    Full,
-    Done,
-}
-
-// What was taken off a list.
-#[derive(Clone, Copy)]
-pub enum Taken {
-    Empty,
-    Entry(u64),
-}
+// A list has no room for another entry. Nothing changes then.
+#[derive(Clone, Copy, PartialEq, Eq, Debug)]
+pub struct Full;
 
 // The word that says how many entries there are.
 const COUNT: usize = 0;
@@ -38,7 +28,7 @@ pub fn count(list: &[u8], most: usize) -> usize
     ensures upper_bound { result ≤ most }
 {
     let n = get(list, COUNT) as usize;
-    if n < most { n } else { most }
+    n.min(most)
 }
 
 // The list becomes empty, whatever kind it is of. Only its count is stored.
@@ -51,33 +41,33 @@ pub fn clear(list: &mut [u8])
 }
 
 // x on top of a stack.
-pub fn stack_push(list: &mut [u8], most: usize, x: u64) -> Filed
+pub fn stack_push(list: &mut [u8], most: usize, x: u64) -> Result<(), Full>
     requires { (length list.old ≡ (most + 1) * 8) × (most ≤ 1024) }
     ensures value { result ≡ filed most (stacked most (words list.old)) }
     ensures list_value { stacked most (words list.new) ≡ if_room most (stacked most (words list.old)) (x ∷ stacked most (words list.old)) }
 {
     let height = count(list, most);
     if most <= height {
-        return Filed::Full;
+        return Err(Full);
     }
     put(list, height + 1, x);
     put(list, COUNT, (height + 1) as u64);
-    Filed::Done
+    Ok(())
 }
 
 // The newest of a stack is taken off.
-pub fn stack_pop(list: &mut [u8], most: usize) -> Taken
+pub fn stack_pop(list: &mut [u8], most: usize) -> Option<u64>
     requires { (length list.old ≡ (most + 1) * 8) × (most ≤ 1024) }
     ensures value { result ≡ taken (stacked most (words list.old)) }
     ensures list_value { stacked most (words list.new) ≡ drop 1 (stacked most (words list.old)) }
 {
     let height = count(list, most);
     if height == 0 {
-        return Taken::Empty;
+        return None;
     }
     let x = get(list, height);
     put(list, COUNT, (height - 1) as u64);
-    Taken::Entry(x)
+    Some(x)
 }
 
 // Slot i of a ring, where past the last slot the first one follows.
@@ -98,34 +88,34 @@ fn first_slot(list: &[u8], most: usize) -> usize
 }
 
 // x goes behind the others of a ring.
-pub fn enqueue(list: &mut [u8], most: usize, x: u64) -> Filed
+pub fn enqueue(list: &mut [u8], most: usize, x: u64) -> Result<(), Full>
     requires { (length list.old ≡ (most + 2) * 8) × (most ≤ 1024) }
     ensures value { result ≡ filed most (queued most (words list.old)) }
     ensures list_value { queued most (words list.new) ≡ if_room most (queued most (words list.old)) (queued most (words list.old) ++ x ∷ []) }
 {
     let held = count(list, most);
     if most <= held {
-        return Filed::Full;
+        return Err(Full);
     }
     let i = wrapped(most, first_slot(list, most) + held);
     put(list, SLOTS + i, x);
     put(list, COUNT, (held + 1) as u64);
-    Filed::Done
+    Ok(())
 }
 
 // The oldest of a ring is taken off.
-pub fn dequeue(list: &mut [u8], most: usize) -> Taken
+pub fn dequeue(list: &mut [u8], most: usize) -> Option<u64>
     requires { (length list.old ≡ (most + 2) * 8) × (most ≤ 1024) }
     ensures value { result ≡ taken (queued most (words list.old)) }
     ensures list_value { queued most (words list.new) ≡ drop 1 (queued most (words list.old)) }
 {
     let held = count(list, most);
     if held == 0 {
-        return Taken::Empty;
+        return None;
     }
     let i = first_slot(list, most);
     let x = get(list, SLOTS + i);
     put(list, FIRST, wrapped(most, i + 1) as u64);
     put(list, COUNT, (held - 1) as u64);
-    Taken::Entry(x)
+    Some(x)
 }

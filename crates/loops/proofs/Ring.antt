@@ -8,8 +8,7 @@ use native.Mathlib.Omega.{arith}
 use lib.Dec.{ltb, eqb}
 use lib.ListN.{length, drop_of_length-le}
 use borrow.Author.Tests.{eqb-true, eqb-false, eq-eqb, ne_eqb, ltb-true, ltb-false}
-use Rattle.lists.specs.declared.Taken.{Taken}
-use Rattle.lists.specs.declared.Taken.TheVariants.{Empty, Entry}
+use Rattle.std.specs.Prelude.{Option as Found, None, Some}
 use Rattle.words.specs.Words.{signed}
 use Rattle.words.specs.Tables.{digits}
 use Rattle.model.specs.Base.{if◌then◌otherwise◌}
@@ -66,12 +65,12 @@ was_so false e = absurd (true≢false e)
 
 -- ---- what was taken off
 
-was_none : (p : Option Popped) → Empty ≡ popped p → p ≡ none
+was_none : (p : Option Popped) → None ≡ popped p → p ≡ none
 unfolding popped
 was_none none e = refl
 was_none (some t) e = let z : ◌≡◌ {A = Bool} true false = cc in absurd (true≢false z)
 
-was_some : (i : ℕ) (p : Option Popped) → Entry i ≡ popped p → (t : Popped) × ((p ≡ some t) × (i ≡ t.input))
+was_some : (i : ℕ) (p : Option Popped) → Some i ≡ popped p → (t : Popped) × ((p ≡ some t) × (i ≡ t.input))
 unfolding popped
 was_some i none e = let z : ◌≡◌ {A = Bool} true false = cc in absurd (true≢false z)
 was_some i (some t) e = (t, (refl, cc))
@@ -117,9 +116,9 @@ module _ (c : Circuit) (deep : ℕ) (inside : Bool) (under : ℕ) where
     abbrev a : Contents
     a = areas c vs us ds
 
-    module _ (us₁ : List ℕ) (top : Taken) (e : Pops (units c us) (units c us₁) top (pop inside under (units c us).calls.stack (units c us).calls.forks)) where
+    module _ (us₁ : List ℕ) (top : Found ℕ) (e : Pops (units c us) (units c us₁) top (pop inside under (units c us).calls.stack (units c us).calls.forks)) where
       -- none waits
-      pub nested_ended : (n : ℕ) → n ≡ rest → top ≡ Empty → Runs a₀ (areas c vs us₁ ds) (record { left = n; stop = 0 }) k
+      pub nested_ended : (n : ℕ) → n ≡ rest → top ≡ None → Runs a₀ (areas c vs us₁ ds) (record { left = n; stop = 0 }) k
       unfolding calls_left chained
       nested_ended n z h =
           let p = was_none _ (sym h ∙ e.0) in
@@ -135,7 +134,7 @@ module _ (c : Circuit) (deep : ℕ) (inside : Bool) (under : ℕ) where
           })
 
       -- one was taken off
-      taken_off : (i : ℕ) → top ≡ Entry i → (t : Popped) × ((pop inside under (units c us).calls.stack (units c us).calls.forks ≡ some t) × ((i ≡ t.input) × (areas c vs us₁ ds ≡ with_calls a t.rest)))
+      taken_off : (i : ℕ) → top ≡ Some i → (t : Popped) × ((pop inside under (units c us).calls.stack (units c us).calls.forks ≡ some t) × ((i ≡ t.input) × (areas c vs us₁ ds ≡ with_calls a t.rest)))
       unfolding calls_left
       taken_off i h =
           let p = was_some i _ (sym h ∙ e.0) in
@@ -143,7 +142,7 @@ module _ (c : Circuit) (deep : ℕ) (inside : Bool) (under : ℕ) where
           (p.0, (p.1.0, (p.1.1, ap (λ (x : Units). together (values c vs) x (delays c ds)) u)))
 
       -- and no step was left
-      pub nested_runs_away : (i : ℕ) → rest ≤ 0 → top ≡ Entry i → Runs a₀ (areas c vs us₁ ds) (record { left = 0; stop = 11 }) k
+      pub nested_runs_away : (i : ℕ) → rest ≤ 0 → top ≡ Some i → Runs a₀ (areas c vs us₁ ds) (record { left = 0; stop = 11 }) k
       unfolding chained
       nested_runs_away i z h =
           let p = taken_off i h in
@@ -155,7 +154,7 @@ module _ (c : Circuit) (deep : ℕ) (inside : Bool) (under : ℕ) where
           record { state = ap (λ (x : Contents). with_calls x no_calls) p.1.1.1; calls = λ y. absurd (omega (arith, y)); left = refl; stop = refl })
 
       -- it was made
-      module _ (i : ℕ) (h : top ≡ Entry i) (l : 0 < rest) (x : Contents) (ran : Ran)
+      module _ (i : ℕ) (h : top ≡ Some i) (l : 0 < rest) (x : Contents) (ran : Ran)
           (m : Runs (areas c vs us₁ ds) x ran (operate c (run_body c deep) inside i (started (areas c vs us₁ ds) (rest - 1)))) where
         abbrev p : (t : Popped) × ((pop inside under (units c us).calls.stack (units c us).calls.forks ≡ some t) × ((i ≡ t.input) × (areas c vs us₁ ds ≡ with_calls a t.rest)))
         p = taken_off i h
@@ -336,17 +335,19 @@ module _ (c : Circuit) (n g first step count left : ℕ) (vs₀ us₀ ds₀ vs u
   whole = looping c n g first step count 0 (started start left)
 
   -- all are made
-  pub loop_counted : count ≤ done → LoopsAs start here (record { left = rest; stop = 0; done = done; aborted = false }) whole
+  pub loop_counted : count ≤ done → done ≤ count → LoopsAs start here (record { left = rest; stop = 0; done = count; aborted = false }) whole
   unfolding loop_on model.looped chained
-  loop_counted l =
+  loop_counted l m =
       let z : count - done ≡ 0 = omega (arith, l) in
+      let y : done ≡ count = omega (arith, l, m) in
       let e : model.looped (started here rest) done false ≡ whole = ap (λ (k : ℕ). looping c n g first step k done (started here rest)) (sym z) ∙ inv in
-      subst (LoopsAs start here (record { left = rest; stop = 0; done = done; aborted = false })) e
+      subst (λ (d : ℕ). LoopsAs start here (record { left = rest; stop = 0; done = d; aborted = false }) whole) y
+      (subst (LoopsAs start here (record { left = rest; stop = 0; done = done; aborted = false })) e
       record {
         runs = runs_from {a = start} {b = here} sl sk record { state = refl; calls = λ _. refl; left = refl; stop = refl };
         done = refl;
         aborted = refl;
-      }
+      })
 
   module _ (l : done < count) (vs₁ : List ℕ) (b : Bool) (eb : b ≡ ltb 0 (values c vs).wires.runs_left)
       (e₁ : values c vs₁ ≡ with_wires (values c vs) (runs_left≔ (values c vs).wires ((values c vs).wires.runs_left - 1))) where

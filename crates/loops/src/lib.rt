@@ -13,7 +13,6 @@ use chain::{Ran, fire_output, make_call};
 use counting::{Looped, begin_body, begin_loop, begin_run, goes_on, loop_over};
 use kinds::numbers::LOOP;
 use links::{gate_at_input, gates, kind_of_gate, output};
-use lists::Taken;
 use stops::{LIST_FULL, RUNAWAY};
 use units::calls::{calls_waiting, forks_waiting, pop_call};
 use wires::bodies::{set_unions_passed, unions_passed};
@@ -79,24 +78,22 @@ fn iterate(
     ensures slots_stay { SlotsStay links.now delays.new }
 {
     let mut rest = left;
-    let mut done = 0;
-    while done < count {
+    for done in 0..count {
         if !begin_run(links, values) {
             return Looped {
                 left: rest,
                 stop: 0,
-                done: done,
+                done,
                 aborted: true,
             };
         }
         let i = loop_index(first, done, step);
         let ran = run_body(links, values, units, delays, rest, g, i, nesting);
-        done += 1;
         if !goes_on(links, values, ran.stop) {
             return Looped {
                 left: ran.left,
                 stop: ran.stop,
-                done: done,
+                done: done + 1,
                 aborted: false,
             };
         }
@@ -105,7 +102,7 @@ fn iterate(
     Looped {
         left: rest,
         stop: 0,
-        done: done,
+        done: count,
         aborted: false,
     }
 }
@@ -190,33 +187,30 @@ fn run_nested(
     }
     let mut rest = run.left;
     while 0 < rest {
-        let top = pop_call(units, under, inside);
-        match top {
-            Taken::Empty => return Ran {
+        let Some(i) = pop_call(units, under, inside) else {
+            return Ran {
                 left: rest,
                 stop: 0,
-            },
-            Taken::Entry(i) => {
-                let ran = operate(
-                    links,
-                    values,
-                    units,
-                    delays,
-                    rest - 1,
-                    i as usize,
-                    nesting,
-                    inside,
-                );
-                if ran.stop != 0 {
-                    return ran;
-                }
-                rest = ran.left;
-            }
+            };
+        };
+        let ran = operate(
+            links,
+            values,
+            units,
+            delays,
+            rest - 1,
+            i as usize,
+            nesting,
+            inside,
+        );
+        if ran.stop != 0 {
+            return ran;
         }
+        rest = ran.left;
     }
     match pop_call(units, under, inside) {
-        Taken::Empty => Ran { left: 0, stop: 0 },
-        Taken::Entry(_) => Ran {
+        None => Ran { left: 0, stop: 0 },
+        Some(_) => Ran {
             left: 0,
             stop: RUNAWAY,
         },

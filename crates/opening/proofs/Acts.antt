@@ -8,8 +8,7 @@ use borrow.Author.Tests.{eq-eqb, ne_eqb}
 use lib.Dec.{eqb}
 use lib.ListN.{length, get_or, drop}
 use Rattle.schedule.specs.Schedule.{Place, to_late, to_delivered, to_pending, Filed, full, filed}
-use Rattle.lists.specs.declared.Filed.{Filed as Answer}
-use Rattle.lists.specs.declared.Filed.TheVariants.{Full, Done}
+use Rattle.lists.specs.Lists.{Filed as Answer, NoRoom, Done}
 use Rattle.model.specs.declared.Value.{Value}
 use Rattle.model.specs.Base.{if◌then◌otherwise◌, keep, joined, both}
 use Rattle.model.specs.Value.{same}
@@ -24,8 +23,7 @@ use Rattle.units.specs.declared.Place.TheVariants.{Late, Pending}
 use Rattle.units.specs.View.{gate_of, form_of, brings, entry_of, row_of, act_of, event_of, Lists, Units}
 use Rattle.units.specs.Raising.{with_lists, activate, deliver, answer, lists_after}
 use Rattle.opening.specs.Opening.{put_to, stimuli_of}
-use Rattle.opening.specs.Stages.{Put, put_all, Puts, event, heard_by, is_full}
-use Rattle.opening.proofs.Raises.{full_is, done_is}
+use Rattle.opening.specs.Stages.{Put, put_all, Puts, event, heard_by}
 use Rattle.opening.proofs.Stages.{puts_none, puts_next, puts_full}
 
 -- ---- entries
@@ -76,8 +74,8 @@ unfolding put_all answer lists_after
 put_one c p u v r a e h = let x = go (put_to c p a u.lists) e h in record { units = x.0; answer = x.1 }
   where
     go : (q : Filed Lists) → r ≡ answer q → v ≡ with_lists u (lists_after u.lists q) →
-        (v ≡ with_lists u (put_lists (elim q [ full ↦ record { lists = u.lists; answer = Full } | filed k ↦ record { lists = k; answer = Done } ])))
-        × (r ≡ put_answer (elim q [ full ↦ record { lists = u.lists; answer = Full } | filed k ↦ record { lists = k; answer = Done } ]))
+        (v ≡ with_lists u (put_lists (elim q [ full ↦ record { lists = u.lists; answer = NoRoom } | filed k ↦ record { lists = k; answer = Done } ])))
+        × (r ≡ put_answer (elim q [ full ↦ record { lists = u.lists; answer = NoRoom } | filed k ↦ record { lists = k; answer = Done } ]))
     go full e h = (h, e)
     go (filed k) e h = (h, e)
 
@@ -106,8 +104,8 @@ module _ (c : Circuit) (p : Place) (u₀ u v : Units) (all acts xs ys : List Act
   still_next i w q k =
       s w q (subst (λ (l : List Act). Puts c u w q p l) (sym e) (puts_next c p u v w q xs ys (subst (λ (x : Answer). Puts c u v x p xs) i h) k))
 
-  still_full : r ≡ Full → Puts c u₀ v Full p all
-  still_full i = s v Full (subst (λ (l : List Act). Puts c u v Full p l) (sym e) (puts_full c p u v xs ys (subst (λ (x : Answer). Puts c u v x p xs) i h)))
+  still_full : r ≡ NoRoom → Puts c u₀ v NoRoom p all
+  still_full i = s v NoRoom (subst (λ (l : List Act). Puts c u v NoRoom p l) (sym e) (puts_full c p u v xs ys (subst (λ (x : Answer). Puts c u v x p xs) i h)))
 
 still_last : (c : Circuit) (p : Place) (u₀ u : Units) (all acts : List Act) → Still c p u₀ all u acts → acts ≡ [] → Puts c u₀ u Done p all
 still_last c p u₀ u all acts s e = s u Done (subst (λ (l : List Act). Puts c u u Done p l) (sym e) (puts_none c p u))
@@ -122,14 +120,14 @@ pub fires_first : (c : Circuit) (u : Units) (n g : ℕ) → Still c to_late u (f
 fires_first c u n g v r h = let e : n - 0 ≡ n = omega arith in subst (λ (m : ℕ). Puts c u v r to_late (fire m g)) e h
 
 module _
-    (c : Circuit) (u₀ u v : Units) (r : Answer) (g n k x : ℕ) (t : Bool) (b : g < 65536) (ex : x ≡ entry_of g 0 0) (s : Still c to_late u₀ (fire n g) u (fire (n - k) g)) (l : k < n)
-    (h : (r ≡ answer (activate c Late (act_of c x) u.lists)) × (v ≡ with_lists u (lists_after u.lists (activate c Late (act_of c x) u.lists)))) (et : t ≡ is_full r)
+    (c : Circuit) (u₀ u v : Units) (r : Answer) (g n k x : ℕ) (b : g < 65536) (ex : x ≡ entry_of g 0 0) (s : Still c to_late u₀ (fire n g) u (fire (n - k) g)) (l : k < n)
+    (h : (r ≡ answer (activate c Late (act_of c x) u.lists)) × (v ≡ with_lists u (lists_after u.lists (activate c Late (act_of c x) u.lists))))
   where
-    pub fires_next : t ≡ false → Still c to_late u₀ (fire n g) v (fire (n - (k + 1)) g)
-    fires_next i = still_next c to_late u₀ u v (fire n g) _ _ _ r s (fire_more n k g l) (fire_late_one c u v r g x b ex h) (done_is r t et i)
+    pub fires_next : r ≡ Done → Still c to_late u₀ (fire n g) v (fire (n - (k + 1)) g)
+    fires_next i = still_next c to_late u₀ u v (fire n g) _ _ _ r s (fire_more n k g l) (fire_late_one c u v r g x b ex h) i
 
-    pub fires_full : t ≡ true → Puts c u₀ v Full to_late (fire n g)
-    fires_full i = still_full c to_late u₀ u v (fire n g) _ _ _ r s (fire_more n k g l) (fire_late_one c u v r g x b ex h) (full_is r t et i)
+    pub fires_full : r ≡ NoRoom → Puts c u₀ v NoRoom to_late (fire n g)
+    fires_full i = still_full c to_late u₀ u v (fire n g) _ _ _ r s (fire_more n k g l) (fire_late_one c u v r g x b ex h) i
 
 pub fires_last : (c : Circuit) (u₀ u : Units) (g n k : ℕ) → Still c to_late u₀ (fire n g) u (fire (n - k) g) → n ≤ k → Puts c u₀ u Done to_late (fire n g)
 unfolding fire
@@ -187,9 +185,9 @@ module _ (c : Circuit) (u₀ : Units) (kind e : ℕ) (channel : Value) where
   hear gs = heard_by c kind channel (event u₀ e).row gs
 
   module _
-      (u v : Units) (all : List Act) (d k r : ℕ) (b : Answer) (t : Bool) (ev : u.events ≡ u₀.events) (er : r ≡ get_or (gates_of_word d) 0 64)
+      (u v : Units) (all : List Act) (d k r : ℕ) (b : Answer) (ev : u.events ≡ u₀.events) (er : r ≡ get_or (gates_of_word d) 0 64)
       (s : Still c to_delivered u₀ all u (hear (gates_of_word d))) (l : r < 64) (ek : gates_of_word k ≡ drop 1 (gates_of_word d))
-      (h : Puts c u v b to_delivered (heard_by c kind channel (event u e).row (r ∷ []))) (et : t ≡ is_full b)
+      (h : Puts c u v b to_delivered (heard_by c kind channel (event u e).row (r ∷ [])))
     where
       one : Puts c u v b to_delivered (hear (r ∷ []))
       unfolding event
@@ -198,11 +196,11 @@ module _ (c : Circuit) (u₀ : Units) (kind e : ℕ) (channel : Value) where
       more : hear (gates_of_word d) ≡ hear (r ∷ []) ++ hear (gates_of_word k)
       more = ap hear (first_and_rest (gates_of_word d) r er l ∙ ap (λ (gs : List ℕ). r ∷ gs) (sym ek)) ∙ heard_append c kind channel (event u₀ e).row r (gates_of_word k)
 
-      pub hear_next : t ≡ false → Still c to_delivered u₀ all v (hear (gates_of_word k))
-      hear_next i = still_next c to_delivered u₀ u v all _ _ _ b s more one (done_is b t et i)
+      pub hear_next : b ≡ Done → Still c to_delivered u₀ all v (hear (gates_of_word k))
+      hear_next i = still_next c to_delivered u₀ u v all _ _ _ b s more one i
 
-      pub hear_full : t ≡ true → Puts c u₀ v Full to_delivered all
-      hear_full i = still_full c to_delivered u₀ u v all _ _ _ b s more one (full_is b t et i)
+      pub hear_full : b ≡ NoRoom → Puts c u₀ v NoRoom to_delivered all
+      hear_full i = still_full c to_delivered u₀ u v all _ _ _ b s more one i
 
   pub hear_last : (u : Units) (all : List Act) (d r : ℕ) → r ≡ get_or (gates_of_word d) 0 64 → Still c to_delivered u₀ all u (hear (gates_of_word d)) → 64 ≤ r →
       Puts c u₀ u Done to_delivered all
@@ -243,8 +241,8 @@ module _ (c : Circuit) (u₀ : Units) where
   raised_from e = joined (map (delivered c) (drop e u₀.events))
 
   module _
-      (u v : Units) (all : List Act) (n e : ℕ) (r : Answer) (t : Bool) (en : n ≡ length u₀.events) (ev : u.events ≡ u₀.events)
-      (s : Still c to_delivered u₀ all u (raised_from e)) (l : e < n) (h : Puts c u v r to_delivered (delivered c (event u e))) (et : t ≡ is_full r)
+      (u v : Units) (all : List Act) (n e : ℕ) (r : Answer) (en : n ≡ length u₀.events) (ev : u.events ≡ u₀.events)
+      (s : Still c to_delivered u₀ all u (raised_from e)) (l : e < n) (h : Puts c u v r to_delivered (delivered c (event u e)))
     where
       this_event : Puts c u v r to_delivered (delivered c (event u₀ e))
       unfolding event
@@ -260,11 +258,11 @@ module _ (c : Circuit) (u₀ : Units) where
           let q : e + 1 ≡ suc e = omega arith in
           ap (λ (ms : List Send). joined (map (delivered c) ms)) (drop_event u₀.events e (omega arith)) ∙ rw q
 
-      pub events_next : t ≡ false → Still c to_delivered u₀ all v (raised_from (e + 1))
-      events_next i = still_next c to_delivered u₀ u v all _ _ _ r s other_events this_event (done_is r t et i)
+      pub events_next : r ≡ Done → Still c to_delivered u₀ all v (raised_from (e + 1))
+      events_next i = still_next c to_delivered u₀ u v all _ _ _ r s other_events this_event i
 
-      pub events_full : t ≡ true → Puts c u₀ v Full to_delivered all
-      events_full i = still_full c to_delivered u₀ u v all _ _ _ r s other_events this_event (full_is r t et i)
+      pub events_full : r ≡ NoRoom → Puts c u₀ v NoRoom to_delivered all
+      events_full i = still_full c to_delivered u₀ u v all _ _ _ r s other_events this_event i
 
   pub events_last : (u : Units) (all : List Act) (n e : ℕ) → n ≡ length u₀.events → Still c to_delivered u₀ all u (raised_from e) → n ≤ e → Puts c u₀ u Done to_delivered all
   unfolding joined
@@ -295,9 +293,9 @@ module _ (c : Circuit) (ws : List ℕ) (a b n : ℕ) where
   stimuli_from k = stimuli_of c ws (a + k) (b + k) (n - k)
 
   module _
-      (u₀ u v : Units) (k g m x : ℕ) (r : Answer) (t : Bool) (la : a + n ≤ length ws) (lb : b + n ≤ length ws)
+      (u₀ u v : Units) (k g m x : ℕ) (r : Answer) (la : a + n ≤ length ws) (lb : b + n ≤ length ws)
       (s : Still c to_late u₀ (stimuli_of c ws a b n) u (stimuli_from k)) (l : k < n) (eg : g ≡ get_or ws (a + k) 0) (em : m ≡ get_or ws (b + k) 0) (ex : x ≡ entry_of g 2 m)
-      (h : (r ≡ answer (activate c Late (act_of c x) u.lists)) × (v ≡ with_lists u (lists_after u.lists (activate c Late (act_of c x) u.lists)))) (et : t ≡ is_full r)
+      (h : (r ≡ answer (activate c Late (act_of c x) u.lists)) × (v ≡ with_lists u (lists_after u.lists (activate c Late (act_of c x) u.lists))))
     where
       this_stimulus : Puts c u v r to_late (stimulus c.constants (g % 2 ^ 16) (m % 2 ^ 16) ∷ [])
       unfolding put_to
@@ -307,11 +305,11 @@ module _ (c : Circuit) (ws : List ℕ) (a b n : ℕ) where
       unfolding stimuli_of both
       other_stimuli = rw (part_more ws a n k la l, part_more ws b n k lb l, eg, em)
 
-      pub stimuli_next : t ≡ false → Still c to_late u₀ (stimuli_of c ws a b n) v (stimuli_from (k + 1))
-      stimuli_next i = still_next c to_late u₀ u v _ _ _ _ r s other_stimuli this_stimulus (done_is r t et i)
+      pub stimuli_next : r ≡ Done → Still c to_late u₀ (stimuli_of c ws a b n) v (stimuli_from (k + 1))
+      stimuli_next i = still_next c to_late u₀ u v _ _ _ _ r s other_stimuli this_stimulus i
 
-      pub stimuli_full : t ≡ true → Puts c u₀ v Full to_late (stimuli_of c ws a b n)
-      stimuli_full i = still_full c to_late u₀ u v _ _ _ _ r s other_stimuli this_stimulus (full_is r t et i)
+      pub stimuli_full : r ≡ NoRoom → Puts c u₀ v NoRoom to_late (stimuli_of c ws a b n)
+      stimuli_full i = still_full c to_late u₀ u v _ _ _ _ r s other_stimuli this_stimulus i
 
   pub stimuli_first : (u : Units) → Still c to_late u (stimuli_of c ws a b n) u (stimuli_from 0)
   stimuli_first u v r h =

@@ -10,8 +10,7 @@ use types.Run.{OneOf}
 use lib.Dec.{eqb}
 use lib.ListN.{length}
 use Rattle.schedule.specs.Schedule.{Place, to_late, to_pending}
-use Rattle.lists.specs.declared.Filed.{Filed as Answer}
-use Rattle.lists.specs.declared.Filed.TheVariants.{Done}
+use Rattle.lists.specs.Lists.{Filed as Answer, Done}
 use Rattle.model.specs.declared.Value.{Value}
 use Rattle.model.specs.declared.Value.TheVariants.{Float}
 use Rattle.model.specs.Base.{if◌then◌otherwise◌, each, from}

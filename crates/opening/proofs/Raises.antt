@@ -2,12 +2,8 @@
 use mathlib.Core.Path.{◌≡◌, refl, sym, ◌∙◌}
 use mathlib.Core.List.{List, [], ◌∷◌, ◌++◌, map}
 use mathlib.Core.Bool.{Bool, true, false}
-use denote.Enum.Declared.{tag_of}
-use types.Run.{OneOf, miss}
 use Rattle.schedule.specs.Schedule.{Raise, Place, to_pending, When, Filed, full, filed}
-use Rattle.lists.specs.declared.Filed.{Filed as Answer}
-use Rattle.lists.specs.declared.Filed.TheVariants.{Full, Done}
-use Rattle.lists.specs.contracts.Filed.{the_type as Answers}
+use Rattle.lists.specs.Lists.{Filed as Answer, NoRoom, Done}
 use Rattle.model.specs.Circuit.{Circuit}
 use Rattle.model.specs.State.{Act, State}
 use Rattle.model.specs.Opening.{raised_to}
@@ -15,29 +11,7 @@ use Rattle.units.specs.declared.Place.TheVariants.{Pending}
 use Rattle.units.specs.View.{Lists}
 use Rattle.units.specs.Raising.{activate, place_for, Went, raise_into}
 use Rattle.opening.specs.Opening.{put_to}
-use Rattle.opening.specs.Stages.{Put, put_all, is_full}
-
--- ---- whether a list was full
-
-pub full_arm : (a : Answer) → OneOf (0 ∷ []) (tag_of Answers a) → true ≡ is_full a
-unfolding is_full
-full_arm Full k = refl
-full_arm Done k = absurd (miss (0 ∷ []) 1 tt k)
-
-pub done_arm : (a : Answer) → OneOf (1 ∷ []) (tag_of Answers a) → false ≡ is_full a
-unfolding is_full
-done_arm Full k = absurd (miss (1 ∷ []) 0 tt k)
-done_arm Done k = refl
-
-pub full_is : (a : Answer) (b : Bool) → b ≡ is_full a → b ≡ true → a ≡ Full
-unfolding is_full
-full_is Full b e h = refl
-full_is Done b e h = let x : false ≡ true = sym e ∙ h in cc
-
-pub done_is : (a : Answer) (b : Bool) → b ≡ is_full a → b ≡ false → a ≡ Done
-unfolding is_full
-done_is Full b e h = let x : true ≡ false = sym e ∙ h in cc
-done_is Done b e h = refl
+use Rattle.opening.specs.Stages.{Put, put_all}
 
 -- the parts of what an elimination gives
 abbrev answer_of : Went → Answer
@@ -67,24 +41,24 @@ module _ {P : Type 0} (f : P → Act → Lists → Filed Lists) where
   raise_done (x ∷ xs) ys l s t h = go (λ k. raise_done xs ys k s t) (f x.place x.act l) h
     where
       go : ((k : Lists) → (raise_into f xs k s).answer ≡ Done → raise_into f (xs ++ ys) k t ≡ raise_into f ys (raise_into f xs k s).lists t) → (q : Filed Lists) →
-          (answer_of (elim q [ full ↦ record { state = x.at; lists = l; answer = Full } | filed k ↦ raise_into f xs k s ])) ≡ Done →
-          elim q [ full ↦ record { state = x.at; lists = l; answer = Full } | filed k ↦ raise_into f (xs ++ ys) k t ]
-          ≡ raise_into f ys ((lists_of (elim q [ full ↦ record { state = x.at; lists = l; answer = Full } | filed k ↦ raise_into f xs k s ]))) t
+          (answer_of (elim q [ full ↦ record { state = x.at; lists = l; answer = NoRoom } | filed k ↦ raise_into f xs k s ])) ≡ Done →
+          elim q [ full ↦ record { state = x.at; lists = l; answer = NoRoom } | filed k ↦ raise_into f (xs ++ ys) k t ]
+          ≡ raise_into f ys ((lists_of (elim q [ full ↦ record { state = x.at; lists = l; answer = NoRoom } | filed k ↦ raise_into f xs k s ]))) t
       go rec full e = cc
       go rec (filed k) e = rec k e
 
   -- where the first part finds a list full, that is all
   pub raise_full :
-      (xs ys : List (Raise State Act P)) (l : Lists) (s t : State) → (raise_into f xs l s).answer ≡ Full → raise_into f (xs ++ ys) l t ≡ raise_into f xs l s
+      (xs ys : List (Raise State Act P)) (l : Lists) (s t : State) → (raise_into f xs l s).answer ≡ NoRoom → raise_into f (xs ++ ys) l t ≡ raise_into f xs l s
   unfolding raise_into
   raise_full [] ys l s t h = cc
   raise_full (x ∷ xs) ys l s t h = go (λ k. raise_full xs ys k s t) (f x.place x.act l) h
     where
-      go : ((k : Lists) → (raise_into f xs k s).answer ≡ Full → raise_into f (xs ++ ys) k t ≡ raise_into f xs k s) → (q : Filed Lists) →
-          (answer_of (elim q [ full ↦ record { state = x.at; lists = l; answer = Full } | filed k ↦ raise_into f xs k s ])) ≡ Full →
+      go : ((k : Lists) → (raise_into f xs k s).answer ≡ NoRoom → raise_into f (xs ++ ys) k t ≡ raise_into f xs k s) → (q : Filed Lists) →
+          (answer_of (elim q [ full ↦ record { state = x.at; lists = l; answer = NoRoom } | filed k ↦ raise_into f xs k s ])) ≡ NoRoom →
           ◌≡◌ {A = Went}
-          (elim q [ full ↦ record { state = x.at; lists = l; answer = Full } | filed k ↦ raise_into f (xs ++ ys) k t ])
-          (elim q [ full ↦ record { state = x.at; lists = l; answer = Full } | filed k ↦ raise_into f xs k s ])
+          (elim q [ full ↦ record { state = x.at; lists = l; answer = NoRoom } | filed k ↦ raise_into f (xs ++ ys) k t ])
+          (elim q [ full ↦ record { state = x.at; lists = l; answer = NoRoom } | filed k ↦ raise_into f xs k s ])
       go rec full e = refl
       go rec (filed k) e = rec k e
 
@@ -95,8 +69,8 @@ module _ {P : Type 0} (f : P → Act → Lists → Filed Lists) where
   raise_state (x ∷ xs) l s h = go (λ k. raise_state xs k s) (f x.place x.act l) h
     where
       go : ((k : Lists) → (raise_into f xs k s).answer ≡ Done → (raise_into f xs k s).state ≡ s) → (q : Filed Lists) →
-          (answer_of (elim q [ full ↦ record { state = x.at; lists = l; answer = Full } | filed k ↦ raise_into f xs k s ])) ≡ Done →
-          (state_of (elim q [ full ↦ record { state = x.at; lists = l; answer = Full } | filed k ↦ raise_into f xs k s ])) ≡ s
+          (answer_of (elim q [ full ↦ record { state = x.at; lists = l; answer = NoRoom } | filed k ↦ raise_into f xs k s ])) ≡ Done →
+          (state_of (elim q [ full ↦ record { state = x.at; lists = l; answer = NoRoom } | filed k ↦ raise_into f xs k s ])) ≡ s
       go rec full e = cc
       go rec (filed k) e = rec k e
 
@@ -113,11 +87,11 @@ raise_put c p (a ∷ acts) l s = go (λ k. raise_put c p acts k s) (put_to c p a
     go : ((k : Lists) → raise_into (put_to c) (raised_to p s acts) k s ≡ record { state = s; lists = (put_all c p acts k).lists; answer = (put_all c p acts k).answer }) →
         (q : Filed Lists) →
         ◌≡◌ {A = Went}
-        (elim q [ full ↦ record { state = s; lists = l; answer = Full } | filed k ↦ raise_into (put_to c) (raised_to p s acts) k s ])
+        (elim q [ full ↦ record { state = s; lists = l; answer = NoRoom } | filed k ↦ raise_into (put_to c) (raised_to p s acts) k s ])
         (record {
           state = s;
-          lists = (put_lists (elim q [ full ↦ record { lists = l; answer = Full } | filed k ↦ put_all c p acts k ]));
-          answer = (put_answer (elim q [ full ↦ record { lists = l; answer = Full } | filed k ↦ put_all c p acts k ]));
+          lists = (put_lists (elim q [ full ↦ record { lists = l; answer = NoRoom } | filed k ↦ put_all c p acts k ]));
+          answer = (put_answer (elim q [ full ↦ record { lists = l; answer = NoRoom } | filed k ↦ put_all c p acts k ]));
         })
     go rec full = refl
     go rec (filed k) = rec k
@@ -133,8 +107,8 @@ raise_pending c (r ∷ rs) l s = go (λ k. raise_pending c rs k s) (activate c P
     go : ((k : Lists) → raise_into (put_to c) (map (λ x. record { at = x.at; act = x.act; place = to_pending }) rs) k s ≡ raise_into (λ p. activate c (place_for p Pending)) rs k s) →
         (q : Filed Lists) →
         ◌≡◌ {A = Went}
-        (elim q [ full ↦ record { state = r.at; lists = l; answer = Full } | filed k ↦ raise_into (put_to c) (map (λ x. record { at = x.at; act = x.act; place = to_pending }) rs) k s ])
-        (elim q [ full ↦ record { state = r.at; lists = l; answer = Full } | filed k ↦ raise_into (λ p. activate c (place_for p Pending)) rs k s ])
+        (elim q [ full ↦ record { state = r.at; lists = l; answer = NoRoom } | filed k ↦ raise_into (put_to c) (map (λ x. record { at = x.at; act = x.act; place = to_pending }) rs) k s ])
+        (elim q [ full ↦ record { state = r.at; lists = l; answer = NoRoom } | filed k ↦ raise_into (λ p. activate c (place_for p Pending)) rs k s ])
     go rec full = refl
     go rec (filed k) = rec k
 
@@ -146,21 +120,21 @@ put_done c p [] ys l h = refl
 put_done c p (x ∷ xs) ys l h = go (λ k. put_done c p xs ys k) (put_to c p x l) h
   where
     go : ((k : Lists) → (put_all c p xs k).answer ≡ Done → put_all c p (xs ++ ys) k ≡ put_all c p ys (put_all c p xs k).lists) → (q : Filed Lists) →
-        (put_answer (elim q [ full ↦ record { lists = l; answer = Full } | filed k ↦ put_all c p xs k ])) ≡ Done →
-        elim q [ full ↦ record { lists = l; answer = Full } | filed k ↦ put_all c p (xs ++ ys) k ]
-        ≡ put_all c p ys ((put_lists (elim q [ full ↦ record { lists = l; answer = Full } | filed k ↦ put_all c p xs k ])))
+        (put_answer (elim q [ full ↦ record { lists = l; answer = NoRoom } | filed k ↦ put_all c p xs k ])) ≡ Done →
+        elim q [ full ↦ record { lists = l; answer = NoRoom } | filed k ↦ put_all c p (xs ++ ys) k ]
+        ≡ put_all c p ys ((put_lists (elim q [ full ↦ record { lists = l; answer = NoRoom } | filed k ↦ put_all c p xs k ])))
     go rec full e = cc
     go rec (filed k) e = rec k e
 
-pub put_full : (c : Circuit) (p : Place) (xs ys : List Act) (l : Lists) → (put_all c p xs l).answer ≡ Full → put_all c p (xs ++ ys) l ≡ put_all c p xs l
+pub put_full : (c : Circuit) (p : Place) (xs ys : List Act) (l : Lists) → (put_all c p xs l).answer ≡ NoRoom → put_all c p (xs ++ ys) l ≡ put_all c p xs l
 unfolding put_all
 put_full c p [] ys l h = cc
 put_full c p (x ∷ xs) ys l h = go (λ k. put_full c p xs ys k) (put_to c p x l) h
   where
-    go : ((k : Lists) → (put_all c p xs k).answer ≡ Full → put_all c p (xs ++ ys) k ≡ put_all c p xs k) → (q : Filed Lists) →
-        (put_answer (elim q [ full ↦ record { lists = l; answer = Full } | filed k ↦ put_all c p xs k ])) ≡ Full →
+    go : ((k : Lists) → (put_all c p xs k).answer ≡ NoRoom → put_all c p (xs ++ ys) k ≡ put_all c p xs k) → (q : Filed Lists) →
+        (put_answer (elim q [ full ↦ record { lists = l; answer = NoRoom } | filed k ↦ put_all c p xs k ])) ≡ NoRoom →
         ◌≡◌ {A = Put}
-        (elim q [ full ↦ record { lists = l; answer = Full } | filed k ↦ put_all c p (xs ++ ys) k ])
-        (elim q [ full ↦ record { lists = l; answer = Full } | filed k ↦ put_all c p xs k ])
+        (elim q [ full ↦ record { lists = l; answer = NoRoom } | filed k ↦ put_all c p (xs ++ ys) k ])
+        (elim q [ full ↦ record { lists = l; answer = NoRoom } | filed k ↦ put_all c p xs k ])
     go rec full e = refl
     go rec (filed k) e = rec k e

@@ -2,11 +2,10 @@
 use Prim.Native.Nat.{ℕ, ◌≤◌, ◌<◌}
 use mathlib.Core.Path.{◌≡◌, refl, sym, ap, subst, ◌∙◌}
 use mathlib.Core.Bool.{Bool, true, false}
-use mathlib.Core.List.{List, [], ◌∷◌, ◌++◌}
+use mathlib.Core.List.{List, [], ◌∷◌, ◌++◌, append-nil, append_assoc}
 use lib.ListN.{get_or, drop}
 use Rattle.schedule.specs.Schedule.{Place}
-use Rattle.lists.specs.declared.Filed.{Filed as Answer}
-use Rattle.lists.specs.declared.Filed.TheVariants.{Full, Done}
+use Rattle.lists.specs.Lists.{Filed as Answer, NoRoom, Done}
 use Rattle.model.specs.Base.{if◌then◌otherwise◌, each}
 use Rattle.model.specs.Circuit.{Circuit}
 use Rattle.model.specs.State.{Act, State}
@@ -19,20 +18,12 @@ use Rattle.units.specs.View.{Units}
 use Rattle.units.specs.Raising.{with_lists, raise_into}
 use Rattle.areas.specs.Areas.{Contents, together, with_state, with_went}
 use Rattle.opening.specs.Opening.{put_to, opened_into, unopened, Opens}
-use Rattle.opening.specs.Stages.{put_all, Puts, is_full, Advances}
-use Rattle.opening.proofs.Raises.{full_is, done_is, raise_done, raise_full, raise_state, raise_put, put_done, put_full}
+use Rattle.opening.specs.Stages.{put_all, Puts, Advances}
+use Rattle.opening.proofs.Raises.{raise_done, raise_full, raise_state, raise_put, put_done, put_full}
 
 -- what y says, after z
 abbrev pub after : Opened → Opened → Opened
 after z y = record { state = y.state; raises = z.raises ++ y.raises }
-
-pub append_none : {A : Type 0} (l : List A) → l ++ [] ≡ l
-append_none [] = refl
-append_none (x ∷ l) = ap (λ (k : List _). x ∷ k) (append_none l)
-
-pub append_assoc : {A : Type 0} (x y z : List A) → (x ++ y) ++ z ≡ x ++ (y ++ z)
-append_assoc [] y z = refl
-append_assoc (a ∷ x) y z = ap (λ (k : List _). a ∷ k) (append_assoc x y z)
 
 -- ---- acts to one list
 
@@ -49,7 +40,7 @@ module _ (c : Circuit) (p : Place) where
       in
       record { units = b.units ∙ (λ j. with_lists (a.units j) (sym q j).lists); answer = b.answer ∙ (λ j. (sym q j).answer) }
 
-  pub puts_full : (u v : Units) (xs ys : List Act) → Puts c u v Full p xs → Puts c u v Full p (xs ++ ys)
+  pub puts_full : (u v : Units) (xs ys : List Act) → Puts c u v NoRoom p xs → Puts c u v NoRoom p (xs ++ ys)
   puts_full u v xs ys a =
       let q : put_all c p (xs ++ ys) u.lists ≡ put_all c p xs u.lists = put_full c p xs ys u.lists (sym a.answer) in
       record { units = a.units ∙ (λ j. with_lists u (sym q j).lists); answer = a.answer ∙ (λ j. (sym q j).answer) }
@@ -74,7 +65,7 @@ module _ (c : Circuit) where
       in
       record { areas = p.areas ∙ (λ j. with_went (o.areas j) (sym q j)); answer = p.answer ∙ (λ j. (sym q j).answer) }
 
-  pub opens_full : (a b : Contents) (z y : Opened) → Opens c a b Full z → Opens c a b Full (after z y)
+  pub opens_full : (a b : Contents) (z y : Opened) → Opens c a b NoRoom z → Opens c a b NoRoom (after z y)
   unfolding opened_into
   opens_full a b z y o =
       let q : opened_into c (after z y) a.lists ≡ opened_into c z a.lists =
@@ -130,7 +121,7 @@ Adds f = (z : Opened) (g : ℕ) → f z g ≡ after z (f (unopened z.state) g)
 
 pub each_adds : (f : Opened → ℕ → Opened) → Adds f → (z : Opened) (gs : List ℕ) → each f z gs ≡ after z (each f (unopened z.state) gs)
 unfolding each unopened
-each_adds f h z [] = λ j. record { state = z.state; raises = sym (append_none z.raises) j }
+each_adds f h z [] = λ j. record { state = z.state; raises = sym (append-nil z.raises) j }
 each_adds f h z (g ∷ gs) =
     let y : Opened = f (unopened z.state) g in
     let x : Opened = each f (unopened y.state) gs in
@@ -147,7 +138,7 @@ if_adds false z x y x' y' e h = h
 pub buffer_adds : (c : Circuit) (dt : ℕ) → Adds (advance_buffer c dt)
 unfolding advance_buffer advanced unopened
 buffer_adds c dt z g =
-    if_adds _ z _ _ _ _ refl (if_adds _ z _ _ _ _ refl (if_adds _ z _ _ _ _ refl (λ j. record { state = z.state; raises = sym (append_none z.raises) j })))
+    if_adds _ z _ _ _ _ refl (if_adds _ z _ _ _ _ refl (if_adds _ z _ _ _ _ refl (λ j. record { state = z.state; raises = sym (append-nil z.raises) j })))
 
 pub clock_adds : (c : Circuit) → Adds (advance_clock c)
 unfolding advance_clock advanced unopened
@@ -177,21 +168,21 @@ module _
         ≡ after (f (unopened a.state) g) (each f (unopened (f (unopened a.state) g).state) (gates_of_word k))
     first_then t q = gates_next f (unopened a.state) d g e k t q ∙ each_adds f h (f (unopened a.state) g) (gates_of_word k)
 
-    pub leads_next : (m : Bool) → g < 64 → gates_of_word k ≡ drop 1 (gates_of_word d) → Opens c a a₁ r (f (unopened a.state) g) → m ≡ is_full r → m ≡ false → Leads c f a₀ gs a₁ k
-    leads_next m t q o em i b x p =
+    pub leads_next : g < 64 → gates_of_word k ≡ drop 1 (gates_of_word d) → Opens c a a₁ r (f (unopened a.state) g) → r ≡ Done → Leads c f a₀ gs a₁ k
+    leads_next t q o i b x p =
         let y = f (unopened a.state) g in
-        let o' : Opens c a a₁ Done y = subst (λ (s : Answer). Opens c a a₁ s y) (done_is r m em i) o in
+        let o' : Opens c a a₁ Done y = subst (λ (s : Answer). Opens c a a₁ s y) i o in
         let p' : Opens c a₁ b x (each f (unopened y.state) (gates_of_word k)) =
         subst (λ (s : State). Opens c a₁ b x (each f (unopened s) (gates_of_word k))) (opens_state c a a₁ y o') p
         in
         l b x (subst (λ (z : Opened). Opens c a b x z) (sym (first_then t q)) (opens_next c a a₁ b x y _ o' p'))
 
-    pub leads_full : (m : Bool) → g < 64 → gates_of_word k ≡ drop 1 (gates_of_word d) → Opens c a a₁ r (f (unopened a.state) g) → m ≡ is_full r → m ≡ true →
-        Opens c a₀ a₁ Full (each f (unopened a₀.state) gs)
-    leads_full m t q o em i =
+    pub leads_full : g < 64 → gates_of_word k ≡ drop 1 (gates_of_word d) → Opens c a a₁ r (f (unopened a.state) g) → r ≡ NoRoom →
+        Opens c a₀ a₁ NoRoom (each f (unopened a₀.state) gs)
+    leads_full t q o i =
         let y = f (unopened a.state) g in
-        let o' : Opens c a a₁ Full y = subst (λ (s : Answer). Opens c a a₁ s y) (full_is r m em i) o in
-        l a₁ Full (subst (λ (z : Opened). Opens c a a₁ Full z) (sym (first_then t q)) (opens_full c a a₁ y _ o'))
+        let o' : Opens c a a₁ NoRoom y = subst (λ (s : Answer). Opens c a a₁ s y) i o in
+        l a₁ NoRoom (subst (λ (z : Opened). Opens c a a₁ NoRoom z) (sym (first_then t q)) (opens_full c a a₁ y _ o'))
 
 pub leads_last : (c : Circuit) (f : Opened → ℕ → Opened) (a₀ a : Contents) (gs : List ℕ) (d g : ℕ) → Leads c f a₀ gs a d → g ≡ get_or (gates_of_word d) 0 64 → 64 ≤ g →
     Opens c a₀ a Done (each f (unopened a₀.state) gs)

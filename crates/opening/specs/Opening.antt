@@ -1,7 +1,7 @@
 -- What the opening of a tick leads to where what it raises is filed as it goes.
 use Rattle.std.specs.Prelude.{ℕ, ◌%◌, ◌^◌, ◌≡◌, List, []}
 use Rattle.schedule.specs.Schedule.{Place, to_late, to_delivered, to_pending, Filed}
-use Rattle.lists.specs.declared.Filed.{Filed as Answer}
+use Rattle.lists.specs.Lists.{Filed as Answer}
 use Rattle.model.specs.Base.{both}
 use Rattle.model.specs.Circuit.{Circuit, part}
 use Rattle.model.specs.Script.{Given, stimulus}

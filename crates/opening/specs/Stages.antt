@@ -1,8 +1,7 @@
 -- Parts of the opening: what is raised to one list, and what a gate that moves on leads to before its Fires are filed.
-use Rattle.std.specs.Prelude.{ℕ, ◌+◌, ◌≡◌, Bool, true, false, ◌&&◌, List, [], ◌∷◌, ◌++◌, map, eqb, length, get_or}
+use Rattle.std.specs.Prelude.{ℕ, ◌+◌, ◌≡◌, ◌&&◌, List, [], ◌∷◌, ◌++◌, map, eqb, length, get_or}
 use Rattle.schedule.specs.Schedule.{Place, to_late, to_delivered, to_pending, full, filed}
-use Rattle.lists.specs.declared.Filed.{Filed as Answer}
-use Rattle.lists.specs.declared.Filed.TheVariants.{Full, Done}
+use Rattle.lists.specs.Lists.{Filed as Answer, NoRoom, Done}
 use Rattle.model.specs.declared.Value.{Value}
 use Rattle.model.specs.Base.{keep, joined, each, from}
 use Rattle.model.specs.Value.{same, truthy}
@@ -28,7 +27,7 @@ pub record Put : Type 0 where
 -- one after the other to one list, up to the first that finds it full
 unfoldable pub put_all : Circuit → Place → List Act → Lists → Put
 put_all c p [] l = record { lists = l; answer = Done }
-put_all c p (a ∷ acts) l = elim (put_to c p a l) [ full ↦ record { lists = l; answer = Full } | filed k ↦ put_all c p acts k ]
+put_all c p (a ∷ acts) l = elim (put_to c p a l) [ full ↦ record { lists = l; answer = NoRoom } | filed k ↦ put_all c p acts k ]
 
 -- these were filed: the area u became v, with the answer r
 pub record Puts (c : Circuit) (u v : Units) (r : Answer) (p : Place) (acts : List Act) : Type 0 where
@@ -43,11 +42,6 @@ event u e = record { gate = get_or (map (λ m. m.gate) u.events) e 0; row = get_
 unfoldable pub heard_by : Circuit → ℕ → Value → List Value → List ℕ → List Act
 heard_by c kind channel row gs =
     map (λ r. record { gate = r; form = form-Event; row = row }) (keep (λ r. eqb (kind_of_gate c r) (kind + 2) && same channel (setting c r 0)) gs)
-
--- whether a list was full
-unfoldable pub is_full : Answer → Bool
-is_full Full = true
-is_full Done = false
 
 -- A gate moved on as the definition's z says: the areas a became b, and n Fires of gate g are still to be filed.
 pub record Advances (a b : Contents) (z : Opened) (p : Place) (g n : ℕ) : Type 0 where

@@ -10,10 +10,10 @@ ghost use Rattle.model.specs.Opening.{fire, delivered};
 ghost use Rattle.links.specs.Lent.{Linked, net_of, Room, Short};
 ghost use Rattle.units.specs.Lent.{UnitsChange};
 ghost use Rattle.opening.specs.Opening.{stimuli_of};
-ghost use Rattle.opening.specs.Stages.{Puts, event, heard_by, is_full};
+ghost use Rattle.opening.specs.Stages.{Puts, event, heard_by};
 
 use links::{first_gate, kind_of_gate, later_gates, receivers, setting};
-use lists::Filed;
+use lists::Full;
 use model::Value;
 use records::forms::{FIRE, STIMULUS};
 use units::Place;
@@ -23,35 +23,20 @@ use units::raising::{activate, deliver};
 use value::same;
 use words::get;
 
-// Whether a list was full.
-pub fn is_full(r: Filed) -> bool
-    ensures { result ≡ is_full r }
-{
-    match r {
-        Filed::Full => true,
-        Filed::Done => false,
-    }
-}
-
 // n Fires of gate g, to late.
-pub fn fire_late(links: &[usize], units: &mut [u8], g: usize, n: usize) -> Filed
+pub fn fire_late(links: &[usize], units: &mut [u8], g: usize, n: usize) -> Result<(), Full>
     requires { Linked links.now × Room units.old × Short g }
     ensures { UnitsChange links.now (units.old, units.new) (λ c old new. Puts c old new result to_late (fire n g)) }
 {
     let x = entry(g, FIRE, 0);
-    let mut k = 0;
-    while k < n {
-        let r = activate(links, units, Place::Late, x);
-        if is_full(r) {
-            return Filed::Full;
-        }
-        k += 1;
+    for _ in 0..n {
+        activate(links, units, Place::Late, x)?;
     }
-    Filed::Done
+    Ok(())
 }
 
 // One Fire of gate g, to pending.
-pub fn fire_pending(links: &[usize], units: &mut [u8], g: usize) -> Filed
+pub fn fire_pending(links: &[usize], units: &mut [u8], g: usize) -> Result<(), Full>
     requires { Linked links.now × Room units.old × Short g }
     ensures { UnitsChange links.now (units.old, units.new) (λ c old new. Puts c old new result to_pending (fire 1 g)) }
 {
@@ -83,18 +68,18 @@ fn deliver_to(
     channel: Value,
     e: usize,
     r: usize,
-) -> Filed
+) -> Result<(), Full>
     requires { Linked links.now × Room units.old × Short e × Short r }
     ensures { UnitsChange links.now (units.old, units.new) (λ c old new. Puts c old new result to_delivered (heard_by c kind channel (event old e).row (r ∷ []))) }
 {
     if receives(links, kind, channel, r) {
         return deliver(units, r, e);
     }
-    Filed::Done
+    Ok(())
 }
 
 // Event e of the tick before, to the receivers of its channel, in their order.
-fn deliver_event(links: &[usize], units: &mut [u8], e: usize) -> Filed
+fn deliver_event(links: &[usize], units: &mut [u8], e: usize) -> Result<(), Full>
     requires { Linked links.now × Room units.old × Short e }
     ensures { UnitsChange links.now (units.old, units.new) (λ c old new. Puts c old new result to_delivered (delivered c (event old e))) }
 {
@@ -105,30 +90,22 @@ fn deliver_event(links: &[usize], units: &mut [u8], e: usize) -> Filed
     let mut r = first_gate(d);
     while r < 64 {
         d = later_gates(d);
-        let b = deliver_to(links, units, kind, channel, e, r);
-        if is_full(b) {
-            return Filed::Full;
-        }
+        deliver_to(links, units, kind, channel, e, r)?;
         r = first_gate(d);
     }
-    Filed::Done
+    Ok(())
 }
 
 // All events of the tick before, in the order sent.
-pub fn deliver_all(links: &[usize], units: &mut [u8]) -> Filed
+pub fn deliver_all(links: &[usize], units: &mut [u8]) -> Result<(), Full>
     requires { Linked links.now × Room units.old }
     ensures { UnitsChange links.now (units.old, units.new) (λ c old new. Puts c old new result to_delivered (joined (map (delivered c) old.events))) }
 {
     let n = events(units);
-    let mut e = 0;
-    while e < n {
-        let r = deliver_event(links, units, e);
-        if is_full(r) {
-            return Filed::Full;
-        }
-        e += 1;
+    for e in 0..n {
+        deliver_event(links, units, e)?;
     }
-    Filed::Done
+    Ok(())
 }
 
 // ---- stimuli
@@ -141,19 +118,14 @@ pub fn stimulate(
     gates_at: usize,
     constants_at: usize,
     n: usize,
-) -> Filed
+) -> Result<(), Full>
     requires { Linked links.now × Room units.old × HasWords script.now gates_at n × HasWords script.now constants_at n }
     ensures { UnitsChange links.now (units.old, units.new) (λ c old new. Puts c old new result to_late (stimuli_of c (words script.now) gates_at constants_at n)) }
 {
-    let mut k = 0;
-    while k < n {
+    for k in 0..n {
         let g = get(script, gates_at + k) as usize;
         let constant = get(script, constants_at + k) as usize;
-        let r = activate(links, units, Place::Late, entry(g, STIMULUS, constant));
-        if is_full(r) {
-            return Filed::Full;
-        }
-        k += 1;
+        activate(links, units, Place::Late, entry(g, STIMULUS, constant))?;
     }
-    Filed::Done
+    Ok(())
 }

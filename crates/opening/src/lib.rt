@@ -15,10 +15,10 @@ ghost use Rattle.opening.specs.Opening.{Opens, stimuli_of, reopened, opened};
 ghost use Rattle.opening.specs.Stages.{arrived, lowered, advanced_all, finished};
 ghost use Rattle.opening.specs.Lent.{given_at};
 
-use crate::filing::{deliver_all, is_full, stimulate};
+use crate::filing::{deliver_all, stimulate};
 use crate::moving::{advance_buffers, advance_clocks, advance_timers};
 use floats::narrowing::narrow;
-use lists::Filed;
+use lists::Full;
 use settling::check_waiting;
 use states::counting::begin_count;
 use units::Place;
@@ -58,14 +58,11 @@ fn arrive(
     gates_at: usize,
     constants_at: usize,
     n: usize,
-) -> Filed
+) -> Result<(), Full>
     requires { Linked links.now × Room units.old × HasWords script.now gates_at n × HasWords script.now constants_at n }
     ensures { OverUnits links.now (units.old, units.new) (λ c old new. Opens c old new result (arrived c old.state old.kept.events (stimuli_of c (words script.now) gates_at constants_at n))) }
 {
-    let r = deliver_all(links, units);
-    if is_full(r) {
-        return Filed::Full;
-    }
+    deliver_all(links, units)?;
     stimulate(links, units, script, gates_at, constants_at, n)
 }
 
@@ -76,37 +73,34 @@ fn advance(
     units: &mut [u8],
     delays: &mut [u8],
     dt: u32,
-) -> Filed
+) -> Result<(), Full>
     requires { AllLent links.now values.old units.old delays.old }
     ensures over_all { OverAll links.now (values.old, values.new) (units.old, units.new) (delays.old, delays.new) (λ c old new. Opens c old new result (advanced_all c dt old.state)) }
     ensures slots_stay { SlotsStay links.now delays.new }
 {
-    let r = advance_buffers(links, values, units, delays, dt);
-    if is_full(r) {
-        return Filed::Full;
-    }
-    let q = advance_clocks(links, values, units, delays);
-    if is_full(q) {
-        return Filed::Full;
-    }
+    advance_buffers(links, values, units, delays, dt)?;
+    advance_clocks(links, values, units, delays)?;
     advance_timers(links, values, units, delays)
 }
 
 // Ended pulses fall, gates move on, time sources become stale, and what waits is settled; dt is the tick's length in f32 bits.
-fn finish(links: &[usize], values: &mut [u8], units: &mut [u8], delays: &mut [u8], dt: u32) -> Filed
+fn finish(
+    links: &[usize],
+    values: &mut [u8],
+    units: &mut [u8],
+    delays: &mut [u8],
+    dt: u32,
+) -> Result<(), Full>
     requires { AllLent links.now values.old units.old delays.old }
     ensures over_all { OverAll links.now (values.old, values.new) (units.old, units.new) (delays.old, delays.new) (λ c old new. Opens c old new result (finished c (advanced_all c dt (lowered c old.state)))) }
     ensures slots_stay { SlotsStay links.now delays.new }
 {
     lower_all(links, values);
-    let r = advance(links, values, units, delays, dt);
-    if is_full(r) {
-        return Filed::Full;
-    }
+    advance(links, values, units, delays, dt)?;
     invalidate_all(links, values);
     refresh_all(links, values);
     if checks_waiting(links, values) == 0 {
-        return Filed::Done;
+        return Ok(());
     }
     check_waiting(links, values, units, delays, Place::Pending)
 }
@@ -122,15 +116,12 @@ pub fn open(
     constants_at: usize,
     n: usize,
     dt: u64,
-) -> Filed
+) -> Result<(), Full>
     requires { Linked links.now × Room values.old × Room units.old × Slots links.now delays.old × HasWords script.now gates_at n × HasWords script.now constants_at n × TickFits links.now values.old }
     ensures over_all { OverAll links.now (values.old, values.new) (units.old, units.new) (delays.old, delays.new) (λ c old new. Goes (reopened c old) new result (opened c old (given_at c (words script.now) dt gates_at constants_at n))) }
     ensures slots_stay { SlotsStay links.now delays.new }
 {
     let length = begin_tick(links, values, units, delays, dt);
-    let r = arrive(links, units, script, gates_at, constants_at, n);
-    if is_full(r) {
-        return Filed::Full;
-    }
+    arrive(links, units, script, gates_at, constants_at, n)?;
     finish(links, values, units, delays, length)
 }

@@ -17,12 +17,12 @@ ghost use Rattle.opening.specs.Opening.{unopened, Opens};
 ghost use Rattle.opening.specs.Stages.{landing, releasing};
 ghost use Rattle.opening.specs.Lent.{MovesGate};
 
-use crate::filing::{fire_late, fire_pending, is_full};
+use crate::filing::{fire_late, fire_pending};
 use floats::ONE;
 use links::{
     buffers, clocks, first_gate, input, kind_of_gate, later_gates, output, setting, stopwatches,
 };
-use lists::Filed;
+use lists::Full;
 use model::Value;
 use queues::queue_advance;
 use states::slots::{buffer_advance, clock_advance, fires_advance, stopwatch_advance};
@@ -76,7 +76,7 @@ fn advance_queue(
     delays: &mut [u8],
     g: usize,
     dt: u32,
-) -> Filed
+) -> Result<(), Full>
     requires { Linked links.now × Room values.old × Room units.old × Slots links.now delays.old × Short g × (is_queue (net links.now) g ≡ true) }
     ensures over_all { OverAll links.now (values.old, values.new) (units.old, units.new) (delays.old, delays.new) (λ c old new. Opens c old new result (releasing c dt g old.state)) }
     ensures slots_stay { SlotsStay links.now delays.new }
@@ -84,7 +84,7 @@ fn advance_queue(
     if release(links, values, delays, g, dt) {
         return fire_late(links, units, g, 1);
     }
-    Filed::Done
+    Ok(())
 }
 
 // Gate g, a buffer or a Queue, moves on by a tick of the length dt in f32 bits.
@@ -95,7 +95,7 @@ fn advance_buffer(
     delays: &mut [u8],
     g: usize,
     dt: u32,
-) -> Filed
+) -> Result<(), Full>
     requires { Linked links.now × Room values.old × Room units.old × Slots links.now delays.old × Short g }
     ensures over_all { OverAll links.now (values.old, values.new) (units.old, units.new) (delays.old, delays.new) (λ c old new. Opens c old new result (advance_buffer c dt (unopened old.state) g)) }
     ensures slots_stay { SlotsStay links.now delays.new }
@@ -104,7 +104,7 @@ fn advance_buffer(
         // a value buffer, in ticks or in seconds
         10 | 12 => {
             land(links, values, delays, g, dt);
-            Filed::Done
+            Ok(())
         }
         // a buffer in exec mode
         11 | 13 => {
@@ -113,7 +113,7 @@ fn advance_buffer(
         }
         // a Queue
         16..=17 => advance_queue(links, values, units, delays, g, dt),
-        _ => Filed::Done,
+        _ => Ok(()),
     }
 }
 
@@ -124,7 +124,7 @@ pub fn advance_buffers(
     units: &mut [u8],
     delays: &mut [u8],
     dt: u32,
-) -> Filed
+) -> Result<(), Full>
     requires { AllLent links.now values.old units.old delays.old }
     ensures over_all { OverAll links.now (values.old, values.new) (units.old, units.new) (delays.old, delays.new) (λ c old new. Opens c old new result (each (advance_buffer c dt) (unopened old.state) c.buffers)) }
     ensures slots_stay { SlotsStay links.now delays.new }
@@ -133,13 +133,10 @@ pub fn advance_buffers(
     let mut g = first_gate(d);
     while g < 64 {
         d = later_gates(d);
-        let r = advance_buffer(links, values, units, delays, g, dt);
-        if is_full(r) {
-            return Filed::Full;
-        }
+        advance_buffer(links, values, units, delays, g, dt)?;
         g = first_gate(d);
     }
-    Filed::Done
+    Ok(())
 }
 
 // ---- Clocks
@@ -175,7 +172,7 @@ fn advance_clock(
     units: &mut [u8],
     delays: &mut [u8],
     g: usize,
-) -> Filed
+) -> Result<(), Full>
     requires { Linked links.now × Room values.old × Room units.old × Slots links.now delays.old × Short g }
     ensures over_all { OverAll links.now (values.old, values.new) (units.old, units.new) (delays.old, delays.new) (λ c old new. Opens c old new result (advance_clock c (unopened old.state) g)) }
     ensures slots_stay { SlotsStay links.now delays.new }
@@ -183,7 +180,7 @@ fn advance_clock(
     if move_clock(links, values, delays, g) {
         return fire_pending(links, units, g);
     }
-    Filed::Done
+    Ok(())
 }
 
 // All Clocks, in their order.
@@ -192,7 +189,7 @@ pub fn advance_clocks(
     values: &mut [u8],
     units: &mut [u8],
     delays: &mut [u8],
-) -> Filed
+) -> Result<(), Full>
     requires { AllLent links.now values.old units.old delays.old }
     ensures over_all { OverAll links.now (values.old, values.new) (units.old, units.new) (delays.old, delays.new) (λ c old new. Opens c old new result (each (advance_clock c) (unopened old.state) c.clocks)) }
     ensures slots_stay { SlotsStay links.now delays.new }
@@ -201,13 +198,10 @@ pub fn advance_clocks(
     let mut g = first_gate(d);
     while g < 64 {
         d = later_gates(d);
-        let r = advance_clock(links, values, units, delays, g);
-        if is_full(r) {
-            return Filed::Full;
-        }
+        advance_clock(links, values, units, delays, g)?;
         g = first_gate(d);
     }
-    Filed::Done
+    Ok(())
 }
 
 // ---- Stopwatches
@@ -244,7 +238,7 @@ fn advance_timer(
     units: &mut [u8],
     delays: &mut [u8],
     g: usize,
-) -> Filed
+) -> Result<(), Full>
     requires { Linked links.now × Room values.old × Room units.old × Slots links.now delays.old × Short g }
     ensures over_all { OverAll links.now (values.old, values.new) (units.old, units.new) (delays.old, delays.new) (λ c old new. Opens c old new result (advance_timer c (unopened old.state) g)) }
     ensures slots_stay { SlotsStay links.now delays.new }
@@ -252,7 +246,7 @@ fn advance_timer(
     if move_timer(links, values, delays, g) {
         return fire_late(links, units, g, 1);
     }
-    Filed::Done
+    Ok(())
 }
 
 // All Stopwatches, in their order.
@@ -261,7 +255,7 @@ pub fn advance_timers(
     values: &mut [u8],
     units: &mut [u8],
     delays: &mut [u8],
-) -> Filed
+) -> Result<(), Full>
     requires { AllLent links.now values.old units.old delays.old }
     ensures over_all { OverAll links.now (values.old, values.new) (units.old, units.new) (delays.old, delays.new) (λ c old new. Opens c old new result (each (advance_timer c) (unopened old.state) c.stopwatches)) }
     ensures slots_stay { SlotsStay links.now delays.new }
@@ -270,11 +264,8 @@ pub fn advance_timers(
     let mut g = first_gate(d);
     while g < 64 {
         d = later_gates(d);
-        let r = advance_timer(links, values, units, delays, g);
-        if is_full(r) {
-            return Filed::Full;
-        }
+        advance_timer(links, values, units, delays, g)?;
         g = first_gate(d);
     }
-    Filed::Done
+    Ok(())
 }

@@ -9,8 +9,7 @@ use borrow.Author.Tests.{lt-ltb}
 use lib.Dec.{ltb}
 use lib.ListN.{length, drop}
 use Rattle.schedule.specs.Schedule.{list_full}
-use Rattle.lists.specs.declared.Taken.{Taken}
-use Rattle.lists.specs.declared.Taken.TheVariants.{Empty, Entry}
+use Rattle.std.specs.Prelude.{Option, None, Some}
 use Rattle.model.specs.Base.{snoc}
 use Rattle.model.specs.Circuit.{Circuit}
 use Rattle.model.specs.State.{Act as UnitAct, Send}
@@ -27,14 +26,7 @@ use Rattle.chain.specs.declared.Ran.{Ran}
 use Rattle.unit.specs.declared.Act.{Act}
 use Rattle.unit.specs.declared.Act.TheVariants.{Waiting, Event}
 use Rattle.unit.specs.Unit.{act_in, ran, RanAs}
-use Rattle.passes.specs.declared.Next.TheVariants.{Nothing, Begins}
 use Rattle.passes.specs.Taking.{next_of, rest_of, act_next, Takes, over, one_begun, Works}
-
--- ---- units left
-
--- as many units have begun as may
-pub none_left : (n m : ℕ) → n ≡ m → 1024 ≤ n → 0 ≡ 1024 - m
-none_left n m e h = omega arith
 
 -- ---- the entry of a unit begun
 
@@ -108,9 +100,9 @@ unfolding first_of
 drop_none [] e = refl
 drop_none (b ∷ k) e = cc
 
-module _ (c : Circuit) (U U₁ : Units) (t : Taken) (e : (act_taken (act_of c) t ≡ first_of U.lists.late) × (U₁ ≡ with_lists U (late≔ U.lists (drop 1 U.lists.late)))) where
+module _ (c : Circuit) (U U₁ : Units) (t : Option ℕ) (e : (act_taken (act_of c) t ≡ first_of U.lists.late) × (U₁ ≡ with_lists U (late≔ U.lists (drop 1 U.lists.late)))) where
   -- one was late
-  pub takes_late : (x : ℕ) → t ≡ Entry x → Takes c U U₁ (Begins (Waiting x))
+  pub takes_late : (x : ℕ) → t ≡ Some x → Takes c U U₁ (Some (Waiting x))
   unfolding act_taken act_next act_in
   takes_late x h =
       let p : some (act_of c x) ≡ first_of U.lists.late = ap (act_taken (act_of c)) (sym h) ∙ e.0 in
@@ -119,18 +111,18 @@ module _ (c : Circuit) (U U₁ : Units) (t : Taken) (e : (act_taken (act_of c) t
         rest = e.1 ∙ ap (with_lists U) (rest_taken U.lists U.lists.late (act_of c x) p);
       }
 
-  module _ (U₂ : Units) (t₂ : Taken) (e₂ : (act_taken (event_of U₁.events) t₂ ≡ first_of U₁.lists.delivered) × (U₂ ≡ with_lists U₁ (delivered≔ U₁.lists (drop 1 U₁.lists.delivered)))) where
-    none_late : t ≡ Empty → none ≡ first_of U.lists.late
+  module _ (U₂ : Units) (t₂ : Option ℕ) (e₂ : (act_taken (event_of U₁.events) t₂ ≡ first_of U₁.lists.delivered) × (U₂ ≡ with_lists U₁ (delivered≔ U₁.lists (drop 1 U₁.lists.delivered)))) where
+    none_late : t ≡ None → none ≡ first_of U.lists.late
     unfolding act_taken
     none_late h = ap (act_taken (act_of c)) (sym h) ∙ e.0
 
-    still : t ≡ Empty → (act_taken (event_of U.events) t₂ ≡ first_of U.lists.delivered) × (U₂ ≡ with_lists U (delivered≔ U.lists (drop 1 U.lists.delivered)))
+    still : t ≡ None → (act_taken (event_of U.events) t₂ ≡ first_of U.lists.delivered) × (U₂ ≡ with_lists U (delivered≔ U.lists (drop 1 U.lists.delivered)))
     still h =
         let same : U₁ ≡ U = e.1 ∙ ap (λ (k : List UnitAct). with_lists U (late≔ U.lists k)) (drop_none U.lists.late (none_late h)) in
         subst (λ (u : Units). (act_taken (event_of u.events) t₂ ≡ first_of u.lists.delivered) × (U₂ ≡ with_lists u (delivered≔ u.lists (drop 1 u.lists.delivered)))) same e₂
 
     -- none was late, and an event was delivered
-    pub takes_event : (x : ℕ) → t ≡ Empty → t₂ ≡ Entry x → Takes c U U₂ (Begins (Event x))
+    pub takes_event : (x : ℕ) → t ≡ None → t₂ ≡ Some x → Takes c U U₂ (Some (Event x))
     unfolding act_taken act_next act_in
     takes_event x h h₂ =
         let p : some (event_of U.events x) ≡ first_of U.lists.delivered = ap (act_taken (event_of U.events)) (sym h₂) ∙ (still h).0 in
@@ -140,7 +132,7 @@ module _ (c : Circuit) (U U₁ : Units) (t : Taken) (e : (act_taken (act_of c) t
         }
 
     -- nothing waits
-    pub takes_nothing : t ≡ Empty → t₂ ≡ Empty → Takes c U U₂ Nothing
+    pub takes_nothing : t ≡ None → t₂ ≡ None → Takes c U U₂ None
     unfolding act_taken act_next act_in
     takes_nothing h h₂ =
         let p : none ≡ first_of U.lists.delivered = ap (act_taken (event_of U.events)) (sym h₂) ∙ (still h).0 in

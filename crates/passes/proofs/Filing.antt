@@ -6,7 +6,7 @@ use mathlib.Core.List.{List, [], ◌∷◌, ◌++◌, map}
 use lib.Dec.{leb, ltb}
 use lib.ListN.{length, length-map}
 use Rattle.schedule.specs.Schedule.{Raise, When, by_rank as ranked, put_off, Filed, full, filed, room, most_waiting, most_delivered, list_full, Setup, Activation, Place, to_late, to_delivered, to_pending, push, push_all, carries, activate_late, activate_main, activate_open, Raising, raise_on, raise_all}
-use Rattle.lists.specs.declared.Filed.TheVariants.{Full}
+use Rattle.lists.specs.Lists.{NoRoom}
 use Rattle.model.specs.Base.{snoc}
 use Rattle.model.specs.Circuit.{Circuit, rank_of_gate}
 use Rattle.model.specs.State.{Act, State}
@@ -124,6 +124,6 @@ module _ (c : Circuit) where
             ((k : Lists) → Raised (raise_all S there (raises_in v left rs) tt (h k) (state≔ v left s) 0) (raise_into here rs k s)) → (f : Filed Lists) →
             Raised
             (raise_on S (through h f) (w r.act) (record { raised = []; queue = h l; next = tt; world = state≔ v left r.at; stop = list_full }) (λ q. raise_all S there (raises_in v left rs) tt q (state≔ v left s) 0))
-            (elim f [ full ↦ record { state = r.at; lists = l; answer = Full } | filed k ↦ raise_into here rs k s ])
+            (elim f [ full ↦ record { state = r.at; lists = l; answer = NoRoom } | filed k ↦ raise_into here rs k s ])
         go rest full = record { queue = refl; world = refl; stop = refl }
         go rest (filed k) = let i = rest k in record { queue = i.queue; world = i.world; stop = i.stop }

@@ -6,7 +6,7 @@ use mathlib.Core.List.{List, [], ◌∷◌}
 use lib.Dec.{ltb, eqb}
 use lib.ListN.{length}
 use Rattle.schedule.specs.Schedule.{Raise, Filed, full, filed, most_waiting, most_delivered, Place, to_late, to_delivered, to_pending}
-use Rattle.lists.specs.declared.Filed.TheVariants.{Full}
+use Rattle.lists.specs.Lists.{NoRoom}
 use Rattle.model.specs.Base.{if◌then◌otherwise◌}
 use Rattle.model.specs.Circuit.{Circuit}
 use Rattle.model.specs.State.{Act, State}
@@ -42,7 +42,7 @@ module _ {A P : Type 0} (part : Lists → A) (file : P → Act → Lists → Fil
     where
       go :
           (f : Filed Lists) → IfFiled (λ k. part k ≡ part l) f → ((k : Lists) → part (raise_into file rs k s).lists ≡ part k) →
-          let z : Went = elim f [ full ↦ record { state = r.at; lists = l; answer = Full } | filed k ↦ raise_into file rs k s ] in
+          let z : Went = elim f [ full ↦ record { state = r.at; lists = l; answer = NoRoom } | filed k ↦ raise_into file rs k s ] in
           part z.lists ≡ part l
       go full e rest = refl
       go (filed k) e rest = rest k ∙ e

@@ -1,8 +1,9 @@
 -- The loop of the late pass.
-use Prim.Native.Nat.{ℕ, ◌-◌, ◌≤◌, ◌<◌}
+use Prim.Native.Nat.{ℕ, ◌+◌, ◌-◌, ◌≤◌, ◌<◌}
 use mathlib.Core.Path.{◌≡◌, refl, sym, ap, ◌∙◌, subst}
 use mathlib.Core.List.{List, [], ◌∷◌}
 use mathlib.Core.Option.{Option, none, some}
+use Rattle.std.specs.Prelude.{Option as Found, None, Some}
 use native.Mathlib.Omega.{arith}
 use lib.ListN.{length}
 use Rattle.schedule.specs.Schedule.{empty, took, next_late, activate_late, late_pass}
@@ -18,8 +19,6 @@ use Rattle.areas.specs.Areas.{Contents, together}
 use Rattle.chain.specs.declared.Ran.{Ran}
 use Rattle.unit.specs.declared.Act.{Act}
 use Rattle.unit.specs.Unit.{act_in, ran}
-use Rattle.passes.specs.declared.Next.{Next}
-use Rattle.passes.specs.declared.Next.TheVariants.{Nothing, Begins}
 use Rattle.passes.specs.Waiting.{bare, waiting, for_late}
 use Rattle.passes.specs.Passes.{units_left, Passes}
 use Rattle.passes.specs.Taking.{next_of, rest_of, act_next, Takes, over, one_begun, Works}
@@ -92,13 +91,13 @@ module _ (c : Circuit) where
         later = refl;
       }
 
-  module _ (vs : Values) (U U₁ : Units) (D : Delays) (a : Contents) (left₀ left n : ℕ) (m : Next) (t : Takes c U U₁ m) (z : 0 < n) (g : Lately c a (together vs U D) left₀ left n) where
+  module _ (vs : Values) (U U₁ : Units) (D : Delays) (a : Contents) (left₀ left n : ℕ) (m : Found Act) (t : Takes c U U₁ m) (z : 0 < n) (g : Lately c a (together vs U D) left₀ left n) where
     -- there is room for one more
     pub late_room : length U₁.begun < 1024
     late_room = let p : length U₁.begun ≡ length U.begun = ap (λ (u : Units). length u.begun) t.rest in let q = going_rest g in omega arith
 
     -- nothing waits
-    pub late_none : (r : Ran) → m ≡ Nothing → r.left ≡ left → r.stop ≡ 0 → LateDone c a (together vs U₁ D) r left₀
+    pub late_none : (r : Ran) → m ≡ None → r.left ≡ left → r.stop ≡ 0 → LateDone c a (together vs U₁ D) r left₀
     unfolding act_next late_pass
     late_none r h f o =
         let p : none ≡ next_in U.lists = ap (act_next c U.events) (sym h) ∙ t.next in
@@ -108,7 +107,7 @@ module _ (c : Circuit) where
           both_later U₁.lists a.lists (ap (λ (u : Units). later u.lists) same ∙ g.later),
         )
 
-    module _ (b₁ : Contents) (r : Ran) (y : Act) (h : m ≡ Begins y) (q : Works b₁ r (one_begun (together vs U₁ D).kept (act_in c U₁.events y)) (ran c Late left (act_in c U₁.events y) (together vs U₁ D).state U₁.lists)) where
+    module _ (b₁ : Contents) (r : Ran) (y : Act) (h : m ≡ Some y) (q : Works b₁ r (one_begun (together vs U₁ D).kept (act_in c U₁.events y)) (ran c Late left (act_in c U₁.events y) (together vs U₁ D).state U₁.lists)) where
       abbrev act_here : UnitAct
       act_here = act_in c U.events y
 
@@ -124,9 +123,11 @@ module _ (c : Circuit) where
           ap later q.lists ∙ ran_later c left (act_in c U₁.events y) (together vs U₁ D).state U₁.lists ∙ ap (λ (u : Units). later u.lists) t.rest ∙ later_rest U.lists U.lists.late ∙ g.later
 
       -- it began and ran, to no stop
-      pub late_on : r.stop ≡ 0 → Lately c a b₁ left₀ r.left (n - 1)
-      late_on s =
+      pub late_on : r.stop ≡ 0 → (k : ℕ) → k + 1 ≡ n → Lately c a b₁ left₀ r.left k
+      late_on s k e =
           let l = U.lists in
+          let p : n - 1 ≡ k = omega arith in
+          subst (λ (m : ℕ). Lately c a b₁ left₀ r.left m) p
           record {
             going = λ w i j. turn_on c (for_late c) (next_late (bare c)) (activate_late (bare c)) (λ _. Late) (λ u. late_files c (waiting c u)) vs U U₁ D a b₁ r w left act_here (rest_in l) t.rest (took_late c l.late l.delivered l.pending l.carried act_here taken_here) works_here n s z (g.going w i j);
             later = later_here;

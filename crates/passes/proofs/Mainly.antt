@@ -1,13 +1,12 @@
 -- The loop of the main pass.
-use Prim.Native.Nat.{ℕ, ◌-◌, ◌≤◌, ◌<◌}
+use Prim.Native.Nat.{ℕ, ◌+◌, ◌-◌, ◌≤◌, ◌<◌}
 use mathlib.Core.Path.{◌≡◌, refl, sym, ap, ◌∙◌, subst}
 use mathlib.Core.List.{List, [], ◌∷◌, map}
 use mathlib.Core.Option.{none, some}
 use native.Mathlib.Omega.{arith}
 use lib.ListN.{length, drop}
 use Rattle.schedule.specs.Schedule.{empty, took, next_main, activate_main, main_pass}
-use Rattle.lists.specs.declared.Taken.{Taken}
-use Rattle.lists.specs.declared.Taken.TheVariants.{Empty, Entry}
+use Rattle.std.specs.Prelude.{Option, None, Some}
 use Rattle.model.specs.Circuit.{Circuit, rank_of_gate}
 use Rattle.model.specs.State.{Act as UnitAct}
 use Rattle.model.specs.Unit.{World}
@@ -74,20 +73,20 @@ module _ (c : Circuit) where
         going = λ w s f. subst (λ (m : ℕ). GoingMain c a a w left m) (sym e) (going_first c (for_main c) (next_main (bare c)) (activate_main (bare c)) a w left s f);
       }
 
-  module _ (vs : Values) (U U₁ : Units) (D : Delays) (a : Contents) (left₀ left n : ℕ) (m : Taken) (t : (act_taken (act_of c) m ≡ first_of U.lists.pending) × (U₁ ≡ with_lists U (rest_main U.lists))) (z : 0 < n) (g : Mainly c a (together vs U D) left₀ left n) where
+  module _ (vs : Values) (U U₁ : Units) (D : Delays) (a : Contents) (left₀ left n : ℕ) (m : Option ℕ) (t : (act_taken (act_of c) m ≡ first_of U.lists.pending) × (U₁ ≡ with_lists U (rest_main U.lists))) (z : 0 < n) (g : Mainly c a (together vs U D) left₀ left n) where
     -- there is room for one more
     pub main_room : length U₁.begun < 1024
     main_room = let p : length U₁.begun ≡ length U.begun = ap (λ (u : Units). length u.begun) t.1 in let q = going_rest g in omega arith
 
     -- nothing waits
-    pub main_none : (r : Ran) → m ≡ Empty → r.left ≡ left → r.stop ≡ 0 → MainDone c a (together vs U₁ D) r left₀
+    pub main_none : (r : Ran) → m ≡ None → r.left ≡ left → r.stop ≡ 0 → MainDone c a (together vs U₁ D) r left₀
     unfolding act_taken main_pass
     main_none r h f o w i j =
         let p : none ≡ first_of U.lists.pending = ap (act_taken (act_of c)) (sym h) ∙ t.0 in
         let same : U₁ ≡ U = t.1 ∙ ap (λ (k : List UnitAct). with_lists U (pending≔ U.lists k)) (drop_none U.lists.pending p) in
         turn_none c (for_main c) (next_main (bare c)) (activate_main (bare c)) vs U U₁ D a r w left n same (empty_main c U.lists.pending U.lists.carried p) f o (g.going w i j)
 
-    module _ (small : (g : ℕ) → rank_of_gate c g < 65536) (b₁ : Contents) (r : Ran) (y v reached : ℕ) (h : m ≡ Entry y) (ev : (v ≡ gate_of y) × (v < 65536)) (er : reached ≡ rank_of_gate c v) (q : Works b₁ r (one_begun (together vs U₁ D).kept (act_in c U₁.events (Waiting y))) (ran c (After reached) left (act_in c U₁.events (Waiting y)) (together vs U₁ D).state U₁.lists)) where
+    module _ (small : (g : ℕ) → rank_of_gate c g < 65536) (b₁ : Contents) (r : Ran) (y v reached : ℕ) (h : m ≡ Some y) (ev : (v ≡ gate_of y) × (v < 65536)) (er : reached ≡ rank_of_gate c v) (q : Works b₁ r (one_begun (together vs U₁ D).kept (act_in c U₁.events (Waiting y))) (ran c (After reached) left (act_in c U₁.events (Waiting y)) (together vs U₁ D).state U₁.lists)) where
       taken_here : some (act_of c y) ≡ first_of U.lists.pending
       unfolding act_taken
       taken_here = ap (act_taken (act_of c)) (sym h) ∙ t.0
@@ -101,8 +100,10 @@ module _ (c : Circuit) where
       works_here = subst (λ (k : ℕ). Works b₁ r (one_begun (together vs U₁ D).kept (act_of c y)) (ran c (After k) left (act_of c y) (together vs U₁ D).state U₁.lists)) reached_here q
 
       -- it began and ran, to no stop
-      pub main_on : r.stop ≡ 0 → Mainly c a b₁ left₀ r.left (n - 1)
-      main_on s =
+      pub main_on : r.stop ≡ 0 → (k : ℕ) → k + 1 ≡ n → Mainly c a b₁ left₀ r.left k
+      main_on s k e =
+          let p : n - 1 ≡ k = omega arith in
+          subst (λ (m : ℕ). Mainly c a b₁ left₀ r.left m) p
           record {
             going = λ w i j. turn_on c (for_main c) (next_main (bare c)) (activate_main (bare c)) (after c) (λ u. main_files c small (waiting c u)) vs U U₁ D a b₁ r w left (act_of c y) (rest_main U.lists) t.1 (took_main c U.lists.pending U.lists.carried (act_of c y) taken_here) works_here n s z (g.going w i j);
           }

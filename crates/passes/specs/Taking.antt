@@ -1,6 +1,8 @@
 -- What a pass takes off next, and what beginning it makes of the areas.
 use Rattle.std.specs.Prelude.{ℕ, ◌≡◌, List, [], ◌∷◌, drop}
+use Rattle.std.specs.Prelude.{Option as Found, Some, None}
 use Rattle.std.proofs.Math.Option.{Option, none, some}
+use Rattle.unit.specs.declared.Act.{Act as Entered}
 use Rattle.schedule.specs.Schedule.{list_full}
 use Rattle.model.specs.Base.{snoc}
 use Rattle.model.specs.Circuit.{Circuit}
@@ -11,8 +13,6 @@ use Rattle.units.specs.Raising.{late≔, delivered≔, with_lists}
 use Rattle.areas.specs.Areas.{Contents, Kept}
 use Rattle.chain.specs.declared.Ran.{Ran}
 use Rattle.unit.specs.Unit.{act_in, Result}
-use Rattle.passes.specs.declared.Next.{Next}
-use Rattle.passes.specs.declared.Next.TheVariants.{Nothing, Begins}
 use Rattle.passes.specs.Passes.{with_begun}
 
 -- ---- the late pass
@@ -29,12 +29,12 @@ rest_of l [] = delivered≔ l (drop 1 l.delivered)
 rest_of l (a ∷ k) = late≔ l k
 
 -- what was taken, if anything was
-unfoldable pub act_next : Circuit → List Send → Next → Option Act
-act_next c es Nothing = none
-act_next c es (Begins a) = some (act_in c es a)
+unfoldable pub act_next : Circuit → List Send → Found Entered → Option Act
+act_next c es None = none
+act_next c es (Some a) = some (act_in c es a)
 
 -- The next one of the late pass was taken off: u became v, with the answer r.
-pub record Takes (c : Circuit) (u v : Units) (r : Next) : Type 0 where
+pub record Takes (c : Circuit) (u v : Units) (r : Found Entered) : Type 0 where
   pub next : act_next c u.events r ≡ next_of u.lists.late u.lists.delivered
   pub rest : v ≡ with_lists u (rest_of u.lists u.lists.late)
 

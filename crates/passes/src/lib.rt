@@ -20,7 +20,6 @@ ghost use Rattle.passes.specs.Lent.{PassesLate, PassesMain, LeavesMain, BeginsUn
 
 use chain::Ran;
 use links::rank_of_gate;
-use lists::Taken;
 use records::MOST_UNITS;
 use stops::LIST_FULL;
 use unit::{Act, unit};
@@ -30,20 +29,12 @@ use units::counts::{delivered, late, pending};
 use units::entries::{entry, gate_of};
 use units::raising::{take_delivered, take_late, take_pending};
 
-// What the late pass takes off next.
-#[derive(Clone, Copy)]
-pub enum Next {
-    Nothing,
-    Begins(Act),
-}
-
 // How many units may still begin.
 fn units_left(units: &[u8]) -> usize
     requires { Room units.now }
     ensures { Reads units.now (λ _ u. result ≡ most_units - length u.begun) }
 {
-    let n = begun(units);
-    if n < MOST_UNITS { MOST_UNITS - n } else { 0 }
+    MOST_UNITS.saturating_sub(begun(units))
 }
 
 // The entry by which a unit begun is listed.
@@ -70,22 +61,21 @@ fn begin(
     ensures over_all { OverAll links.now (values.old, values.new) (units.old, units.new) (delays.old, delays.new) (λ c old new. BeginsUnit c old new a left to result) }
     ensures slots_stay { SlotsStay links.now delays.new }
 {
-    begin_unit(units, listed(a));
+    // one more may begin
+    let _ = begin_unit(units, listed(a));
     unit(links, values, units, delays, a, left, to)
 }
 
 // The next one of the late pass is taken off: of the late list, and where that is empty of the delivered events.
-fn next_late(units: &mut [u8]) -> Next
+fn next_late(units: &mut [u8]) -> Option<Act>
     requires { Room units.old }
     ensures { Changes (units.old, units.new) (λ c old new. Takes c old new result) }
 {
-    match take_late(units) {
-        Taken::Entry(x) => Next::Begins(Act::Waiting(x)),
-        Taken::Empty => match take_delivered(units) {
-            Taken::Entry(x) => Next::Begins(Act::Event(x)),
-            Taken::Empty => Next::Nothing,
-        },
+    if let Some(x) = take_late(units) {
+        return Some(Act::Waiting(x));
     }
+    let x = take_delivered(units)?;
+    Some(Act::Event(x))
 }
 
 // The end of a late pass in which no unit may begin any more: a stop if one waits.
@@ -122,22 +112,19 @@ pub fn late_pass(
     ensures slots_stay { SlotsStay links.now delays.new }
 {
     let mut rest = left;
-    let mut n = units_left(units);
-    while 0 < n {
-        match next_late(units) {
-            Next::Nothing => return Ran {
+    let n = units_left(units);
+    for _ in 0..n {
+        let Some(a) = next_late(units) else {
+            return Ran {
                 left: rest,
                 stop: 0,
-            },
-            Next::Begins(a) => {
-                let r = begin(links, values, units, delays, a, rest, Place::Late);
-                if r.stop != 0 {
-                    return r;
-                }
-                rest = r.left;
-                n -= 1;
-            }
+            };
+        };
+        let r = begin(links, values, units, delays, a, rest, Place::Late);
+        if r.stop != 0 {
+            return r;
         }
+        rest = r.left;
     }
     late_over(units, rest)
 }
@@ -169,31 +156,28 @@ pub fn main_pass(
     ensures slots_stay { SlotsStay links.now delays.new }
 {
     let mut rest = left;
-    let mut n = units_left(units);
-    while 0 < n {
-        match take_pending(units) {
-            Taken::Empty => return Ran {
+    let n = units_left(units);
+    for _ in 0..n {
+        let Some(x) = take_pending(units) else {
+            return Ran {
                 left: rest,
                 stop: 0,
-            },
-            Taken::Entry(x) => {
-                let reached = rank_of_gate(links, gate_of(x));
-                let r = begin(
-                    links,
-                    values,
-                    units,
-                    delays,
-                    Act::Waiting(x),
-                    rest,
-                    Place::After(reached),
-                );
-                if r.stop != 0 {
-                    return r;
-                }
-                rest = r.left;
-                n -= 1;
-            }
+            };
+        };
+        let reached = rank_of_gate(links, gate_of(x));
+        let r = begin(
+            links,
+            values,
+            units,
+            delays,
+            Act::Waiting(x),
+            rest,
+            Place::After(reached),
+        );
+        if r.stop != 0 {
+            return r;
         }
+        rest = r.left;
     }
     main_over(units, rest)
 }

@@ -4,8 +4,7 @@ use mathlib.Core.Path.{◌≡◌, refl, sym}
 use mathlib.Core.List.{List, [], ◌∷◌, ◌++◌, append-nil, append_assoc}
 use native.Mathlib.Omega.{arith}
 use Rattle.schedule.specs.Schedule.{Raise, When, Filed, full, filed}
-use Rattle.lists.specs.declared.Filed.{Filed as Answer}
-use Rattle.lists.specs.declared.Filed.TheVariants.{Full, Done}
+use Rattle.lists.specs.Lists.{Filed as Answer, NoRoom, Done}
 use Rattle.model.specs.Circuit.{Circuit}
 use Rattle.model.specs.State.{Act, State, wires≔}
 use Rattle.model.specs.Settle.{Settled, calm, taken, when_checked, check, check_on}
@@ -16,10 +15,10 @@ use Rattle.units.specs.Raising.{answer, lists_after, Went, raise_into}
 
 -- one raise, and what follows where there was room
 abbrev went_on : Lists → State → Filed Lists → (Lists → Went) → Went
-went_on l at x f = elim x [ full ↦ record { state = at; lists = l; answer = Full } | filed k ↦ f k ]
+went_on l at x f = elim x [ full ↦ record { state = at; lists = l; answer = NoRoom } | filed k ↦ f k ]
 
 -- the two answers differ
-full_not_done : {A : Type 0} → ◌≡◌ {A = Answer} Full Done → A
+full_not_done : {A : Type 0} → ◌≡◌ {A = Answer} NoRoom Done → A
 full_not_done h = let z : ◌≡◌ {A = ℕ} 0 1 = cc in absurd (omega (arith, z))
 
 module _ {P : Type 0} (file : P → Act → Lists → Filed Lists) where
@@ -41,14 +40,14 @@ module _ {P : Type 0} (file : P → Act → Lists → Filed Lists) where
 
   -- where one found its list full, later ones are not filed
   pub raised_full :
-      (rs more : List (Raise State Act P)) (l : Lists) (s t : State) → (raise_into file rs l s).answer ≡ Full → raise_into file (rs ++ more) l t ≡ raise_into file rs l s
+      (rs more : List (Raise State Act P)) (l : Lists) (s t : State) → (raise_into file rs l s).answer ≡ NoRoom → raise_into file (rs ++ more) l t ≡ raise_into file rs l s
   unfolding raise_into
   raised_full [] more l s t h = full_not_done (sym h)
   raised_full (r ∷ rs) more l s t h = go (λ k g. raised_full rs more k s t g) (file r.place r.act l) h
     where
       go :
-          ((k : Lists) → (raise_into file rs k s).answer ≡ Full → raise_into file (rs ++ more) k t ≡ raise_into file rs k s) →
-          (x : Filed Lists) → (went_on l r.at x (λ k. raise_into file rs k s)).answer ≡ Full →
+          ((k : Lists) → (raise_into file rs k s).answer ≡ NoRoom → raise_into file (rs ++ more) k t ≡ raise_into file rs k s) →
+          (x : Filed Lists) → (went_on l r.at x (λ k. raise_into file rs k s)).answer ≡ NoRoom →
           went_on l r.at x (λ k. raise_into file (rs ++ more) k t) ≡ went_on l r.at x (λ k. raise_into file rs k s)
       go rec full h = refl
       go rec (filed k) h = rec k h

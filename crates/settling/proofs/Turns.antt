@@ -9,8 +9,9 @@ use native.Mathlib.Omega.{arith}
 use native.Mathlib.Numerals.{add-one}
 use lib.ListN.{length, get_or, drop_of_length-le}
 use Rattle.schedule.specs.Schedule.{When, by_rank, put_off}
-use Rattle.lists.specs.declared.Filed.{Filed as Answer}
-use Rattle.lists.specs.declared.Filed.TheVariants.{Full as NoRoom, Done as Room}
+use Rattle.std.specs.Prelude.{Ok, Err}
+use Rattle.lists.specs.Lists.{Filed as Answer, NoRoom, Done as Room}
+use Rattle.lists.specs.declared.Full.{Full}
 use Rattle.model.specs.Base.{if◌then◌otherwise◌}
 use Rattle.model.specs.Circuit.{Circuit}
 use Rattle.model.specs.State.{State, Wires, wires≔}
@@ -30,17 +31,19 @@ use Rattle.units.proofs.Places.{ranked_for}
 use Rattle.areas.specs.Areas.{Contents, together, with_went}
 use Rattle.settling.specs.declared.Raised.{Raised}
 use Rattle.settling.specs.declared.Raised.TheVariants.{Nothing as NoRaise, Entry, MayWait}
-use Rattle.settling.specs.declared.Round.{Round}
-use Rattle.settling.specs.declared.Round.TheVariants.{Idle, Done, Full}
 use Rattle.settling.specs.Settling.{settled, filed_into}
-use Rattle.settling.specs.Rounds.{Acts, goes_on, round_of, answer_of, round_answer, after_round}
+use Rattle.settling.specs.Rounds.{Acts, Round, Idle, Done, goes_on, round_of, answer_of, round_answer, after_round}
 use Rattle.settling.proofs.Rounds.{raised_on, raised_full, raised_one, first_on, checked_now, raised_before}
+
+-- a round that found a list full
+abbrev Stops : Round
+Stops = Err (record {})
 
 -- ---- one round, then the others
 
 -- what follows where there was room
 abbrev then_on : Went → (State → Lists → Went) → Went
-then_on w f = elim w.answer [ NoRoom ↦ w | Room ↦ f w.state w.lists ]
+then_on w f = elim w.answer [ Err _ ↦ w | Ok _ ↦ f w.state w.lists ]
 
 -- what follows a round
 abbrev rest_of : State → Lists → (State → Lists → Went) → Option Went → Went
@@ -56,9 +59,9 @@ module _ (c : Circuit) (to : Place) where
       by_answer :
           (a : Answer) → (filed_into c to z l).answer ≡ a →
           raise_into (λ p. activate c (place_for p to)) (z.raises ++ (check_on c n (calm z.state)).raises) l (check_on c n (calm z.state)).state
-          ≡ (elim a [ NoRoom ↦ filed_into c to z l | Room ↦ goes_on c to n (filed_into c to z l).state (filed_into c to z l).lists ])
-      by_answer NoRoom h = raised_full (λ p. activate c (place_for p to)) z.raises (check_on c n (calm z.state)).raises l z.state (check_on c n (calm z.state)).state h
-      by_answer Room h =
+          ≡ (elim a [ Err _ ↦ filed_into c to z l | Ok _ ↦ goes_on c to n (filed_into c to z l).state (filed_into c to z l).lists ])
+      by_answer (Err x) h = raised_full (λ p. activate c (place_for p to)) z.raises (check_on c n (calm z.state)).raises l z.state (check_on c n (calm z.state)).state h
+      by_answer (Ok x) h =
           let p = raised_on (λ p. activate c (place_for p to)) z.raises (check_on c n (calm z.state)).raises l z.state (check_on c n (calm z.state)).state h in
           p.1 ∙ ap (λ (t : State). goes_on c to n t (filed_into c to z l).lists) (sym p.0)
 
@@ -81,7 +84,7 @@ module _ (c : Circuit) (to : Place) where
 -- ---- what a round comes to
 
 -- the answer, by that of the list
-pub filed_full : (a b : Answer) → a ≡ b → a ≡ NoRoom → Full ≡ answer_of b
+pub filed_full : (a b : Answer) → a ≡ b → a ≡ NoRoom → Stops ≡ answer_of b
 unfolding answer_of
 filed_full a b e h = ap answer_of (sym h ∙ e)
 
@@ -236,10 +239,10 @@ module _ (c : Circuit) (to : Place) (v v₁ : Values) (u : Units) (d : Delays) (
 idle_not_done : {A : Type 0} → ◌≡◌ {A = Round} Idle Done → A
 idle_not_done h = let z : ◌≡◌ {A = ℕ} 0 1 = cc in absurd (omega (arith, z))
 
-idle_not_full : {A : Type 0} → ◌≡◌ {A = Round} Idle Full → A
+idle_not_full : {A : Type 0} → ◌≡◌ {A = Round} Idle Stops → A
 idle_not_full h = let z : ◌≡◌ {A = ℕ} 0 1 = cc in absurd (omega (arith, z))
 
-done_not_full : {A : Type 0} → ◌≡◌ {A = Round} Done Full → A
+done_not_full : {A : Type 0} → ◌≡◌ {A = Round} Done Stops → A
 done_not_full h = let z : ◌≡◌ {A = ℕ} 0 1 = cc in absurd (omega (arith, z))
 
 module _ (c : Circuit) (to : Place) (a b : Contents) (x : Round)
@@ -264,20 +267,20 @@ module _ (c : Circuit) (to : Place) (a b : Contents) (x : Round)
       go (some w) f g p = no w.answer f
         where
           no : {A : Type 0} (y : Answer) → Idle ≡ answer_of y → A
-          no NoRoom q = idle_not_full q
-          no Room q = idle_not_done q
+          no (Err x) q = idle_not_full q
+          no (Ok x) q = idle_not_done q
 
-  pub turn_full : (k : ℕ) → 0 < k → x ≡ Full → (b ≡ with_went a (left k a)) × (NoRoom ≡ (left k a).answer)
+  pub turn_full : (k : ℕ) → 0 < k → x ≡ Stops → (b ≡ with_went a (left k a)) × (NoRoom ≡ (left k a).answer)
   unfolding round_answer after_round answer_of
   turn_full k h e = go (round_of c to a.state a.lists) (sym e ∙ ex.0) ex.1 (one_more k h)
     where
-      by : (w : Went) (y : Answer) → w.answer ≡ y → Full ≡ answer_of y → b ≡ with_went a w →
-          left k a ≡ (elim y [ NoRoom ↦ w | Room ↦ goes_on c to (k - 1) w.state w.lists ]) → (b ≡ with_went a (left k a)) × (NoRoom ≡ (left k a).answer)
-      by w NoRoom m f g p = (g ∙ ap (with_went a) (sym p), sym m ∙ ap (λ (w : Went). w.answer) (sym p))
-      by w Room m f g p = done_not_full (sym f)
+      by : (w : Went) (y : Answer) → w.answer ≡ y → Stops ≡ answer_of y → b ≡ with_went a w →
+          left k a ≡ (elim y [ Err _ ↦ w | Ok _ ↦ goes_on c to (k - 1) w.state w.lists ]) → (b ≡ with_went a (left k a)) × (NoRoom ≡ (left k a).answer)
+      by w (Err x) m f g p = (g ∙ ap (with_went a) (sym p), sym m ∙ ap (λ (w : Went). w.answer) (sym p))
+      by w (Ok x) m f g p = done_not_full (sym f)
 
       go :
-          (o : Option Went) → Full ≡ round_answer o → b ≡ after_round a o → left k a ≡ rest_of a.state a.lists (goes_on c to (k - 1)) o →
+          (o : Option Went) → Stops ≡ round_answer o → b ≡ after_round a o → left k a ≡ rest_of a.state a.lists (goes_on c to (k - 1)) o →
           (b ≡ with_went a (left k a)) × (NoRoom ≡ (left k a).answer)
       go none f g p = idle_not_full (sym f)
       go (some w) f g p = by w w.answer refl f g p
@@ -288,10 +291,10 @@ module _ (c : Circuit) (to : Place) (a b : Contents) (x : Round)
   turn_done k h e = go (round_of c to a.state a.lists) (sym e ∙ ex.0) ex.1 (one_more k h)
     where
       by : (w : Went) (y : Answer) → w.answer ≡ y → Done ≡ answer_of y → b ≡ with_went a w →
-          left k a ≡ (elim y [ NoRoom ↦ w | Room ↦ goes_on c to (k - 1) w.state w.lists ]) →
+          left k a ≡ (elim y [ Err _ ↦ w | Ok _ ↦ goes_on c to (k - 1) w.state w.lists ]) →
           (with_went b (left (k - 1) b) ≡ with_went a (left k a)) × ((left (k - 1) b).answer ≡ (left k a).answer)
-      by w NoRoom m f g p = done_not_full f
-      by w Room m f g p = (
+      by w (Err x) m f g p = done_not_full f
+      by w (Ok x) m f g p = (
         ap (λ (y : Contents). with_went y (left (k - 1) y)) g ∙ ap (with_went a) (sym p),
         ap (λ (y : Contents). (left (k - 1) y).answer) g ∙ ap (λ (w : Went). w.answer) (sym p),
       )
@@ -312,14 +315,17 @@ Left c to k a n b =
 
 module _ (c : Circuit) (to : Place) (a b z : Contents) (x : Round) (k n : ℕ) (h : 0 < k) (i : Left c to k a n z)
     (ex : (x ≡ round_answer (round_of c to a.state a.lists)) × (b ≡ after_round a (round_of c to a.state a.lists))) where
-  pub left_idle : x ≡ Idle → (b ≡ with_went z (goes_on c to n z.state z.lists)) × (Room ≡ (goes_on c to n z.state z.lists).answer)
-  left_idle e = let t = turn_idle c to a b x ex k h e in (t.0 ∙ i.0, t.1 ∙ i.1)
+  pub left_idle : (m : Bool) → x ≡ Ok m → m ≡ false → (b ≡ with_went z (goes_on c to n z.state z.lists)) × (Room ≡ (goes_on c to n z.state z.lists).answer)
+  left_idle m f g = let t = turn_idle c to a b x ex k h (f ∙ ap (λ (y : Bool). Ok y) g) in (t.0 ∙ i.0, t.1 ∙ i.1)
 
-  pub left_full : x ≡ Full → (b ≡ with_went z (goes_on c to n z.state z.lists)) × (NoRoom ≡ (goes_on c to n z.state z.lists).answer)
+  pub left_full : x ≡ Stops → (b ≡ with_went z (goes_on c to n z.state z.lists)) × (NoRoom ≡ (goes_on c to n z.state z.lists).answer)
   left_full e = let t = turn_full c to a b x ex k h e in (t.0 ∙ i.0, t.1 ∙ i.1)
 
-  pub left_next : x ≡ Done → Left c to (k - 1) b n z
-  left_next e = let t = turn_done c to a b x ex k h e in (t.0 ∙ i.0, t.1 ∙ i.1)
+  pub left_next : (m : Bool) → x ≡ Ok m → m ≡ true → (j : ℕ) → j + 1 ≡ k → Left c to j b n z
+  left_next m f g j q =
+      let t = turn_done c to a b x ex k h (f ∙ ap (λ (y : Bool). Ok y) g) in
+      let p : k - 1 ≡ j = omega arith in
+      subst (λ (y : ℕ). Left c to y b n z) p (t.0 ∙ i.0, t.1 ∙ i.1)
 
 pub left_none :
     (c : Circuit) (to : Place) (a z : Contents) (k n : ℕ) → k ≤ 0 → Left c to k a n z →

@@ -16,9 +16,8 @@ use Rattle.units.specs.View.{Lists, Units}
 use Rattle.units.specs.Raising.{answer, lists_after, with_lists, Went}
 use Rattle.areas.specs.Areas.{Contents, with_state}
 use Rattle.settling.specs.declared.Raised.{Raised}
-use Rattle.settling.specs.declared.Round.{Round}
 use Rattle.settling.specs.Settling.{settled}
-use Rattle.settling.specs.Rounds.{Acts, answer_of, round_answer, after_round}
+use Rattle.settling.specs.Rounds.{Acts, Round, answer_of, round_answer, after_round}
 
 -- wires and small states go on as f has it, and r is what f raises: of the wires alone, and of both
 abbrev pub ActsInValues : List ℕ → Slice → (Circuit → When → State → Settled) → Raised → Type 0

@@ -1,9 +1,9 @@
 -- What the steps of settling answer: how a value moved, what a change leads to, what a round comes to.
-use Rattle.std.specs.Prelude.{ℕ, ◌-◌, ◌≡◌}
+use Rattle.std.specs.Prelude.{ℕ, ◌-◌, ◌≡◌, Bool, true, false, Result, Ok, Err}
 use Rattle.std.proofs.Math.Option.{Option, none, some}
 use Rattle.schedule.specs.Schedule.{When}
-use Rattle.lists.specs.declared.Filed.{Filed as Answer}
-use Rattle.lists.specs.declared.Filed.TheVariants.{Full as NoRoom, Done as Room}
+use Rattle.lists.specs.Lists.{Filed as Answer}
+use Rattle.lists.specs.declared.Full.{Full}
 use Rattle.model.specs.declared.Value.{Value}
 use Rattle.model.specs.Circuit.{Circuit, kind_of_gate, input, gate_at_input}
 use Rattle.model.specs.State.{State, wires≔}
@@ -18,8 +18,6 @@ use Rattle.areas.specs.Areas.{Contents, together, with_state, with_went}
 use Rattle.settling.specs.declared.Raised.{Raised}
 use Rattle.settling.specs.declared.Edge.{Edge}
 use Rattle.settling.specs.declared.Edge.TheVariants.{Rising, Falling, Level}
-use Rattle.settling.specs.declared.Round.{Round}
-use Rattle.settling.specs.declared.Round.TheVariants.{Idle, Done, Full}
 use Rattle.settling.specs.Settling.{settled, filed_into}
 
 -- what a moved value leads to: rising is output 0, falling output 1
@@ -48,10 +46,20 @@ goes_on c to n s l = filed_into c to (check_on c n (calm s)) l
 unfoldable pub round_of : Circuit → Place → State → Lists → Option Went
 round_of c to s l = elim (oldest s.wires) [ none ↦ none | some i ↦ some (filed_into c to (check c (when_checked s.wires i) (wires≔ s (oldest_taken s.wires)) i) l) ]
 
+-- what the code answers: whether an input waited, or that what its check raised found its list full
+abbrev pub Round : Type 0
+Round = Result Bool Full
+
+abbrev pub Idle : Round
+Idle = Ok false
+
+abbrev pub Done : Round
+Done = Ok true
+
 -- its answer
 unfoldable pub answer_of : Answer → Round
-answer_of NoRoom = Full
-answer_of Room = Done
+answer_of (Err e) = Err e
+answer_of (Ok u) = Done
 
 unfoldable pub round_answer : Option Went → Round
 round_answer none = Idle

@@ -20,7 +20,7 @@ ghost use Rattle.settling.specs.Lent.{ActsInValues, ActsInBoth, PinRaises, Settl
 
 use floats::lt64;
 use links::{gate_at_input, input, inputs, kind_of_gate, output, outputs};
-use lists::Filed;
+use lists::Full;
 use model::Value;
 use records::forms::{BY_OUTPUT, BY_PIN, FIRE, FORMS};
 use states::slots::buffer_input;
@@ -51,14 +51,6 @@ enum Edge {
     Rising,
     Falling,
     Level,
-}
-
-// What a round came to: nothing waits, a check was made, or what it raised found its list full.
-#[derive(Clone, Copy)]
-enum Round {
-    Idle,
-    Done,
-    Full,
 }
 
 // How a value moved, as a Float; nothing is 0.0.
@@ -188,37 +180,34 @@ fn put_off(to: Place) -> Place
     }
 }
 
-// Entry x is filed where `to` says.
-fn file(links: &[usize], units: &mut [u8], to: Place, x: u64) -> Round
+// Entry x is filed where `to` says; a round that does so made a check.
+fn file(links: &[usize], units: &mut [u8], to: Place, x: u64) -> Result<bool, Full>
     requires { Linked links.now × Room units.old }
     ensures { UnitsChange links.now (units.old, units.new) (λ c old new. FilesInRound old new result (activate c to (act_of c x) old.lists)) }
 {
-    let filed = activate(links, units, to, x);
-    match filed {
-        Filed::Full => Round::Full,
-        Filed::Done => Round::Done,
-    }
+    activate(links, units, to, x)?;
+    Ok(true)
 }
 
-// A round: the input that waits longest is checked, and what this raises is filed.
+// A round: the input that waits longest is checked, and what this raises is filed. Whether one waited.
 fn check_next(
     links: &[usize],
     values: &mut [u8],
     units: &mut [u8],
     delays: &mut [u8],
     to: Place,
-) -> Round
+) -> Result<bool, Full>
     requires { AllLent links.now values.old units.old delays.old }
     ensures over_all { OverAll links.now (values.old, values.new) (units.old, units.new) (delays.old, delays.new) (λ c old new. GoesRound old new result (round_of c to old.state old.lists)) }
     ensures slots_stay { SlotsStay links.now delays.new }
 {
     let next = take_check(links, values);
     match next {
-        None => Round::Idle,
+        None => Ok(false),
         Some(Check { input, late }) => {
             let raised = check(links, values, delays, input);
             match raised {
-                Raised::Nothing => Round::Done,
+                Raised::Nothing => Ok(true),
                 Raised::Entry(x) => file(links, units, to, x),
                 Raised::MayWait(x) => {
                     if late {
@@ -239,21 +228,18 @@ fn settle_on(
     delays: &mut [u8],
     to: Place,
     n: usize,
-) -> Filed
+) -> Result<(), Full>
     requires { AllLent links.now values.old units.old delays.old }
     ensures over_all { OverAll links.now (values.old, values.new) (units.old, units.new) (delays.old, delays.new) (λ c old new. Goes old new result (goes_on c to n old.state old.lists)) }
     ensures slots_stay { SlotsStay links.now delays.new }
 {
-    let mut k = n;
-    while k > 0 {
-        let round = check_next(links, values, units, delays, to);
-        match round {
-            Round::Idle => return Filed::Done,
-            Round::Full => return Filed::Full,
-            Round::Done => k -= 1,
+    for _ in 0..n {
+        let checked = check_next(links, values, units, delays, to)?;
+        if !checked {
+            return Ok(());
         }
     }
-    Filed::Done
+    Ok(())
 }
 
 // Each input that waits is checked; what this raises goes where `to` says, up to the first that finds its list full. Once what is stale is refreshed, this settles;
@@ -264,7 +250,7 @@ pub fn check_waiting(
     units: &mut [u8],
     delays: &mut [u8],
     to: Place,
-) -> Filed
+) -> Result<(), Full>
     requires { AllLent links.now values.old units.old delays.old }
     ensures over_all { OverAll links.now (values.old, values.new) (units.old, units.new) (delays.old, delays.new) (λ c old new. Goes old new result (goes_on c to (most_checks c) old.state old.lists)) }
     ensures slots_stay { SlotsStay links.now delays.new }

@@ -11,8 +11,7 @@ use lib.Seq.{length-take-le, take_at, paste, take_all, take-suc, take-suc-set, t
 use Rattle.words.specs.Words.{words}
 use Rattle.words.proofs.Laws.{length_words}
 use Rattle.words.proofs.Putting.{put_here}
-use Rattle.lists.specs.declared.Filed.{Filed}
-use Rattle.lists.specs.declared.Filed.TheVariants.{Full, Done}
+use Rattle.lists.specs.Lists.{Filed, NoRoom, Done}
 use Rattle.model.specs.Base.{if◌then◌otherwise◌}
 use Rattle.model.specs.Circuit.{Circuit, part, kind_of_gate}
 use Rattle.model.specs.State.{Countdown, Queued, Delay, idle, fires≔}
@@ -107,7 +106,7 @@ stored_fires f bs w₁ w₂ w₃ l k e₁ e₂ e₃ qs =
 
 -- ---- one fire more
 
-pub add_full : (s : Bool) (ws : List ℕ) (n : ℕ) (k : Countdown) → n ≡ get_or ws 10 0 → 32 ≤ n → Added s ws ws k Full
+pub add_full : (s : Bool) (ws : List ℕ) (n : ℕ) (k : Countdown) → n ≡ get_or ws 10 0 → 32 ≤ n → Added s ws ws k NoRoom
 unfolding add_fire if◌then◌otherwise◌
 add_full s ws n k e h qs =
     let f : ltb (length (delay_of s ws qs).fires) 32 ≡ false = le-ltb (length (delay_of s ws qs).fires) 32 (omega (arith, many s ws qs)) in
@@ -120,7 +119,7 @@ unfolding delay_of
 add_moves s ws vs n f r k en h l m st qs =
     let room : ltb (length (delay_of s ws qs).fires) 32 ≡ true = lt-ltb (length (delay_of s ws qs).fires) 32 (omega (arith, many s ws qs)) in
     let to : Becomes s ws vs (λ d. fires≔ d (fires_of r)) = subst (λ (b : Bool). Becomes b ws vs (λ d. fires≔ d (fires_of r))) (m.0 ∙ l.0) st in
-    (ap (λ (b : Bool). cond b Done Full) (sym room), to qs ∙ add_stored (delay_of s ws qs) f r l.1 k m.1)
+    (ap (λ (b : Bool). cond b Done NoRoom) (sym room), to qs ∙ add_stored (delay_of s ws qs) f r l.1 k m.1)
 
 -- ---- a tick
 
@@ -168,7 +167,7 @@ module _ (c : Circuit) (bs p : List ℕ) (n g a e : ℕ) (l : Lent c bs) (en : (
       → AddsFire (delays c bs) (delays c fs) g r (countdown c g true)
   add_gate fs x j r ex ej h et =
       let q : Added (leb 12 (kind_of_gate c g)) (words (take (e - a) (drop a bs))) (words p) (counted j.left) r = rw ex at h in (
-        (q (records_at c (words bs) g)).0 ∙ ap (λ (d : Delay). cond (ltb (length d.fires) most_fires) Done Full) (sym (lent_delay c bs p n g a e l en k ea ee ep)),
+        (q (records_at c (words bs) g)).0 ∙ ap (λ (d : Delay). cond (ltb (length d.fires) most_fires) Done NoRoom) (sym (lent_delay c bs p n g a e l en k ea ee ep)),
         starts_gate c bs p n g a e l en k ea ee ep fs x true j add_fire ex ej (λ qs. (h qs).1) et,
       )
 
@@ -180,7 +179,7 @@ module _ (c : Circuit) (bs : List ℕ) (n g : ℕ) (en : (n ≡ length c.kinds) 
   pub add_past : AddsFire (delays c bs) (delays c bs) g Done (countdown c g true)
   unfolding idle
   add_past =
-      (ap (λ (d : Delay). cond (ltb (length d.fires) most_fires) Done Full) (sym (delay_past c bs g (omega (arith, en.0)))), starts_past c bs n g en k true add_fire)
+      (ap (λ (d : Delay). cond (ltb (length d.fires) most_fires) Done NoRoom) (sym (delay_past c bs g (omega (arith, en.0)))), starts_past c bs n g en k true add_fire)
 
   pub fires_past : (dt : ℕ) → Moves (delays c bs) (delays c bs) g (advance_fires dt (delay_in (delays c bs) g)) [] 0 × (0 ≤ 32)
   unfolding advance_fires drop_due idle moved

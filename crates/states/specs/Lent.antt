@@ -1,8 +1,7 @@
 -- What contracts say of the area `delays`, over the circuit of the links, and of a slot that is lent by itself.
 use Rattle.std.specs.Prelude.{ℕ, ◌*◌, ◌≤◌, ◌≡◌, cond, ltb, length, List}
 use Rattle.words.specs.Slices.{Slice, before, after}
-use Rattle.lists.specs.declared.Filed.{Filed}
-use Rattle.lists.specs.declared.Filed.TheVariants.{Full, Done}
+use Rattle.lists.specs.Lists.{Filed, NoRoom, Done}
 use Rattle.model.specs.Circuit.{Circuit}
 use Rattle.model.specs.Delays.{Started}
 use Rattle.model.specs.Exec.{most_fires}
@@ -41,4 +40,4 @@ DelaysChange links ds P = P (net_of links) (delays (net_of links) (before ds)) (
 
 -- a fire of gate g was added, if there was room, and r says so
 abbrev pub AddsFire : Delays → Delays → ℕ → Filed → Started → Type 0
-AddsFire d e g r k = (r ≡ cond (ltb (length (delay_in d g).fires) most_fires) Done Full) × (e ≡ starting d g add_fire k)
+AddsFire d e g r k = (r ≡ cond (ltb (length (delay_in d g).fires) most_fires) Done NoRoom) × (e ≡ starting d g add_fire k)

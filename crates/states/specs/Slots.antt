@@ -2,8 +2,7 @@
 use Rattle.std.specs.Prelude.{ℕ, ◌≡◌, Bool, cond, List, ltb, length}
 use Rattle.std.proofs.Math.Option.{Option, none, some}
 use Rattle.model.specs.declared.Value.{Value}
-use Rattle.lists.specs.declared.Filed.{Filed}
-use Rattle.lists.specs.declared.Filed.TheVariants.{Full, Done}
+use Rattle.lists.specs.Lists.{Filed, NoRoom, Done}
 use Rattle.model.specs.State.{Countdown, Flight, Queued, Delay}
 use Rattle.model.specs.Delays.{Moved, moved}
 use Rattle.model.specs.Exec.{most_fires}
@@ -45,4 +44,4 @@ TurnsAny ws to f row n = (seconds : Bool) → Turns seconds ws to f row n
 abbrev pub Added : Bool → List ℕ → List ℕ → Countdown → Filed → Type 0
 Added seconds ws to k r =
     (qs : List Queued)
-    → (r ≡ cond (ltb (length (delay_of seconds ws qs).fires) most_fires) Done Full) × (delay_of seconds to qs ≡ add_fire (delay_of seconds ws qs) k)
+    → (r ≡ cond (ltb (length (delay_of seconds ws qs).fires) most_fires) Done NoRoom) × (delay_of seconds to qs ≡ add_fire (delay_of seconds ws qs) k)

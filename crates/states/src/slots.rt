@@ -24,7 +24,7 @@ use delays::stopwatch::Stopwatch;
 use kinds::numbers::BUFFER_SECONDS;
 use links::layout::MOST_GATES;
 use links::{gates, kind_of_gate, setting};
-use lists::Filed;
+use lists::Full;
 use model::Value;
 use value::{content_of, kind_of, truthy, value_of};
 use words::rows::put_row;
@@ -245,17 +245,17 @@ fn store_fires(slot: &mut [u8], fires: Fires)
 }
 
 // One fire more with its countdown, if there is room.
-fn start_fire(slot: &mut [u8], seconds: bool, k: Countdown) -> Filed
+fn start_fire(slot: &mut [u8], seconds: bool, k: Countdown) -> Result<(), Full>
     requires { Slot slot.old × (counts_seconds (counted k) ≡ seconds) }
     ensures { Added seconds (words slot.old) (words slot.new) (counted k) result }
 {
     if MOST_FIRES <= get(slot, COUNT) as usize {
-        return Filed::Full;
+        return Err(Full);
     }
     let fires = load_fires(slot, seconds);
     let next = fires.add(k);
     store_fires(slot, next);
-    Filed::Done
+    Ok(())
 }
 
 // A tick of the length dt: all fires count down, and those due leave from the front and fire.
@@ -376,12 +376,12 @@ pub fn buffer_advance(links: &[usize], delays: &mut [u8], g: usize, dt: u32) -> 
 }
 
 // One fire more of gate g, a buffer in exec mode, if there is room.
-pub fn add_fire(links: &[usize], delays: &mut [u8], g: usize) -> Filed
+pub fn add_fire(links: &[usize], delays: &mut [u8], g: usize) -> Result<(), Full>
     requires { Linked links.now × Slots links.now delays.old }
     ensures { DelaysChange links.now (delays.old, delays.new) (λ c old new. AddsFire old new g result (countdown c g true)) }
 {
     if gates(links) <= g {
-        return Filed::Done;
+        return Ok(());
     }
     let seconds = SECONDS <= kind_of_gate(links, g);
     let k = countdown(links, g, true);

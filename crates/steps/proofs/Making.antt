@@ -13,9 +13,7 @@ use Rattle.states.specs.View.{Delays, with_changed}
 use Rattle.units.specs.View.{Units}
 use Rattle.units.specs.Calls.{with_outbox}
 use Rattle.areas.specs.Areas.{Contents, together}
-use Rattle.steps.specs.declared.Step.{Step}
-use Rattle.steps.specs.declared.Step.TheVariants.{Fires, Ends, Full}
-use Rattle.steps.specs.Steps.{stepped, Makes}
+use Rattle.steps.specs.Steps.{stepped, Makes, Step, Fires, Ends, Stops}
 
 -- a choice whose test is known
 module _ {A : Type 0} (b : Bool) (x y : A) where
@@ -56,7 +54,7 @@ makes_delays v v₁ d d₁ w ds n e f u = record { state = λ j. together (e j) 
 
 -- the count became n, and a list was full
 pub makes_full : (v : Values) (u : Units) (d d₁ : Delays) (n : ℕ) → d₁ ≡ with_changed d n →
-    Makes (together v u d) (together v u d₁) Full (record { state = changed≔ (together v u d).state n; next = none; full = true })
+    Makes (together v u d) (together v u d₁) Stops (record { state = changed≔ (together v u d).state n; next = none; full = true })
 unfolding stepped changed≔
 makes_full v u d d₁ n e = record { state = ap (λ (x : Delays). together v u x) e; answer = refl }
 

@@ -5,13 +5,9 @@ use mathlib.Core.Bool.{Bool, true, false, cond, ◌||◌}
 use mathlib.Core.List.{List, [], ◌∷◌, map}
 use native.Mathlib.Omega.{arith}
 use borrow.Author.Tests.{eq-eqb, ne_eqb}
-use denote.Enum.Declared.{tag_of}
 use lib.Dec.{eqb, leb, ltb}
 use lib.ListN.{length, set}
-use types.Run.{OneOf}
-use Rattle.lists.specs.declared.Filed.{Filed}
-use Rattle.lists.specs.declared.Filed.TheVariants.{Full as NoRoom, Done}
-use Rattle.lists.specs.contracts.Filed.{the_type as Filings}
+use Rattle.lists.specs.Lists.{Filed, NoRoom, Done}
 use Rattle.model.specs.declared.Value.{Value}
 use Rattle.model.specs.declared.Value.TheVariants.{Float}
 use Rattle.model.specs.Base.{if◌then◌otherwise◌, each, from, among, snoc}
@@ -27,21 +23,12 @@ use Rattle.states.specs.Lent.{AddsFire}
 use Rattle.units.specs.View.{Units}
 use Rattle.units.specs.Calls.{with_outbox, sent}
 use Rattle.areas.specs.Areas.{together}
-use Rattle.steps.specs.declared.Step.TheVariants.{Fires, Ends, Full}
-use Rattle.steps.specs.Steps.{Makes}
+use Rattle.steps.specs.Steps.{Makes, Fires, Ends, Stops}
 use Rattle.steps.proofs.Making.{if_true, if_false, makes_as, makes_delays, makes_full, makes_sent, set_again}
 
 -- ---- a buffer in exec mode
 
 -- there was room, or there was none
-told_done : (r : Filed) → OneOf (1 ∷ []) (tag_of Filings r) → r ≡ Done
-told_done NoRoom h = absurd (omega (arith, h))
-told_done Done h = refl
-
-told_full : (r : Filed) → OneOf (0 ∷ []) (tag_of Filings r) → r ≡ NoRoom
-told_full NoRoom h = refl
-told_full Done h = absurd (omega (arith, h))
-
 room_done : (t : Bool) → cond t Done NoRoom ≡ Done → t ≡ true
 room_done true e = refl
 room_done false e = cc
@@ -51,22 +38,22 @@ room_full true e = cc
 room_full false e = refl
 
 module _ (c : Circuit) (g : ℕ) (d d₁ : Delays) (r : Filed) (e : AddsFire d d₁ g r (countdown c g true)) where
-  pub one_fire_more : OneOf (1 ∷ []) (tag_of Filings r) → (v : Values) (u : Units) → Makes (together v u d) (together v u d₁) Ends (exec-Buffer c (together v u d).state g)
+  pub one_fire_more : r ≡ Done → (v : Values) (u : Units) → Makes (together v u d) (together v u d₁) Ends (exec-Buffer c (together v u d).state g)
   unfolding exec-Buffer count_changed changed≔ delay delay≔ delays≔ add_fire
   one_fire_more h v u =
       let t : Bool = ltb (length (delay_in d g).fires) most_fires in
-      let ht : t ≡ true = room_done t (sym e.0 ∙ told_done r h) in
+      let ht : t ≡ true = room_done t (sym e.0 ∙ h) in
       let k = countdown c g true in
       let x : Delay = fires≔ (delay_in d g) (snoc (delay_in d g).fires k.left) in
       makes_as _ _ _ _ _ (if_true t _ _ ht)
       (makes_delays v v d d₁ v.wires (set d.delays g x) (tally d.changed k.changed) refl
       (e.1 ∙ ap (λ (y : Delay). counting (with_delay d g y) k.changed) (if_true t x (delay_in d g) ht)) u)
 
-  pub no_fire_more : OneOf (0 ∷ []) (tag_of Filings r) → (v : Values) (u : Units) → Makes (together v u d) (together v u d₁) Full (exec-Buffer c (together v u d).state g)
+  pub no_fire_more : r ≡ NoRoom → (v : Values) (u : Units) → Makes (together v u d) (together v u d₁) Stops (exec-Buffer c (together v u d).state g)
   unfolding exec-Buffer count_changed changed≔ delay delay≔ delays≔ add_fire
   no_fire_more h v u =
       let t : Bool = ltb (length (delay_in d g).fires) most_fires in
-      let ht : t ≡ false = room_full t (sym e.0 ∙ told_full r h) in
+      let ht : t ≡ false = room_full t (sym e.0 ∙ h) in
       let k = countdown c g true in
       let x : Delay = fires≔ (delay_in d g) (snoc (delay_in d g).fires k.left) in
       let p : with_delay d g (delay_in d g) ≡ d = λ j. record { delays = set_again d.delays g idle j; changed = d.changed; parts = d.parts; rest = d.rest } in

@@ -13,7 +13,7 @@ ghost use Rattle.steps.specs.Steps.{Entered, Makes};
 
 use cycle::cycle_next;
 use links::{input, output, setting};
-use lists::Filed;
+use lists::Full;
 use model::Value;
 use queues::queue_record;
 use reading::{look_row, readied};
@@ -30,13 +30,8 @@ use words::counting::less;
 
 pub mod reading;
 
-// What a step comes to: the output to fire next; the chain ends there; or a list was full.
-#[derive(Clone, Copy)]
-pub enum Step {
-    Fires(usize),
-    Ends,
-    Full,
-}
+// What a step comes to: the output to fire next, or none where the chain ends there; or a list was full.
+pub type Step = Result<Option<usize>, Full>;
 
 // ---- Vars
 
@@ -59,7 +54,7 @@ fn exec_var_get(links: &[usize], values: &mut [u8], g: usize) -> Step
 {
     let v = shown(links, values, var(links, g));
     set_out(links, values, output(links, g, 1), v);
-    Step::Fires(output(links, g, 0))
+    Ok(Some(output(links, g, 0)))
 }
 
 // 19 VarSet: Value, as it reads, to the Var, with no conversion; direct readers see it at once. `inside` says whether a body is running.
@@ -73,7 +68,7 @@ fn exec_var_set(links: &[usize], values: &mut [u8], g: usize, inside: bool) -> S
     let v = look(links, values, i);
     show(links, values, o, v);
     record_write(links, values, o, inside);
-    Step::Fires(output(links, g, 0))
+    Ok(Some(output(links, g, 0)))
 }
 
 // ---- Branch, Union, Toggle, Cycle
@@ -87,9 +82,9 @@ fn exec_branch(links: &[usize], values: &mut [u8], g: usize) -> Step
     ready(links, values, i);
     let v = look(links, values, i);
     if truthy(v) {
-        return Step::Fires(output(links, g, 0));
+        return Ok(Some(output(links, g, 0)));
     }
-    Step::Fires(output(links, g, 1))
+    Ok(Some(output(links, g, 1)))
 }
 
 // 21 Union: it passes once a tick, and inside a body once in each run of it.
@@ -98,10 +93,10 @@ fn exec_union(links: &[usize], values: &mut [u8], g: usize) -> Step
     ensures { OverValues links.now (values.old, values.new) (λ c old new. Makes old new result (exec-Union c old.state g)) }
 {
     if passed(links, values, g) {
-        return Step::Ends;
+        return Ok(None);
     }
     pass(links, values, g);
-    Step::Fires(output(links, g, 0))
+    Ok(Some(output(links, g, 0)))
 }
 
 // 22 Toggle: what is true becomes false, anything else true.
@@ -112,7 +107,7 @@ fn exec_toggle(links: &[usize], values: &mut [u8], g: usize) -> Step
     let o = output(links, g, 1);
     let v = shown(links, values, o);
     set_out(links, values, o, Value::Bool(!truthy(v)));
-    Step::Fires(output(links, g, 0))
+    Ok(Some(output(links, g, 0)))
 }
 
 // 23 Cycle, entered through pin p: pin 1 down, any other up, each to its own output.
@@ -128,9 +123,9 @@ fn exec_cycle(links: &[usize], values: &mut [u8], g: usize, p: usize) -> Step
     let n = cycle_next(p == 1, count, now);
     set_out(links, values, o, Value::Int(n));
     if p == 1 {
-        return Step::Fires(output(links, g, 1));
+        return Ok(Some(output(links, g, 1)));
     }
-    Step::Fires(output(links, g, 0))
+    Ok(Some(output(links, g, 0)))
 }
 
 // ---- buffers, Stopwatches, Queues
@@ -140,10 +135,8 @@ fn exec_buffer(links: &[usize], delays: &mut [u8], g: usize) -> Step
     requires { Linked links.now × Slots links.now delays.old }
     ensures { OverDelays links.now (delays.old, delays.new) (λ c old new. Makes old new result (exec-Buffer c old.state g)) }
 {
-    match add_fire(links, delays, g) {
-        Filed::Done => Step::Ends,
-        Filed::Full => Step::Full,
-    }
+    add_fire(links, delays, g)?;
+    Ok(None)
 }
 
 // 15, a Stopwatch, entered through pin p: Restart shows 0.0 at once.
@@ -153,10 +146,10 @@ fn exec_stopwatch(links: &[usize], values: &mut [u8], delays: &mut [u8], g: usiz
 {
     stopwatch_press(links, delays, g, p);
     if p != 0 {
-        return Step::Ends;
+        return Ok(None);
     }
     set_out(links, values, output(links, g, 0), Value::Float(0));
-    Step::Ends
+    Ok(None)
 }
 
 // 16, 17, a Queue: all nine inputs are read, also for a record that is dropped.
@@ -169,7 +162,7 @@ fn exec_queue(links: &[usize], values: &mut [u8], delays: &mut [u8], g: usize) -
     let row = look_row(links, values, i);
     let wait = look(links, values, i + 8);
     queue_record(links, delays, g, row, wait);
-    Step::Ends
+    Ok(None)
 }
 
 // ---- events
@@ -182,11 +175,11 @@ fn exec_send(links: &[usize], values: &mut [u8], units: &mut [u8], g: usize) -> 
     let i = input(links, g, 2);
     readied(links, values, i, 8);
     if has_sent(units, g) {
-        return Step::Fires(output(links, g, 0));
+        return Ok(Some(output(links, g, 0)));
     }
     let row = look_row(links, values, i);
     send(units, g, row);
-    Step::Fires(output(links, g, 0))
+    Ok(Some(output(links, g, 0)))
 }
 
 // 31 Break: the loop whose body is running ends after this run of it, which goes on.
@@ -195,7 +188,7 @@ fn exec_break(links: &[usize], values: &mut [u8], g: usize) -> Step
     ensures { OverValues links.now (values.old, values.new) (λ c old new. Makes old new result (exec-Break c old.state g)) }
 {
     set_breaking(links, values, true);
-    Step::Fires(output(links, g, 0))
+    Ok(Some(output(links, g, 0)))
 }
 
 // ---- by kind
@@ -225,7 +218,7 @@ pub fn exec(
     ensures slots_stay { SlotsStay links.now delays.new }
 {
     match k {
-        2 => Step::Fires(output(links, g, 0)),
+        2 => Ok(Some(output(links, g, 0))),
         11 | 13 => exec_buffer(links, delays, g),
         15 => exec_stopwatch(links, values, delays, g, pin(links, g, i)),
         16..=17 => exec_queue(links, values, delays, g),
@@ -237,6 +230,6 @@ pub fn exec(
         23 => exec_cycle(links, values, g, pin(links, g, i)),
         24..=25 => exec_send(links, values, units, g),
         31 => exec_break(links, values, g),
-        _ => Step::Ends,
+        _ => Ok(None),
     }
 }

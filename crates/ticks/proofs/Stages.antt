@@ -6,8 +6,7 @@ use mathlib.Core.List.{List, append-nil}
 use native.Mathlib.Omega.{arith}
 use borrow.Author.Tests.{ne_eqb}
 use Rattle.schedule.specs.Schedule.{log_full, no_turn, next_late, next_main, activate_late, activate_main, late_pass, main_pass}
-use Rattle.lists.specs.declared.Filed.{Filed as Answer}
-use Rattle.lists.specs.declared.Filed.TheVariants.{Full, Done}
+use Rattle.lists.specs.Lists.{Filed as Answer, NoRoom, Done}
 use Rattle.model.specs.Base.{if◌then◌otherwise◌}
 use Rattle.model.specs.Circuit.{Circuit}
 use Rattle.model.specs.Wires.{refresh_all}
@@ -43,7 +42,7 @@ no_turns c {Q} h a left stop w e f =
     }
 
 -- a list was full
-pub late_stopped : (c : Circuit) (a : Contents) (left : ℕ) (o : Answer) → o ≡ Full → RanLate c a a left (stop_of o) (record { left = left; stop = 12 })
+pub late_stopped : (c : Circuit) (a : Contents) (left : ℕ) (o : Answer) → o ≡ NoRoom → RanLate c a a left (stop_of o) (record { left = left; stop = 12 })
 unfolding stop_of late_pass
 late_stopped c a left o h =
     rw h

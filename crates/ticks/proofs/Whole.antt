@@ -7,7 +7,7 @@ use native.Mathlib.Omega.{arith}
 use lib.Dec.{eqb}
 use lib.ListN.{length}
 use Rattle.schedule.specs.Schedule.{tick, most_units, late_pass, main_pass, log_full}
-use Rattle.lists.specs.declared.Filed.{Filed}
+use Rattle.lists.specs.Lists.{Filed}
 use Rattle.model.specs.Base.{if◌then◌otherwise◌}
 use Rattle.model.specs.Circuit.{Circuit}
 use Rattle.model.specs.Script.{Given}

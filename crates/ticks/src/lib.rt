@@ -18,7 +18,7 @@ ghost use Rattle.ticks.specs.Stages.{RanLate, RanMain, steps_made, outputs_read,
 ghost use Rattle.ticks.specs.Lent.{TicksAs};
 
 use chain::Ran;
-use lists::Filed;
+use lists::Full;
 use logging::{Head, write_record};
 use opening::open;
 use passes::{late_pass, main_pass};
@@ -41,7 +41,7 @@ fn run_late(
     values: &mut [u8],
     units: &mut [u8],
     delays: &mut [u8],
-    opened: Filed,
+    opened: Result<(), Full>,
     limit: u64,
 ) -> Ran
     requires { Linked links.now × Room values.old × Room units.old × Slots links.now delays.old × FewCalls (net links.now) }
@@ -49,11 +49,11 @@ fn run_late(
     ensures slots_stay { SlotsStay links.now delays.new }
 {
     match opened {
-        Filed::Full => Ran {
+        Err(_) => Ran {
             left: limit,
             stop: LIST_FULL,
         },
-        Filed::Done => late_pass(links, values, units, delays, limit),
+        Ok(()) => late_pass(links, values, units, delays, limit),
     }
 }
 

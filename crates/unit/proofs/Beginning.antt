@@ -8,7 +8,7 @@ use native.Mathlib.Omega.{arith}
 use borrow.Author.Tests.{le-leb, lt-leb, leb-true, eq-eqb, ne_eqb}
 use lib.Dec.{leb, ltb}
 use lib.ListN.{length, length-append, length-map}
-use Rattle.lists.specs.declared.Filed.{Filed}
+use Rattle.lists.specs.Lists.{Filed}
 use Rattle.model.specs.declared.Value.{Value}
 use Rattle.model.specs.Base.{if◌then◌otherwise◌, keep}
 use Rattle.model.specs.Circuit.{Circuit, Call, kind_of_gate, input, output, calls_of}

@@ -5,8 +5,7 @@ use mathlib.Core.Bool.{Bool, true, false}
 use mathlib.Core.List.{List}
 use borrow.Author.Tests.{eq-eqb, ne_eqb}
 use lib.Dec.{eqb}
-use Rattle.lists.specs.declared.Filed.{Filed}
-use Rattle.lists.specs.declared.Filed.TheVariants.{Full, Done}
+use Rattle.lists.specs.Lists.{Filed, NoRoom, Done}
 use Rattle.model.specs.Base.{if◌then◌otherwise◌}
 use Rattle.model.specs.Circuit.{Circuit, output}
 use Rattle.model.specs.State.{Act, State, wires≔}
@@ -29,7 +28,7 @@ use Rattle.unit.specs.Unit.{Result, stop_of, with_left, finished, finished_chain
 
 -- ---- a full list
 
-pub stop_full : (r : Filed) → r ≡ Full → 12 ≡ stop_of r
+pub stop_full : (r : Filed) → r ≡ NoRoom → 12 ≡ stop_of r
 unfolding stop_of
 stop_full r e = rw e
 

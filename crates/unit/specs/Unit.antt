@@ -1,7 +1,6 @@
 -- What the code's unit makes of the areas.
-use Rattle.std.specs.Prelude.{ℕ, ◌≤◌, ◌≡◌, List, eqb, length}
-use Rattle.lists.specs.declared.Filed.{Filed}
-use Rattle.lists.specs.declared.Filed.TheVariants.{Full, Done}
+use Rattle.std.specs.Prelude.{ℕ, ◌≤◌, ◌≡◌, List, eqb, length, Ok, Err}
+use Rattle.lists.specs.Lists.{Filed}
 use Rattle.schedule.specs.Schedule.{list_full}
 use Rattle.model.specs.Base.{if◌then◌otherwise◌}
 use Rattle.model.specs.Circuit.{Circuit, calls_of}
@@ -37,8 +36,8 @@ pub record Result : Type 0 where
 
 -- a list that was full stops the tick
 unfoldable pub stop_of : Filed → ℕ
-stop_of Full = list_full
-stop_of Done = 0
+stop_of (Err e) = list_full
+stop_of (Ok u) = 0
 
 -- what filing led to
 unfoldable pub with_left : ℕ → Went → Result

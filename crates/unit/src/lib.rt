@@ -20,7 +20,7 @@ use chain::Ran;
 use chain::pushing::push_calls;
 use kinds::numbers::STOPWATCH;
 use links::{constant, input, kind_of_gate, output};
-use lists::Filed;
+use lists::Full;
 use loops::run_chain;
 use records::forms::STIMULUS;
 use settling::check_waiting;
@@ -67,11 +67,9 @@ fn set_event(links: &[usize], values: &mut [u8], units: &[u8], o: usize, e: usiz
     requires { Linked links.now × Room values.old × Room units.now × (o < 131072) × (e < length (units_view (net links.now) units.now).events) }
     ensures { Turns links.now (values.old, values.new) (λ c w. set_outs c w o (get_or (map (λ m. m.row) (units_in links.now units.now).events) e [])) }
 {
-    let mut j = 0;
-    while j < ROW {
+    for j in 0..ROW {
         let v = event_value(units, e, j);
         set_out(links, values, o + j, v);
-        j += 1;
     }
 }
 
@@ -131,10 +129,12 @@ fn begin(links: &[usize], units: &mut [u8], g: usize, form: usize)
 {
     clear_calls(units);
     if is_pin(form) {
-        push_call(units, input(links, g, form - 16));
+        // one call fits where none waits
+        let _ = push_call(units, input(links, g, form - 16));
         return;
     }
-    push_calls(links, units, fired(links, g, form));
+    // as do those of an output
+    let _ = push_calls(links, units, fired(links, g, form));
 }
 
 // The calls that a unit makes first.
@@ -151,12 +151,12 @@ fn begin_act(links: &[usize], units: &mut [u8], a: Act)
 // ---- its chain, and what follows
 
 // A full list stops the tick.
-fn stop_of(filed: Filed) -> u64
+fn stop_of(filed: Result<(), Full>) -> u64
     ensures { result ≡ stop_of filed }
 {
     match filed {
-        Filed::Full => LIST_FULL,
-        Filed::Done => 0,
+        Err(_) => LIST_FULL,
+        Ok(()) => 0,
     }
 }
 

@@ -8,9 +8,7 @@ use borrow.Rule.Slice.PartMut.{put_mid}
 use lib.Dec.{ltb}
 use lib.ListN.{length, take, drop, length-map, length-reverse}
 use Rattle.words.specs.Words.{words}
-use Rattle.lists.specs.declared.Filed.{Filed}
-use Rattle.lists.specs.declared.Filed.TheVariants.{Full, Done}
-use Rattle.lists.specs.Lists.{stacked, appended, filed, if_room}
+use Rattle.lists.specs.Lists.{stacked, appended, filed, if_room, Filed, NoRoom, Done}
 use Rattle.schedule.proofs.Erase.{map_append}
 use Rattle.lists.proofs.Stacks.{appended_push}
 use Rattle.model.specs.Base.{snoc}
@@ -51,13 +49,13 @@ pub begun_pushed :
     (r ≡ filed 1024 (stacked 1024 (words (take 8200 (drop 10816 bs)))))
     × (stacked 1024 (words p) ≡ if_room 1024 (stacked 1024 (words (take 8200 (drop 10816 bs)))) (x ∷ stacked 1024 (words (take 8200 (drop 10816 bs))))) →
     (c : Circuit) →
-    (r ≡ cond (ltb (length (units c bs).begun) 1024) Done Full)
+    (r ≡ cond (ltb (length (units c bs).begun) 1024) Done NoRoom)
     × (units c (put_mid 10816 8200 bs p) ≡ with_begun (units c bs) (cond (ltb (length (units c bs).begun) 1024) (snoc (units c bs).begun (listed_of x)) (units c bs).begun))
 unfolding filed
 begun_pushed bs p x r l e q c =
     let st = stacked 1024 (words (take 8200 (drop 10816 bs))) in
     let v : map listed_of (reverse st) ≡ (units c bs).begun = begun_lent c bs in (
-      q.0 ∙ ap (λ (n : ℕ). cond (ltb n 1024) Done Full) (sym (begun_length st) ∙ ap length v),
+      q.0 ∙ ap (λ (n : ℕ). cond (ltb n 1024) Done NoRoom) (sym (begun_length st) ∙ ap length v),
       begun_back c bs p l e
           ∙ ap (with_begun (units c bs))
           (ap (λ (y : List ℕ). map listed_of (reverse y)) q.1 ∙ begun_more st x ∙ ap (λ (b : List Listed). cond (ltb (length b) 1024) (snoc b (listed_of x)) b) v),

@@ -9,10 +9,8 @@ use lib.Dec.{leb, ltb}
 use lib.ListN.{length, take, drop}
 use borrow.Author.Tests.{le-leb, lt-leb}
 use Rattle.words.specs.Words.{words}
-use Rattle.lists.specs.declared.Filed.{Filed}
-use Rattle.lists.specs.declared.Taken.{Taken}
-use Rattle.lists.specs.declared.Taken.TheVariants.{Empty}
-use Rattle.lists.specs.Lists.{stacked, queued, filed, if_room, taken, Emptied}
+use Rattle.std.specs.Prelude.{Option, None}
+use Rattle.lists.specs.Lists.{stacked, queued, filed, if_room, taken, Emptied, Filed}
 use Rattle.model.specs.Base.{if◌then◌otherwise◌, snoc}
 use Rattle.model.specs.Circuit.{Circuit}
 use Rattle.model.specs.Chain.{Calls, no_calls, pop_fork, pop}
@@ -115,7 +113,7 @@ left q (i ∷ fs) e = refl
 
 -- The stack has one above, which is taken off.
 pub call_popped :
-    (bs p : List ℕ) (t : Taken) (under n : ℕ) (inside : Bool) → 65536 ≤ length bs → length p ≡ 2056 →
+    (bs p : List ℕ) (t : Option ℕ) (under n : ℕ) (inside : Bool) → 65536 ≤ length bs → length p ≡ 2056 →
     ((c : Circuit) → n ≡ length (units c bs).calls.stack) → under < n →
     (t ≡ taken (stacked 256 (words (take 2056 bs)))) × (stacked 256 (words p) ≡ drop 1 (stacked 256 (words (take 2056 bs)))) →
     (c : Circuit) → Pops (units c bs) (units c (put_mid 0 2056 bs p)) t (pop inside under (units c bs).calls.stack (units c bs).calls.forks)
@@ -129,14 +127,14 @@ call_popped bs p t under n inside l e m h q c =
 -- None is above, and the forks wait.
 pub none_popped :
     (bs : List ℕ) (under n : ℕ) (inside : Bool) → ((c : Circuit) → n ≡ length (units c bs).calls.stack) → n ≤ under → inside ≡ true →
-    (c : Circuit) → Pops (units c bs) (units c bs) Empty (pop inside under (units c bs).calls.stack (units c bs).calls.forks)
+    (c : Circuit) → Pops (units c bs) (units c bs) None (pop inside under (units c bs).calls.stack (units c bs).calls.forks)
 unfolding pop_fork popped calls_left
 none_popped bs under n inside m h e c =
     let k = pop_below inside under (units c bs).calls.stack (units c bs).calls.forks (omega (arith, h, m c)) in rw (k, e) (refl, refl)
 
 -- None is above: what there is of the forks is taken off.
 pub fork_popped :
-    (bs d : List ℕ) (r : Taken) (under n : ℕ) (inside : Bool) → 65536 ≤ length bs → length d ≡ 2064 →
+    (bs d : List ℕ) (r : Option ℕ) (under n : ℕ) (inside : Bool) → 65536 ≤ length bs → length d ≡ 2064 →
     ((c : Circuit) → n ≡ length (units c bs).calls.stack) → n ≤ under → inside ≡ false →
     (r ≡ taken (queued 256 (words (take 2064 (drop 2056 bs))))) × (queued 256 (words d) ≡ drop 1 (queued 256 (words (take 2064 (drop 2056 bs))))) →
     (c : Circuit) → Pops (units c bs) (units c (put_mid 2056 2064 bs d)) r (pop inside under (units c bs).calls.stack (units c bs).calls.forks)

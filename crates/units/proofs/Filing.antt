@@ -12,11 +12,9 @@ use lib.Seq.{length-take-le}
 use Rattle.words.specs.Words.{words, tail}
 use Rattle.words.specs.Tables.{base}
 use Rattle.schedule.specs.Schedule.{Filed, full, filed, room}
-use Rattle.lists.specs.Lists.{stacked, appended, ranked, queued, if_room, taken}
+use Rattle.lists.specs.Lists.{stacked, appended, ranked, queued, if_room, taken, Filed as Answer, NoRoom, Done}
 use Rattle.lists.specs.Lists as lists
-use Rattle.lists.specs.declared.Filed.{Filed as Answer}
-use Rattle.lists.specs.declared.Filed.TheVariants.{Full, Done}
-use Rattle.lists.specs.declared.Taken.{Taken}
+use Rattle.std.specs.Prelude.{Option}
 use Rattle.lists.proofs.Stacks.{appended_push}
 use Rattle.model.specs.Base.{snoc}
 use Rattle.model.specs.Circuit.{Circuit, rank_of_gate}
@@ -57,7 +55,7 @@ units_back c u p n k l h e = rw (lent_back u p n k l h e, lent_tail u p n k l h 
 
 -- A list l of at most `most`, which is m with one more: the answer r, and the list k after it.
 abbrev pub Grown : {A : Type 0} → ℕ → List A → List A → Answer → List A → Type 0
-Grown most l m r k = (r ≡ cond (ltb (length l) most) Done Full) × (k ≡ cond (ltb (length l) most) m l)
+Grown most l m r k = (r ≡ cond (ltb (length l) most) Done NoRoom) × (k ≡ cond (ltb (length l) most) m l)
 
 -- of what the entries stand for
 pub grown_map : {A : Type 0} (f : ℕ → A) (most : ℕ) (l m k : List ℕ) (r : Answer) → r ≡ lists.filed most l → k ≡ if_room most l m → Grown most (map f l) (map f m) r (map f k)
@@ -69,7 +67,7 @@ grown_map f most l m k r er ek = (er ∙ rw (length-map l f), ap (map f) ek ∙ 
     go false = refl
 
 -- the answer and the lists, by whether there was room
-raised : (v v' : Units) (b : Bool) (q : Lists) (r : Answer) → r ≡ cond b Done Full → v' ≡ with_lists v (cond b q v.lists)
+raised : (v v' : Units) (b : Bool) (q : Lists) (r : Answer) → r ≡ cond b Done NoRoom → v' ≡ with_lists v (cond b q v.lists)
     → (r ≡ answer (cond b (filed q) full)) × (v' ≡ with_lists v (lists_after v.lists (cond b (filed q) full)))
 unfolding answer lists_after
 raised v v' true q r er ev = (er, ev)
@@ -113,7 +111,7 @@ grown_snoc f most l k x r er ek =
 -- ---- one taken off
 
 -- what was taken is the first
-pub first_taken : (f : ℕ → Act) (l : List ℕ) (r : Taken) → r ≡ taken l → act_taken f r ≡ first_of (map f l)
+pub first_taken : (f : ℕ → Act) (l : List ℕ) (r : Option ℕ) → r ≡ taken l → act_taken f r ≡ first_of (map f l)
 unfolding taken act_taken first_of
 first_taken f [] r e = rw e
 first_taken f (x ∷ l) r e = rw e
@@ -165,7 +163,7 @@ abbrev pub Raised : Circuit → List ℕ → List ℕ → Filed Lists → Answer
 Raised c u u' f r = (r ≡ answer f) × (units c u' ≡ with_lists (units c u) (lists_after (units c u).lists f))
 
 -- What a function that takes ensures: what was taken, and the area from u to u'.
-abbrev pub Took : Circuit → List ℕ → List ℕ → (ℕ → Act) → List Act → Lists → Taken → Type 0
+abbrev pub Took : Circuit → List ℕ → List ℕ → (ℕ → Act) → List Act → Lists → Option ℕ → Type 0
 Took c u u' f l q r = (act_taken f r ≡ first_of l) × (units c u' ≡ with_lists (units c u) q)
 
 module _ (c : Circuit) (u p : List ℕ) (h : 65536 ≤ length u) where
@@ -228,7 +226,7 @@ module _ (c : Circuit) (u p : List ℕ) (h : 65536 ≤ length u) where
       ∙ ap (with_lists (units c u)) (delivered_cond l (ltb (length l.delivered) 64) (snoc l.delivered (f x))))
 
   -- the functions that take
-  pub late_taken : (r : Taken) → length p ≡ length (take 2056 (drop 6176 u)) → r ≡ taken (stacked 256 (words (take 2056 (drop 6176 u))))
+  pub late_taken : (r : Option ℕ) → length p ≡ length (take 2056 (drop 6176 u)) → r ≡ taken (stacked 256 (words (take 2056 (drop 6176 u))))
       → stacked 256 (words p) ≡ drop 1 (stacked 256 (words (take 2056 (drop 6176 u))))
       → Took c u (put_mid 6176 2056 u p) (act_of c) (units c u).lists.late (late≔ (units c u).lists (drop 1 (units c u).lists.late)) r
   unfolding units
@@ -239,7 +237,7 @@ module _ (c : Circuit) (u p : List ℕ) (h : 65536 ≤ length u) where
             ∙ ap (λ (k : List Act). with_lists (units c u) (late≔ (units c u).lists k)) (map_drop (act_of c) (stacked 256 (words (take 2056 (drop 6176 u)))) (stacked 256 (words p)) ek ∙ ap (drop {A = Act} 1) q),
       )
 
-  pub pending_taken : (r : Taken) → length p ≡ length (take 2056 (drop 4120 u)) → r ≡ taken (stacked 256 (words (take 2056 (drop 4120 u))))
+  pub pending_taken : (r : Option ℕ) → length p ≡ length (take 2056 (drop 4120 u)) → r ≡ taken (stacked 256 (words (take 2056 (drop 4120 u))))
       → stacked 256 (words p) ≡ drop 1 (stacked 256 (words (take 2056 (drop 4120 u))))
       → Took c u (put_mid 4120 2056 u p) (act_of c) (units c u).lists.pending (pending≔ (units c u).lists (drop 1 (units c u).lists.pending)) r
   unfolding units
@@ -250,7 +248,7 @@ module _ (c : Circuit) (u p : List ℕ) (h : 65536 ≤ length u) where
             ∙ ap (λ (k : List Act). with_lists (units c u) (pending≔ (units c u).lists k)) (map_drop (act_of c) (stacked 256 (words (take 2056 (drop 4120 u)))) (stacked 256 (words p)) ek ∙ ap (drop {A = Act} 1) q),
       )
 
-  pub delivered_taken : (r : Taken) → length p ≡ length (take 528 (drop 10288 u)) → r ≡ taken (queued 64 (words (take 528 (drop 10288 u))))
+  pub delivered_taken : (r : Option ℕ) → length p ≡ length (take 528 (drop 10288 u)) → r ≡ taken (queued 64 (words (take 528 (drop 10288 u))))
       → queued 64 (words p) ≡ drop 1 (queued 64 (words (take 528 (drop 10288 u))))
       → Took c u (put_mid 10288 528 u p) (event_of (units c u).events) (units c u).lists.delivered (delivered≔ (units c u).lists (drop 1 (units c u).lists.delivered)) r
   unfolding units

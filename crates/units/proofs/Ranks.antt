@@ -9,9 +9,7 @@ use borrow.Author.Tests.{le-leb, lt-leb, lt-ltb, le-ltb}
 use lib.Dec.{leb, ltb}
 use lib.ListN.{length, get_or, set, length-map, length-set}
 use lib.Seq.{get_or-set_same, get_or-set_other}
-use Rattle.lists.specs.Lists.{downward, stacked}
-use Rattle.lists.specs.declared.Filed.{Filed}
-use Rattle.lists.specs.declared.Filed.TheVariants.{Full, Done}
+use Rattle.lists.specs.Lists.{downward, stacked, Filed, NoRoom, Done}
 use Rattle.lists.proofs.Stacks.{stacked_is, downward_other, stacked_set}
 use Rattle.model.specs.Circuit.{Circuit, rank_of_gate}
 use Rattle.model.specs.State.{Act}
@@ -87,12 +85,18 @@ module _ (c : Circuit) where
   placed_stop x (suc i) w h k = rw (add-one, lt-leb (entry_rank (get_or w (suc i) 0)) (entry_rank x) k)
 
   -- the turns of the loop: r is what all turns come to
-  module _ (x i y g s t : ℕ) (w w' r : List ℕ) (es : s ≡ entry_rank x) (h : 0 < i) (inv : placed x i w ≡ r) (e : y ≡ get_or w i 0) (eg : g ≡ gate_of y) (et : t ≡ rank_of_gate c g) where
-    pub place_stop : s < t → w' ≡ set w (i + 1) x → w' ≡ r
-    place_stop k q = q ∙ sym (placed_stop x i w h (rw (es, et, eg, e) at k)) ∙ inv
+  module _ (x i y g s t : ℕ) (w w' r : List ℕ) (es : s ≡ entry_rank x) (h : 0 < i) (inv : placed x i w ≡ r) (e : y ≡ get_or w (i - 1 + 1) 0) (eg : g ≡ gate_of y) (et : t ≡ rank_of_gate c g) where
+    here : y ≡ get_or w i 0
+    here = let p : i - 1 + 1 ≡ i = omega arith in e ∙ ap (λ (j : ℕ). get_or w j 0) p
 
-    pub place_keep : t ≤ s → w' ≡ set w (i + 1) y → placed x (i - 1) w' ≡ r
-    place_keep k q = rw (q, e) (sym (placed_keep x i w h (rw (es, et, eg, e) at k)) ∙ inv)
+    above : i - 1 + 2 ≡ i + 1
+    above = omega arith
+
+    pub place_stop : s < t → w' ≡ set w (i - 1 + 2) x → w' ≡ r
+    place_stop k q = q ∙ ap (λ (j : ℕ). set w j x) above ∙ sym (placed_stop x i w h (rw (es, et, eg, here) at k)) ∙ inv
+
+    pub place_keep : t ≤ s → w' ≡ set w (i - 1 + 2) y → placed x (i - 1) w' ≡ r
+    place_keep k q = rw (q, above, here) (sym (placed_keep x i w h (rw (es, et, eg, here) at k)) ∙ inv)
 
   -- all entries have moved up
   pub place_last : (x i : ℕ) (w w' r : List ℕ) → i ≤ 0 → placed x i w ≡ r → w' ≡ set w 1 x → w' ≡ r
@@ -102,10 +106,10 @@ module _ (c : Circuit) where
 
   -- What `file` ensures: its answer, and the list that was l.
   abbrev pub File : ℕ → List Act → Filed → List Act → Type 0
-  File x l r k = (r ≡ cond (ltb (length l) 256) Done Full) × (k ≡ cond (ltb (length l) 256) (by_rank c (act_of c x) l) l)
+  File x l r k = (r ≡ cond (ltb (length l) 256) Done NoRoom) × (k ≡ cond (ltb (length l) 256) (by_rank c (act_of c x) l) l)
 
   -- `file` of a list that is full
-  pub file_full : (x n : ℕ) (w : List ℕ) → n ≡ length (stacked 256 w) → 256 ≤ n → File x (map (act_of c) (stacked 256 w)) Full (map (act_of c) (stacked 256 w))
+  pub file_full : (x n : ℕ) (w : List ℕ) → n ≡ length (stacked 256 w) → 256 ≤ n → File x (map (act_of c) (stacked 256 w)) NoRoom (map (act_of c) (stacked 256 w))
   file_full x n w e h =
       let k : ltb (length (map (act_of c) (stacked 256 w))) 256 ≡ false = le-ltb (length (map (act_of c) (stacked 256 w))) 256 (omega (arith, length-map (stacked 256 w) (act_of c))) in
       (rw k, rw k)

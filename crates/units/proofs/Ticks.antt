@@ -11,8 +11,7 @@ use lib.ListN.{length, get_or, set, drop, length-map, length-reverse}
 use lib.Seq.{get_or-set_same, get_or-set_other}
 use Rattle.words.specs.Words.{words, tail, Stored}
 use Rattle.words.specs.Tables.{base, marked}
-use Rattle.lists.specs.Lists.{stacked, appended, queued}
-use Rattle.lists.specs.declared.Filed.{Filed as Answer}
+use Rattle.lists.specs.Lists.{stacked, appended, queued, Filed as Answer}
 use Rattle.lists.proofs.Stacks.{stacked_length, stacked_none, entry_is}
 use Rattle.lists.proofs.Rings.{queued_none}
 use Rattle.model.specs.Base.{if◌then◌otherwise◌, from}

@@ -1,10 +1,8 @@
 -- What the functions of the area change and answer, beside what is raised: calls, units begun, events.
 use Rattle.std.specs.Prelude.{ℕ, cond, ◌||◌, List, [], ◌∷◌, map, leb, ltb, length}
 use Rattle.std.proofs.Math.Option.{Option, none, some}
-use Rattle.lists.specs.declared.Filed.{Filed}
-use Rattle.lists.specs.declared.Filed.TheVariants.{Full, Done}
-use Rattle.lists.specs.declared.Taken.{Taken}
-use Rattle.lists.specs.declared.Taken.TheVariants.{Empty, Entry}
+use Rattle.lists.specs.Lists.{Filed, NoRoom, Done}
+use Rattle.std.specs.Prelude.{Option as Found, None, Some}
 use Rattle.model.specs.Base.{if◌then◌otherwise◌, snoc, among}
 use Rattle.model.specs.Circuit.{Circuit, most_gates}
 use Rattle.model.specs.State.{Act, Send}
@@ -34,7 +32,7 @@ forks≔ q fs = record { stack = q.stack; forks = fs }
 
 -- whether one more call fits
 unfoldable pub fits_one : List ℕ → Filed
-fits_one l = cond (ltb (length l) most_calls) Done Full
+fits_one l = cond (ltb (length l) most_calls) Done NoRoom
 
 -- one more call on the stack, if it fits
 unfoldable pub called : ℕ → Calls → Calls
@@ -45,9 +43,9 @@ unfoldable pub forked : ℕ → Calls → Calls
 forked i q = cond (ltb (length q.forks) most_calls) (forks≔ q (snoc q.forks i)) q
 
 -- the call to make next
-unfoldable pub popped : Option Popped → Taken
-popped none = Empty
-popped (some p) = Entry p.input
+unfoldable pub popped : Option Popped → Found ℕ
+popped none = None
+popped (some p) = Some p.input
 
 -- the calls after it
 unfoldable pub calls_left : Calls → Option Popped → Calls
@@ -67,9 +65,9 @@ first_of [] = none
 first_of (a ∷ l) = some a
 
 -- the act of what was taken
-unfoldable pub act_taken : (ℕ → Act) → Taken → Option Act
-act_taken act Empty = none
-act_taken act (Entry x) = some (act x)
+unfoldable pub act_taken : (ℕ → Act) → Found ℕ → Option Act
+act_taken act None = none
+act_taken act (Some x) = some (act x)
 
 -- ---- the next tick
 

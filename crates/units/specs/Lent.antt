@@ -3,10 +3,8 @@ use Rattle.std.specs.Prelude.{ℕ, ◌≡◌, cond, List, map, ltb, length, drop
 use Rattle.std.proofs.Math.Option.{Option}
 use Rattle.words.specs.Slices.{Slice, before, after}
 use Rattle.schedule.specs.Schedule.{Filed, room, most_units, most_waiting}
-use Rattle.lists.specs.declared.Filed.{Filed as Answer}
-use Rattle.lists.specs.declared.Filed.TheVariants.{Full, Done}
-use Rattle.lists.specs.declared.Taken.{Taken}
-use Rattle.lists.specs.Lists.{ranked}
+use Rattle.std.specs.Prelude.{Option as Found}
+use Rattle.lists.specs.Lists.{ranked, Filed as Answer, NoRoom, Done}
 use Rattle.model.specs.Base.{snoc}
 use Rattle.model.specs.Circuit.{Circuit}
 use Rattle.model.specs.State.{Act, Send}
@@ -47,13 +45,13 @@ abbrev pub TakesOff : Units → Units → Option Act → List Act → (List Act 
 TakesOff u v r l k = (r ≡ first_of l) × (v ≡ with_lists u (k (drop 1 l)))
 
 -- p is the next call, and it was taken
-abbrev pub Pops : Units → Units → Taken → Option Popped → Type 0
+abbrev pub Pops : Units → Units → Found ℕ → Option Popped → Type 0
 Pops u v r p = (r ≡ popped p) × (v ≡ with_calls u (calls_left u.calls p))
 
 -- the unit of entry x was listed among those begun, if there was room
 abbrev pub ListsUnit : Units → Units → Answer → ℕ → Type 0
 ListsUnit u v r x =
-    (r ≡ cond (ltb (length u.begun) most_units) Done Full)
+    (r ≡ cond (ltb (length u.begun) most_units) Done NoRoom)
     × (v ≡ with_begun u (cond (ltb (length u.begun) most_units) (snoc u.begun (listed_of x)) u.begun))
 
 -- the two halves of the events have changed places, or were cleared
@@ -69,5 +67,5 @@ waits_in c ws = map (act_of c) (ranked most_waiting ws)
 -- entry x was filed, if there was room: the list's words were ws and are xs
 abbrev pub FilesByRank : Circuit → List ℕ → List ℕ → Answer → ℕ → Type 0
 FilesByRank c ws xs r x =
-    (r ≡ cond (ltb (length (waits_in c ws)) most_waiting) Done Full)
+    (r ≡ cond (ltb (length (waits_in c ws)) most_waiting) Done NoRoom)
     × (waits_in c xs ≡ cond (ltb (length (waits_in c ws)) most_waiting) (by_rank c (act_of c x) (waits_in c ws)) (waits_in c ws))

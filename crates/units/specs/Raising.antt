@@ -1,8 +1,7 @@
 -- Where what is raised goes: `activate`, over lists of what waits, and raising one after the other, up to the first that finds its list full.
 use Rattle.std.specs.Prelude.{ℕ, cond, List, [], ◌∷◌, leb}
 use Rattle.schedule.specs.Schedule.{Raise, When, by_rank as ranked, put_off, Filed, full, filed, room, most_waiting, most_delivered}
-use Rattle.lists.specs.declared.Filed.{Filed as Answer}
-use Rattle.lists.specs.declared.Filed.TheVariants.{Full, Done}
+use Rattle.lists.specs.Lists.{Filed as Answer, NoRoom, Done}
 use Rattle.model.specs.Base.{snoc}
 use Rattle.model.specs.Circuit.{Circuit, rank_of_gate}
 use Rattle.model.specs.State.{Act, State}
@@ -68,7 +67,7 @@ deliver a l = room l.delivered most_delivered (delivered≔ l (snoc l.delivered 
 
 -- whether there was room
 unfoldable pub answer : Filed Lists → Answer
-answer full = Full
+answer full = NoRoom
 answer (filed l) = Done
 
 -- the lists after it
@@ -86,4 +85,4 @@ pub record Went : Type 0 where
 unfoldable pub raise_into : {P : Type 0} → (P → Act → Lists → Filed Lists) → List (Raise State Act P) → Lists → State → Went
 raise_into file [] l s = record { state = s; lists = l; answer = Done }
 raise_into file (r ∷ rs) l s =
-    elim (file r.place r.act l) [ full ↦ record { state = r.at; lists = l; answer = Full } | filed k ↦ raise_into file rs k s ]
+    elim (file r.place r.act l) [ full ↦ record { state = r.at; lists = l; answer = NoRoom } | filed k ↦ raise_into file rs k s ]

@@ -5,11 +5,11 @@ ghost use Rattle.links.specs.Lent.{Room};
 ghost use Rattle.units.specs.Lent.{Reads, Changes, ListsUnit};
 
 use crate::layout::{BEGUN, BEGUN_END};
-use lists::{Filed, count, stack_push};
+use lists::{Full, count, stack_push};
 use records::MOST_UNITS;
 
 // The unit of entry x begins, if one more may: it joins the units begun.
-pub fn begin_unit(units: &mut [u8], x: u64) -> Filed
+pub fn begin_unit(units: &mut [u8], x: u64) -> Result<(), Full>
     requires { Room units.old }
     ensures { Changes (units.old, units.new) (λ _ old new. ListsUnit old new result x) }
 {

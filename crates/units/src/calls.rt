@@ -6,10 +6,10 @@ ghost use Rattle.units.specs.Calls.{with_calls, fits_one, called, forked};
 ghost use Rattle.units.specs.Lent.{Reads, Changes, Pops};
 
 use crate::layout::{FORKS, MOST_CALLS, PENDING, STACK};
-use lists::{Filed, Taken, clear, count, dequeue, enqueue, stack_pop, stack_push};
+use lists::{Full, clear, count, dequeue, enqueue, stack_pop, stack_push};
 
 // A call on top of the chain stack, if there is room.
-pub fn push_call(units: &mut [u8], i: usize) -> Filed
+pub fn push_call(units: &mut [u8], i: usize) -> Result<(), Full>
     requires { Room units.old }
     ensures { Changes (units.old, units.new) (λ _ old new. (result ≡ fits_one old.calls.stack) × (new ≡ with_calls old (called i old.calls))) }
 {
@@ -17,7 +17,7 @@ pub fn push_call(units: &mut [u8], i: usize) -> Filed
 }
 
 // A call behind the forks, if there is room.
-pub fn push_fork(units: &mut [u8], i: usize) -> Filed
+pub fn push_fork(units: &mut [u8], i: usize) -> Result<(), Full>
     requires { Room units.old }
     ensures { Changes (units.old, units.new) (λ _ old new. (result ≡ fits_one old.calls.forks) × (new ≡ with_calls old (forked i old.calls))) }
 {
@@ -41,7 +41,7 @@ pub fn forks_waiting(units: &[u8]) -> usize
 }
 
 // The next call to make is taken off: from the stack, as long as more than `under` wait there, else from the forks, which wait while a body is running.
-pub fn pop_call(units: &mut [u8], under: usize, inside: bool) -> Taken
+pub fn pop_call(units: &mut [u8], under: usize, inside: bool) -> Option<u64>
     requires { Room units.old }
     ensures { Changes (units.old, units.new) (λ _ old new. Pops old new result (pop inside under old.calls.stack old.calls.forks)) }
 {
@@ -49,7 +49,7 @@ pub fn pop_call(units: &mut [u8], under: usize, inside: bool) -> Taken
         return stack_pop(&mut units[STACK..FORKS], MOST_CALLS);
     }
     if inside {
-        return Taken::Empty;
+        return None;
     }
     dequeue(&mut units[FORKS..PENDING], MOST_CALLS)
 }

@@ -22,7 +22,7 @@ use crate::layout::{
     STACK_COUNT,
 };
 use links::rank_of_gate;
-use lists::{Filed, Taken, dequeue, enqueue, stack_pop, stack_push};
+use lists::{Full, dequeue, enqueue, stack_pop, stack_push};
 use records::MOST_WAITING;
 use words::{get, put};
 
@@ -31,35 +31,33 @@ fn place(links: &[usize], list: &mut [u8], n: usize, x: u64, rank: u64)
     requires { Linked links.now × ((n + 2) * 8 ≤ length list.old) × (n < most_units) × (rank ≡ rank_of_gate (net links.now) (gate_of x)) }
     ensures { map (act_of (net_of links.now)) (downward (n + 1) (words list.new)) ≡ by_rank (net_of links.now) (act_of (net_of links.now) x) (map (act_of (net_of links.now)) (downward n (words list.old))) }
 {
-    let mut i = n;
-    while 0 < i {
-        let y = get(list, i);
+    for i in (0..n).rev() {
+        let y = get(list, i + 1);
         if rank < rank_of_gate(links, gate_of(y)) {
-            put(list, i + 1, x);
+            put(list, i + 2, x);
             return;
         }
-        put(list, i + 1, y);
-        i -= 1;
+        put(list, i + 2, y);
     }
     put(list, 1, x);
 }
 
 // x, of that rank, joins a list by rank, behind all whose rank is not above its own, if there is room.
-fn file(links: &[usize], list: &mut [u8], x: u64, rank: u64) -> Filed
+fn file(links: &[usize], list: &mut [u8], x: u64, rank: u64) -> Result<(), Full>
     requires { Linked links.now × (length list.old ≡ (most_waiting + 1) * 8) × (rank ≡ rank_of_gate (net links.now) (gate_of x)) }
     ensures { FilesByRank (net_of links.now) (words list.old) (words list.new) result x }
 {
     let n = lists::count(list, MOST_WAITING);
     if MOST_WAITING <= n {
-        return Filed::Full;
+        return Err(Full);
     }
     place(links, list, n, x, rank);
     put(list, 0, (n + 1) as u64);
-    Filed::Done
+    Ok(())
 }
 
 // x, of that rank, joins the late list, if there is room.
-fn file_late(links: &[usize], units: &mut [u8], x: u64, rank: u64) -> Filed
+fn file_late(links: &[usize], units: &mut [u8], x: u64, rank: u64) -> Result<(), Full>
     requires { Linked links.now × Room units.old × (rank ≡ rank_of_gate (net links.now) (gate_of x)) }
     ensures { UnitsChange links.now (units.old, units.new) (λ c old new. Files old new result (activate c Late (act_of c x) old.lists)) }
 {
@@ -67,7 +65,7 @@ fn file_late(links: &[usize], units: &mut [u8], x: u64, rank: u64) -> Filed
 }
 
 // x, of that rank, joins the pending list, if there is room.
-fn file_pending(links: &[usize], units: &mut [u8], x: u64, rank: u64) -> Filed
+fn file_pending(links: &[usize], units: &mut [u8], x: u64, rank: u64) -> Result<(), Full>
     requires { Linked links.now × Room units.old × (rank ≡ rank_of_gate (net links.now) (gate_of x)) }
     ensures { UnitsChange links.now (units.old, units.new) (λ c old new. Files old new result (activate c Pending (act_of c x) old.lists)) }
 {
@@ -75,7 +73,7 @@ fn file_pending(links: &[usize], units: &mut [u8], x: u64, rank: u64) -> Filed
 }
 
 // x is carried, behind the others, if there is room.
-fn carry(units: &mut [u8], x: u64) -> Filed
+fn carry(units: &mut [u8], x: u64) -> Result<(), Full>
     requires { Room units.old }
     ensures { Changes (units.old, units.new) (λ c old new. Files old new result (carry (act_of c x) old.lists)) }
 {
@@ -83,7 +81,7 @@ fn carry(units: &mut [u8], x: u64) -> Filed
 }
 
 // x goes where it belongs, if there is room.
-pub fn activate(links: &[usize], units: &mut [u8], to: Place, x: u64) -> Filed
+pub fn activate(links: &[usize], units: &mut [u8], to: Place, x: u64) -> Result<(), Full>
     requires { Linked links.now × Room units.old }
     ensures { UnitsChange links.now (units.old, units.new) (λ c old new. Files old new result (activate c to (act_of c x) old.lists)) }
 {
@@ -102,7 +100,7 @@ pub fn activate(links: &[usize], units: &mut [u8], to: Place, x: u64) -> Filed
 }
 
 // Event e is delivered to gate g, behind the others, if there is room.
-pub fn deliver(units: &mut [u8], g: usize, e: usize) -> Filed
+pub fn deliver(units: &mut [u8], g: usize, e: usize) -> Result<(), Full>
     requires { Room units.old }
     ensures { Changes (units.old, units.new) (λ _ old new. Files old new result (deliver (event_of old.events (entry_of g 1 e)) old.lists)) }
 {
@@ -111,7 +109,7 @@ pub fn deliver(units: &mut [u8], g: usize, e: usize) -> Filed
 }
 
 // The next one of the late list is taken off.
-pub fn take_late(units: &mut [u8]) -> Taken
+pub fn take_late(units: &mut [u8]) -> Option<u64>
     requires { Room units.old }
     ensures { Changes (units.old, units.new) (λ c old new. TakesOff old new (act_taken (act_of c) result) old.lists.late (late≔ old.lists)) }
 {
@@ -119,7 +117,7 @@ pub fn take_late(units: &mut [u8]) -> Taken
 }
 
 // The oldest of the delivered events is taken off.
-pub fn take_delivered(units: &mut [u8]) -> Taken
+pub fn take_delivered(units: &mut [u8]) -> Option<u64>
     requires { Room units.old }
     ensures { Changes (units.old, units.new) (λ _ old new. TakesOff old new (act_taken (event_of old.events) result) old.lists.delivered (delivered≔ old.lists)) }
 {
@@ -127,7 +125,7 @@ pub fn take_delivered(units: &mut [u8]) -> Taken
 }
 
 // The next one that is pending is taken off.
-pub fn take_pending(units: &mut [u8]) -> Taken
+pub fn take_pending(units: &mut [u8]) -> Option<u64>
     requires { Room units.old }
     ensures { Changes (units.old, units.new) (λ c old new. TakesOff old new (act_taken (act_of c) result) old.lists.pending (pending≔ old.lists)) }
 {
@@ -149,11 +147,10 @@ fn file_carried(links: &[usize], units: &mut [u8])
     ensures { UnitsChange links.now (units.old, units.new) (λ c old new. new ≡ with_lists old (late≔ old.lists (all_by_rank c old.lists.carried []))) }
 {
     let n = carried(units);
-    let mut k: usize = 0;
-    while k < n {
+    for k in 0..n {
         let x = get(units, CARRIED_COUNT + (k + 1));
-        file_late(links, units, x, rank_of_gate(links, gate_of(x)));
-        k += 1;
+        // the late list began empty, and has room for all carried
+        let _ = file_late(links, units, x, rank_of_gate(links, gate_of(x)));
     }
 }
 

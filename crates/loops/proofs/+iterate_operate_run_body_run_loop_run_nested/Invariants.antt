@@ -1,5 +1,5 @@
 use mathlib.Core.Path.{◌≡◌}
-use Prim.Native.Nat.{◌+◌, ◌-◌, ◌*◌, ◌≤◌}
+use Prim.Native.Nat.{◌+◌, ◌-◌, ◌*◌}
 use lib.ListN.{length}
 use Rattle.links.specs.Links.{net}
 use Rattle.states.specs.View.{Lent}
@@ -25,14 +25,11 @@ abbrev pub decreases-run_nested : goal.decreases-run_nested
 decreases-run_nested l = 5 * l.nesting + 4
 
 abbrev pub invariant-iterate-loop-done : goal.invariant-iterate-loop-done
-invariant-iterate-loop-done l = (length l.values ≡ length l.initial.values) × (length l.units ≡ length l.initial.units) × (length l.delays ≡ length l.initial.delays) × Lent (net l.links) l.delays × (l.done ≤ l.count)
+invariant-iterate-loop-done l = (length l.values ≡ length l.initial.values) × (length l.units ≡ length l.initial.units) × (length l.delays ≡ length l.initial.delays) × Lent (net l.links) l.delays
     × ((areas (net l.links) l.values l.units l.delays).lists ≡ (areas (net l.links) l.initial.values l.initial.units l.initial.delays).lists)
     × ((areas (net l.links) l.values l.units l.delays).kept ≡ (areas (net l.links) l.initial.values l.initial.units l.initial.delays).kept)
     × (looping (net l.links) l.nesting l.g l.first l.step (l.count - l.done) l.done (started (areas (net l.links) l.values l.units l.delays) l.rest)
     ≡ looping (net l.links) l.nesting l.g l.first l.step l.count 0 (started (areas (net l.links) l.initial.values l.initial.units l.initial.delays) l.left))
-
-abbrev pub decreases-iterate-loop-done : goal.decreases-iterate-loop-done
-decreases-iterate-loop-done l = l.count - l.done
 
 abbrev pub invariant-run_nested-loop-rest : goal.invariant-run_nested-loop-rest
 invariant-run_nested-loop-rest l = (length l.values ≡ length l.initial.values) × (length l.units ≡ length l.initial.units) × (length l.delays ≡ length l.initial.delays) × Lent (net l.links) l.delays

@@ -1,8 +1,11 @@
+use Rattle.std.proofs.lemmas.Result.{err_from_is_err_and}
 use Rattle.opening.proofs.Ticks.{events_stop, all_arrive}
 use Rattle.opening.proofs.arrive.Goals as goal
 
-pub returns-then-is_full : goal.returns-then-is_full
-returns-then-is_full c = events_stop _ _ _ _ _ _ c.deliver_all-r.ensures c.is_full.ensures c.if-is_full.true
+pub returns-in_err-deliver_all : goal.returns-in_err-deliver_all
+returns-in_err-deliver_all c =
+    let p = err_from_is_err_and c.from_residual.result c.from_residual.ensures.1 in
+    rw p.1 (events_stop _ _ _ _ _ c.deliver_all.ensures c.in_err-deliver_all.was)
 
 pub returns : goal.returns
-returns c = all_arrive _ _ _ _ _ _ c.deliver_all-r.ensures c.is_full.ensures _ _ c.if-is_full.false c.stimulate.ensures
+returns c = all_arrive _ _ _ _ _ c.deliver_all.ensures _ _ c.in_ok-deliver_all.was c.stimulate.ensures

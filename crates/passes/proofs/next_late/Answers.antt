@@ -1,11 +1,11 @@
 use Rattle.passes.proofs.Beginning.{takes_late, takes_event, takes_nothing}
 use Rattle.passes.proofs.next_late.Goals as goal
 
-pub returns-in-Entry : goal.returns-in-Entry
-returns-in-Entry c = λ k. takes_late k _ _ _ (c.take_late.ensures k) _ c.in-Entry.is
+pub returns-in-Some : goal.returns-in-Some
+returns-in-Some c = λ k. takes_late k _ _ _ (c.take_late.ensures k) _ c.in-Some.is
 
-pub returns-in-Entry-take_delivered : goal.returns-in-Entry-take_delivered
-returns-in-Entry-take_delivered c = λ k. takes_event k _ _ _ (c.take_late.ensures k) _ _ (c.take_delivered.ensures k) _ c.in-Empty.is c.in-Entry-take_delivered.is
+pub returns-in_err-x : goal.returns-in_err-x
+returns-in_err-x c = rw c.from_residual.ensures (λ k. takes_nothing k _ _ _ (c.take_late.ensures k) _ _ (c.take_delivered.ensures k) c.in_default.is c.in_err-x.was)
 
-pub returns-in-Empty-take_delivered : goal.returns-in-Empty-take_delivered
-returns-in-Empty-take_delivered c = λ k. takes_nothing k _ _ _ (c.take_late.ensures k) _ _ (c.take_delivered.ensures k) c.in-Empty.is c.in-Empty-take_delivered.is
+pub returns : goal.returns
+returns c = λ k. takes_event k _ _ _ (c.take_late.ensures k) _ _ (c.take_delivered.ensures k) _ c.in_default.is c.in_ok-x.was

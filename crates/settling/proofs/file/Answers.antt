@@ -1,8 +1,11 @@
+use Rattle.std.proofs.lemmas.Result.{err_from_is_err_and}
 use Rattle.settling.proofs.Turns.{filed_full, filed_done}
 use Rattle.settling.proofs.file.Goals as goal
 
-pub returns-in-Full : goal.returns-in-Full
-returns-in-Full c = (filed_full _ _ c.activate-filed.ensures.0 c.in-Full.is, c.activate-filed.ensures.1)
+pub returns-in_err-activate : goal.returns-in_err-activate
+returns-in_err-activate c =
+    let p = err_from_is_err_and c.from_residual.result c.from_residual.ensures.1 in
+    rw p.1 (filed_full _ _ c.activate.ensures.0 c.in_err-activate.was, c.activate.ensures.1)
 
-pub returns-in-Done : goal.returns-in-Done
-returns-in-Done c = (filed_done _ _ c.activate-filed.ensures.0 c.in-Done.is, c.activate-filed.ensures.1)
+pub returns : goal.returns
+returns c = (filed_done _ _ c.activate.ensures.0 c.in_ok-activate.was, c.activate.ensures.1)

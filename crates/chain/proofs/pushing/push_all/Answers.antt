@@ -1,10 +1,11 @@
+use Rattle.std.proofs.lemmas.Result.{err_from_is_err_and}
 use Rattle.chain.proofs.Rows.{all_stop, all_done}
 use Rattle.chain.proofs.pushing.push_all.Goals as goal
 
--- src/pushing.rt:86:1
-pub returns-in-Full : goal.returns-in-Full
-returns-in-Full c = all_stop _ _ _ _ c.push_forks.ensures c.in-Full.is
+pub returns-in_err-push_forks : goal.returns-in_err-push_forks
+returns-in_err-push_forks c =
+    let p = err_from_is_err_and c.from_residual.result c.from_residual.ensures.1 in
+    rw p.1 (all_stop _ _ _ _ c.push_forks.ensures c.in_err-push_forks.was)
 
--- src/pushing.rt:86:1
-pub returns-in-Done : goal.returns-in-Done
-returns-in-Done c = all_done _ _ _ _ c.push_forks.ensures c.in-Done.is _ _ c.push_stack.ensures
+pub returns : goal.returns
+returns c = all_done _ _ _ _ c.push_forks.ensures c.in_ok-push_forks.was _ _ c.push_stack.ensures

@@ -5,11 +5,8 @@ use Rattle.model.specs.Chain.{no_calls}
 use Rattle.links.specs.Links.{net}
 use lib.ListN.{length}
 use mathlib.Core.Path.{◌≡◌}
-use Prim.Native.Nat.{◌+◌, ◌-◌, ◌≤◌}
+use Prim.Native.Nat.{◌+◌, ◌-◌}
 use Rattle.chain.proofs.pushing.push_forks.Given as goal
 
 abbrev pub invariant-loop-k : goal.invariant-loop-k
-invariant-loop-k l = (length l.units ≡ length l.initial.units) × (l.k ≤ l.n) × (with_calls (view (net l.links) l.units) no_calls ≡ with_calls (view (net l.links) l.initial.units) no_calls) × (forks_behind (calls_in l.links (l.a + l.k) (l.n - l.k)) (view (net l.links) l.units).calls ≡ forks_behind (calls_in l.links l.a l.n) (view (net l.links) l.initial.units).calls)
-
-abbrev pub decreases-loop-k : goal.decreases-loop-k
-decreases-loop-k l = l.n - l.k
+invariant-loop-k l = (length l.units ≡ length l.initial.units) × (with_calls (view (net l.links) l.units) no_calls ≡ with_calls (view (net l.links) l.initial.units) no_calls) × (forks_behind (calls_in l.links (l.a + l.k) (l.n - l.k)) (view (net l.links) l.units).calls ≡ forks_behind (calls_in l.links l.a l.n) (view (net l.links) l.initial.units).calls)

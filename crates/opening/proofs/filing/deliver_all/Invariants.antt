@@ -1,4 +1,3 @@
-use Prim.Native.Nat.{◌-◌, ◌≤◌}
 use mathlib.Core.List.{map}
 use mathlib.Core.Path.{◌≡◌}
 use lib.ListN.{length}
@@ -11,7 +10,4 @@ use Rattle.opening.proofs.Acts.{Still, raised_from}
 use Rattle.opening.proofs.filing.deliver_all.Given as goal
 
 abbrev pub invariant-loop-e : goal.invariant-loop-e
-invariant-loop-e l = (length l.units ≡ length l.initial.units) × (l.e ≤ l.n) × ((view (net l.links) l.units).events ≡ (view (net l.links) l.initial.units).events) × Still (net l.links) to_delivered (view (net l.links) l.initial.units) (joined (map (delivered (net l.links)) (view (net l.links) l.initial.units).events)) (view (net l.links) l.units) (raised_from (net l.links) (view (net l.links) l.initial.units) l.e)
-
-abbrev pub decreases-loop-e : goal.decreases-loop-e
-decreases-loop-e l = l.n - l.e
+invariant-loop-e l = (length l.units ≡ length l.initial.units) × ((view (net l.links) l.units).events ≡ (view (net l.links) l.initial.units).events) × Still (net l.links) to_delivered (view (net l.links) l.initial.units) (joined (map (delivered (net l.links)) (view (net l.links) l.initial.units).events)) (view (net l.links) l.units) (raised_from (net l.links) (view (net l.links) l.initial.units) l.e)

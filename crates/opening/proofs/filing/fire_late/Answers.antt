@@ -1,16 +1,19 @@
 use borrow.Author.Rules.{rules}
-use Prim.Native.Nat.{◌-◌}
+use native.Mathlib.Omega.{arith}
+use Rattle.std.proofs.lemmas.Result.{err_from_is_err_and}
 use Rattle.opening.proofs.Acts.{fires_first, fires_next, fires_full, fires_last}
 use Rattle.opening.proofs.filing.fire_late.Goals as goal
 
-pub loop-k-init : goal.loop-k-init
-loop-k-init c = (search rules, search rules, fires_first _ _ _ _)
+pub loop-init : goal.loop-init
+loop-init c = (search rules, fires_first _ _ _ _)
 
-pub returns-then-is_full : goal.returns-then-is_full
-returns-then-is_full c = fires_full _ _ _ _ _ _ _ _ _ _ c.requires.2 c.entry-x.ensures c.loop-k.invariant.2 c.loop-k-test.true c.activate-r.ensures c.is_full.ensures c.if-is_full.true
+pub returns-in_err-activate : goal.returns-in_err-activate
+returns-in_err-activate c =
+    let p = err_from_is_err_and c.from_residual.result c.from_residual.ensures.1 in
+    rw p.1 (fires_full _ _ _ _ _ _ _ _ _ c.requires.2 c.entry-x.ensures c.loop.invariant.1 c.loop-test.true c.activate.ensures c.in_err-activate.was)
 
-pub loop-k-preserved : goal.loop-k-preserved
-loop-k-preserved c = (search rules, search rules, fires_next _ _ _ _ _ _ _ _ _ _ c.requires.2 c.entry-x.ensures c.loop-k.invariant.2 c.loop-k-test.true c.activate-r.ensures c.is_full.ensures c.if-is_full.false)
+pub loop-preserved : goal.loop-preserved
+loop-preserved c = (search rules, fires_next _ _ _ _ _ _ _ _ _ c.requires.2 c.entry-x.ensures c.loop.invariant.1 c.loop-test.true c.activate.ensures c.in_ok-activate.was)
 
 pub returns : goal.returns
-returns c = fires_last _ _ _ _ _ _ c.loop-k.invariant.2 c.loop-k-test.false
+returns c = fires_last _ _ _ _ _ _ c.loop.invariant.1 c.loop-test.false

@@ -1,4 +1,4 @@
-use Prim.Native.Nat.{◌-◌, ◌≤◌}
+use Prim.Native.Nat.{◌-◌}
 use mathlib.Core.Path.{◌≡◌}
 use lib.ListN.{length}
 use Rattle.schedule.specs.Schedule.{to_late}
@@ -8,8 +8,5 @@ use Rattle.units.specs.View.{units as view}
 use Rattle.opening.proofs.Acts.{Still}
 use Rattle.opening.proofs.filing.fire_late.Given as goal
 
-abbrev pub invariant-loop-k : goal.invariant-loop-k
-invariant-loop-k l = (length l.units ≡ length l.initial.units) × (l.k ≤ l.n) × Still (net l.links) to_late (view (net l.links) l.initial.units) (fire l.n l.g) (view (net l.links) l.units) (fire (l.n - l.k) l.g)
-
-abbrev pub decreases-loop-k : goal.decreases-loop-k
-decreases-loop-k l = l.n - l.k
+abbrev pub invariant-loop : goal.invariant-loop
+invariant-loop l = (length l.units ≡ length l.initial.units) × Still (net l.links) to_late (view (net l.links) l.initial.units) (fire l.n l.g) (view (net l.links) l.units) (fire (l.n - l.counter) l.g)

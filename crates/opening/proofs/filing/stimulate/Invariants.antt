@@ -1,4 +1,3 @@
-use Prim.Native.Nat.{◌-◌, ◌≤◌}
 use mathlib.Core.Path.{◌≡◌}
 use lib.ListN.{length}
 use Rattle.schedule.specs.Schedule.{to_late}
@@ -10,7 +9,4 @@ use Rattle.opening.proofs.Acts.{Still, stimuli_from}
 use Rattle.opening.proofs.filing.stimulate.Given as goal
 
 abbrev pub invariant-loop-k : goal.invariant-loop-k
-invariant-loop-k l = (length l.units ≡ length l.initial.units) × (l.k ≤ l.n) × Still (net l.links) to_late (view (net l.links) l.initial.units) (stimuli_of (net l.links) (words l.script) l.gates_at l.constants_at l.n) (view (net l.links) l.units) (stimuli_from (net l.links) (words l.script) l.gates_at l.constants_at l.n l.k)
-
-abbrev pub decreases-loop-k : goal.decreases-loop-k
-decreases-loop-k l = l.n - l.k
+invariant-loop-k l = (length l.units ≡ length l.initial.units) × Still (net l.links) to_late (view (net l.links) l.initial.units) (stimuli_of (net l.links) (words l.script) l.gates_at l.constants_at l.n) (view (net l.links) l.units) (stimuli_from (net l.links) (words l.script) l.gates_at l.constants_at l.n l.k)
