@@ -2,7 +2,6 @@
 use Prim.Native.Nat.{ℕ}
 use mathlib.Core.Path.{◌≡◌, refl, sym, ap, ◌∙◌, subst}
 use mathlib.Core.Bool.{Bool, true, false, not, ◌&&◌, and-true, and-false}
-use mathlib.Core.List.{List}
 use mathlib.Core.Option.{Option, none, some}
 use native.Mathlib.Omega.{arith}
 use Rattle.std.specs.Prelude.{Option as Found, Some, None, Ok}
@@ -11,12 +10,13 @@ use Rattle.schedule.specs.Schedule.{list_full}
 use Rattle.model.specs.Base.{if◌then◌otherwise◌}
 use Rattle.model.specs.Circuit.{Circuit}
 use Rattle.model.specs.Exec.{Stepped, exec_gate}
-use Rattle.model.specs.Chain.{Calls, no_calls, fit, Chained, chained, push_calls, fire_output, make_call}
+use Rattle.model.specs.Chain.{no_calls, fit, Chained, chained, push_calls, fire_output, make_call}
 use Rattle.units.specs.View.{Units}
 use Rattle.wires.specs.View.{Values}
 use Rattle.states.specs.View.{Delays}
-use Rattle.areas.specs.Areas.{Contents, together, with_state, with_calls}
-use Rattle.steps.specs.Steps.{stepped, Makes, Step, Fires, Ends, Stops}
+use Rattle.areas.specs.Areas.{Contents, together, with_calls}
+use Rattle.steps.specs.Steps.{stepped, Makes, Step}
+use Rattle.steps.proofs.Making.{Fires, Ends, Stops}
 use Rattle.chain.specs.declared.Ran.{Ran}
 use Rattle.chain.specs.Chain.{Pushes, Runs, started}
 use Rattle.chain.proofs.Fits.{was_done, was_full}

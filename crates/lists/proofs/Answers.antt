@@ -7,7 +7,8 @@ use native.Mathlib.Omega.{arith}
 use borrow.Author.Tests.{lt-ltb, le-ltb, ltb-true, ltb-false}
 use lib.Dec.{ltb}
 use lib.ListN.{length, drop}
-use Rattle.std.specs.Prelude.{Some, None}
+use Rattle.std.specs.Prelude.{Some, None, Result, Ok, Err, IsErr}
+use Rattle.lists.specs.declared.Full.{Full}
 use Rattle.lists.specs.Lists.{Done, NoRoom, filed, if_room, taken}
 
 -- the list is full
@@ -40,6 +41,11 @@ was_done most l m e = go (ltb (length l) most) refl e
     go : (b : Bool) → ltb (length l) most ≡ b → Done ≡ cond b Done NoRoom → (length l < most) × (cond b m l ≡ m)
     go true t e = (ltb-true (length l) most t, refl)
     go false t e = let z : ◌≡◌ {A = ℕ} 0 1 = cc in absurd (omega arith)
+
+-- What `?` hands on of an error.
+pub refused : {T : Type 0} (r : Result T Full) → IsErr r → r ≡ Err (record {})
+refused (Ok x) h = cc
+refused (Err e) h = refl
 
 -- It was not: the list is full, and stays.
 pub was_full : (most : ℕ) (l m : List ℕ) → NoRoom ≡ filed most l → (most ≤ length l) × (if_room most l m ≡ l)

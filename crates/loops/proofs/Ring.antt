@@ -1,6 +1,6 @@
 -- Chains and the Loops that they run: one law for each way out of a function, and for each turn.
 use Prim.Native.Nat.{ℕ, zero, suc, ◌+◌, ◌-◌, ◌≤◌, ◌<◌}
-use mathlib.Core.Path.{◌≡◌, refl, sym, ap, ap₂, ◌∙◌, subst}
+use mathlib.Core.Path.{◌≡◌, refl, sym, ap, ◌∙◌, subst}
 use mathlib.Core.Bool.{Bool, true, false, not, ◌&&◌, true≢false}
 use mathlib.Core.List.{List, []}
 use mathlib.Core.Option.{Option, none, some}
@@ -13,9 +13,9 @@ use Rattle.words.specs.Words.{signed}
 use Rattle.words.specs.Tables.{digits}
 use Rattle.model.specs.Base.{if◌then◌otherwise◌}
 use Rattle.model.specs.Circuit.{Circuit, kind_of_gate, output, gate_at_input}
-use Rattle.model.specs.State.{State, unions_passed≔, runs_left≔, wires≔}
+use Rattle.model.specs.State.{unions_passed≔, runs_left≔, wires≔}
 use Rattle.model.specs.Exec.{read}
-use Rattle.model.specs.Chain.{Calls, no_calls, Popped, pop_fork, pop, Chained, chained, unless_stopped, fire_output, make_call, runaway}
+use Rattle.model.specs.Chain.{no_calls, Popped, pop_fork, pop, Chained, chained, unless_stopped, fire_output, make_call, runaway}
 use Rattle.model.specs.Loops as model
 use Rattle.model.specs.Loops.{index, unions_of, runs_left_to, break_set, goes_on, begin_body, loop_on, show_loop, loop_over, run_loop, operate, run_nested, run_body, run_chain}
 use Rattle.model.proofs.Lists.{both_true}

@@ -57,10 +57,10 @@ fn read_counts(links: &[usize], values: &[u8], g: usize, broke: bool) -> Counts
     let first = unsigned(as_int(look(links, values, input(links, g, 2)), 0));
     let step = unsigned(as_int(look(links, values, input(links, g, 3)), 1));
     Counts {
-        count: count,
-        first: first,
-        step: step,
-        broke: broke,
+        count,
+        first,
+        step,
+        broke,
     }
 }
 

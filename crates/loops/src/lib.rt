@@ -38,7 +38,7 @@ fn run_body(
 {
     if nesting == 0 {
         return Ran {
-            left: left,
+            left,
             stop: LIST_FULL,
         };
     }
@@ -186,6 +186,7 @@ fn run_nested(
         return run;
     }
     let mut rest = run.left;
+    // Stays: a call takes as many of the steps as it makes, so no range counts them.
     while 0 < rest {
         let Some(i) = pop_call(units, under, inside) else {
             return Ran {
@@ -229,10 +230,7 @@ pub fn run_chain(
     ensures over_all { OverAll links.now (values.old, values.new) (units.old, units.new) (delays.old, delays.new) (λ c old new. Runs old new result (run_chain c left old.calls old.state)) }
     ensures slots_stay { SlotsStay links.now delays.new }
 {
-    let begun = Ran {
-        left: left,
-        stop: 0,
-    };
+    let begun = Ran { left, stop: 0 };
     if calls_waiting(units) == 0 {
         if forks_waiting(units) == 0 {
             return begun;

@@ -1,7 +1,6 @@
 -- What is raised, filed in parts: a part after a part.
-use mathlib.Core.Path.{◌≡◌, refl, sym, ◌∙◌}
+use mathlib.Core.Path.{◌≡◌, refl}
 use mathlib.Core.List.{List, [], ◌∷◌, ◌++◌, map}
-use mathlib.Core.Bool.{Bool, true, false}
 use Rattle.schedule.specs.Schedule.{Raise, Place, to_pending, When, Filed, full, filed}
 use Rattle.lists.specs.Lists.{Filed as Answer, NoRoom, Done}
 use Rattle.model.specs.Circuit.{Circuit}

@@ -1,7 +1,7 @@
 -- The stages of the opening put together.
 use Prim.Native.Nat.{ℕ}
 use mathlib.Core.Path.{◌≡◌, sym, ap, subst, ◌∙◌}
-use mathlib.Core.Bool.{Bool, true, false}
+use mathlib.Core.Bool.{Bool}
 use mathlib.Core.List.{List, map, append-nil, append_assoc}
 use lib.ListN.{length}
 use Rattle.schedule.specs.Schedule.{to_late, to_delivered}

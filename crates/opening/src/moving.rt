@@ -129,6 +129,7 @@ pub fn advance_buffers(
     ensures over_all { OverAll links.now (values.old, values.new) (units.old, units.new) (delays.old, delays.new) (λ c old new. Opens c old new result (each (advance_buffer c dt) (unopened old.state) c.buffers)) }
     ensures slots_stay { SlotsStay links.now delays.new }
 {
+    // Stays: one function for all three would have to say of its closure what it makes of three lent areas, which is longer than the loop.
     let mut d = buffers(links);
     let mut g = first_gate(d);
     while g < 64 {
@@ -194,6 +195,7 @@ pub fn advance_clocks(
     ensures over_all { OverAll links.now (values.old, values.new) (units.old, units.new) (delays.old, delays.new) (λ c old new. Opens c old new result (each (advance_clock c) (unopened old.state) c.clocks)) }
     ensures slots_stay { SlotsStay links.now delays.new }
 {
+    // Stays: one function for all three would have to say of its closure what it makes of three lent areas, which is longer than the loop.
     let mut d = clocks(links);
     let mut g = first_gate(d);
     while g < 64 {
@@ -260,6 +262,7 @@ pub fn advance_timers(
     ensures over_all { OverAll links.now (values.old, values.new) (units.old, units.new) (delays.old, delays.new) (λ c old new. Opens c old new result (each (advance_timer c) (unopened old.state) c.stopwatches)) }
     ensures slots_stay { SlotsStay links.now delays.new }
 {
+    // Stays: one function for all three would have to say of its closure what it makes of three lent areas, which is longer than the loop.
     let mut d = stopwatches(links);
     let mut g = first_gate(d);
     while g < 64 {

@@ -11,7 +11,6 @@ use lib.ListN.{length, get_or, drop_of_length-le}
 use Rattle.schedule.specs.Schedule.{When, by_rank, put_off}
 use Rattle.std.specs.Prelude.{Ok, Err}
 use Rattle.lists.specs.Lists.{Filed as Answer, NoRoom, Done as Room}
-use Rattle.lists.specs.declared.Full.{Full}
 use Rattle.model.specs.Base.{if◌then◌otherwise◌}
 use Rattle.model.specs.Circuit.{Circuit}
 use Rattle.model.specs.State.{State, Wires, wires≔}

@@ -16,8 +16,8 @@ use Rattle.model.specs.State.{State}
 use Rattle.model.specs.Exec.{Stepped, exec-Buffer, exec-Stopwatch, exec-Queue, exec-VarGet, exec-VarSet, exec-Branch, exec-Union, exec-Toggle, exec-Cycle, exec-SendEvent, exec-Break, exec_kind, exec_gate}
 use Rattle.states.specs.View.{is_queue, queue_countdown, Lent}
 use Rattle.areas.specs.Areas.{Contents, areas, with_state}
-use Rattle.steps.specs.Steps.{Entered, Makes, Step, Fires, Ends}
-use Rattle.steps.proofs.Making.{makes_as, makes_passes, makes_ends}
+use Rattle.steps.specs.Steps.{Entered, Makes, Step}
+use Rattle.steps.proofs.Making.{Fires, Ends, makes_as, makes_passes, makes_ends}
 
 -- ---- kinds in a row
 

@@ -13,7 +13,18 @@ use Rattle.states.specs.View.{Delays, with_changed}
 use Rattle.units.specs.View.{Units}
 use Rattle.units.specs.Calls.{with_outbox}
 use Rattle.areas.specs.Areas.{Contents, together}
-use Rattle.steps.specs.Steps.{stepped, Makes, Step, Fires, Ends, Stops}
+use Rattle.std.specs.Prelude.{Some, None, Ok, Err}
+use Rattle.steps.specs.Steps.{stepped, Makes, Step}
+
+-- what a step answers: the output to fire next, that the chain ends there, that a list was full
+abbrev pub Fires : ℕ → Step
+Fires o = Ok (Some o)
+
+abbrev pub Ends : Step
+Ends = Ok None
+
+abbrev pub Stops : Step
+Stops = Err (record {})
 
 -- a choice whose test is known
 module _ {A : Type 0} (b : Bool) (x y : A) where

@@ -2,7 +2,7 @@
 use Prim.Native.Nat.{ℕ, ◌+◌, ◌<◌}
 use mathlib.Core.Path.{◌≡◌, refl, sym, ap, ◌∙◌}
 use mathlib.Core.Bool.{Bool, true, false, cond, ◌||◌}
-use mathlib.Core.List.{List, [], ◌∷◌, map}
+use mathlib.Core.List.{List, map}
 use native.Mathlib.Omega.{arith}
 use borrow.Author.Tests.{eq-eqb, ne_eqb}
 use lib.Dec.{eqb, leb, ltb}
@@ -23,8 +23,8 @@ use Rattle.states.specs.Lent.{AddsFire}
 use Rattle.units.specs.View.{Units}
 use Rattle.units.specs.Calls.{with_outbox, sent}
 use Rattle.areas.specs.Areas.{together}
-use Rattle.steps.specs.Steps.{Makes, Fires, Ends, Stops}
-use Rattle.steps.proofs.Making.{if_true, if_false, makes_as, makes_delays, makes_full, makes_sent, set_again}
+use Rattle.steps.specs.Steps.{Makes}
+use Rattle.steps.proofs.Making.{Fires, Ends, Stops, if_true, if_false, makes_as, makes_delays, makes_full, makes_sent, set_again}
 
 -- ---- a buffer in exec mode
 

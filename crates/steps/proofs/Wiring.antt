@@ -24,8 +24,8 @@ use Rattle.wires.specs.View.{Values, with_wires}
 use Rattle.states.specs.View.{Delays}
 use Rattle.units.specs.View.{Units}
 use Rattle.areas.specs.Areas.{together}
-use Rattle.steps.specs.Steps.{Makes, Fires, Ends}
-use Rattle.steps.proofs.Making.{if_true, if_false, makes_as, makes_fires, makes_ends}
+use Rattle.steps.specs.Steps.{Makes}
+use Rattle.steps.proofs.Making.{Fires, Ends, if_true, if_false, makes_as, makes_fires, makes_ends}
 
 -- ---- the Var that a setting names
 

@@ -1,5 +1,5 @@
 -- What the code's step answers, and what it makes of the areas.
-use Rattle.std.specs.Prelude.{ℕ, ◌≡◌, true, false, Option, Some, None, Result, Ok, Err}
+use Rattle.std.specs.Prelude.{ℕ, ◌≡◌, true, false, Option, Result, Ok, Err}
 use Rattle.std.proofs.Math.Option.{none}
 use Rattle.model.specs.Circuit.{Circuit, kind_of_gate, gate_at_input}
 use Rattle.model.specs.State.{State}
@@ -16,15 +16,6 @@ pub record Entered (c : Circuit) (i g k : ℕ) : Type 0 where
 -- what the code answers: the output to fire next, or none; or that a list was full
 abbrev pub Step : Type 0
 Step = Result (Option ℕ) Full
-
-abbrev pub Fires : ℕ → Step
-Fires o = Ok (Some o)
-
-abbrev pub Ends : Step
-Ends = Ok None
-
-abbrev pub Stops : Step
-Stops = Err (record {})
 
 -- a state and an answer, as the definition has them
 unfoldable pub stepped : State → Step → Stepped

@@ -205,6 +205,6 @@ pub fn unit(
     let stop = finish(links, values, units, delays, chain.left, chain.stop, to);
     Ran {
         left: chain.left,
-        stop: stop,
+        stop,
     }
 }

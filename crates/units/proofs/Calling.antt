@@ -5,7 +5,7 @@ use mathlib.Core.Bool.{Bool, true, false, cond}
 use mathlib.Core.List.{List, [], ◌∷◌, ◌++◌}
 use native.Mathlib.Omega.{arith}
 use borrow.Rule.Slice.PartMut.{put_mid}
-use lib.Dec.{leb, ltb}
+use lib.Dec.{ltb}
 use lib.ListN.{length, take, drop}
 use borrow.Author.Tests.{le-leb, lt-leb}
 use Rattle.words.specs.Words.{words}
@@ -14,7 +14,7 @@ use Rattle.lists.specs.Lists.{stacked, queued, filed, if_room, taken, Emptied, F
 use Rattle.model.specs.Base.{if◌then◌otherwise◌, snoc}
 use Rattle.model.specs.Circuit.{Circuit}
 use Rattle.model.specs.Chain.{Calls, no_calls, pop_fork, pop}
-use Rattle.units.specs.View.{Units, events_of, second_half, units}
+use Rattle.units.specs.View.{events_of, second_half, units}
 use Rattle.units.specs.Calls.{with_calls, stack≔, forks≔, fits_one, called, forked, popped, calls_left}
 use Rattle.units.specs.Lent.{Pops}
 use Rattle.units.proofs.Lending.{lent, lent_back, lent_tail}

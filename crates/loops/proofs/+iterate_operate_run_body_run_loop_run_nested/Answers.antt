@@ -32,26 +32,14 @@ iterate-returns t c = let a = c.args in
 pub operate-returns-then-k-ne-LOOP-clause-over_all : goal.operate-returns-then-k-ne-LOOP-clause-over_all
 operate-returns-then-k-ne-LOOP-clause-over_all t c = operate_call _ _ _ _ _ _ _ c.gate_at_input-g.ensures c.kind_of_gate-k.ensures _ c.if-k-ne-LOOP.true _ _ c.make_call.ensures.over_all
 
-pub operate-returns-then-k-ne-LOOP-clause-slots_stay : goal.operate-returns-then-k-ne-LOOP-clause-slots_stay
-operate-returns-then-k-ne-LOOP-clause-slots_stay t c = c.make_call.ensures.slots_stay
-
 pub operate-returns-then-ran-ne0-clause-over_all : goal.operate-returns-then-ran-ne0-clause-over_all
 operate-returns-then-ran-ne0-clause-over_all t c = operate_stopped _ _ _ _ _ _ _ c.gate_at_input-g.ensures c.kind_of_gate-k.ensures _ c.if-k-ne-LOOP.false _ _ c.run_loop-ran.ensures.over_all c.if-ran-ne0.true
-
-pub operate-returns-then-ran-ne0-clause-slots_stay : goal.operate-returns-then-ran-ne0-clause-slots_stay
-operate-returns-then-ran-ne0-clause-slots_stay t c = c.run_loop-ran.ensures.slots_stay
 
 pub operate-returns-clause-over_all : goal.operate-returns-clause-over_all
 operate-returns-clause-over_all t c = operate_completed _ _ _ _ _ _ _ c.gate_at_input-g.ensures c.kind_of_gate-k.ensures _ c.if-k-ne-LOOP.false _ _ c.run_loop-ran.ensures.over_all c.if-ran-ne0.false _ c.output.ensures.0 _ _ (c.fire_output.ensures _ _)
 
-pub operate-returns-clause-slots_stay : goal.operate-returns-clause-slots_stay
-operate-returns-clause-slots_stay t c = c.run_loop-ran.ensures.slots_stay
-
 pub run_body-returns-then-nesting-eq0-clause-over_all : goal.run_body-returns-then-nesting-eq0-clause-over_all
 run_body-returns-then-nesting-eq0-clause-over_all t c = body_none _ _ _ _ _ _ c.if-nesting-eq0.true
-
-pub run_body-returns-then-nesting-eq0-clause-slots_stay : goal.run_body-returns-then-nesting-eq0-clause-slots_stay
-run_body-returns-then-nesting-eq0-clause-slots_stay t c = c.requires.3
 
 pub run_body-run_nested-ran-requires : goal.run_body-run_nested-ran-requires
 run_body-run_nested-ran-requires t c = (search rules, (search rules, search rules, search rules, search rules))
@@ -62,9 +50,6 @@ run_body-set_unions_passed-requires t c = (c.requires.0, omega (arith, c.run_nes
 pub run_body-returns-clause-over_all : goal.run_body-returns-clause-over_all
 run_body-returns-clause-over_all t c = body_ran _ _ _ _ _ _ _ _ _ _ _ _ _ _ _ c.if-nesting-eq0.false (c.calls_waiting-under.ensures _) c.unions_passed-passed.ensures (c.begin_body-begun.ensures _) c.run_nested-ran.ensures.over_all c.set_unions_passed.ensures
 
-pub run_body-returns-clause-slots_stay : goal.run_body-returns-clause-slots_stay
-run_body-returns-clause-slots_stay t c = c.run_nested-ran.ensures.slots_stay
-
 pub run_loop-iterate-looped-requires : goal.run_loop-iterate-looped-requires
 run_loop-iterate-looped-requires t c = (search rules, (search rules, search rules, search rules, search rules))
 
@@ -74,14 +59,8 @@ run_loop-loop_over-requires t c = (search rules, search rules)
 pub run_loop-returns-clause-over_all : goal.run_loop-returns-clause-over_all
 run_loop-returns-clause-over_all t c = loop_ran _ _ _ _ _ _ _ _ _ _ _ (c.begin_loop-counts.ensures _ _) c.iterate-looped.ensures.over_all (c.loop_over.ensures _ _)
 
-pub run_loop-returns-clause-slots_stay : goal.run_loop-returns-clause-slots_stay
-run_loop-returns-clause-slots_stay t c = c.iterate-looped.ensures.slots_stay
-
 pub run_nested-returns-then-run-ne0-clause-over_all : goal.run_nested-returns-then-run-ne0-clause-over_all
 run_nested-returns-then-run-ne0-clause-over_all t c = none_run _ _ _ _ _ _ c.if-run-ne0.true
-
-pub run_nested-returns-then-run-ne0-clause-slots_stay : goal.run_nested-returns-then-run-ne0-clause-slots_stay
-run_nested-returns-then-run-ne0-clause-slots_stay t c = c.requires.3
 
 pub run_nested-loop-rest-init : goal.run_nested-loop-rest-init
 run_nested-loop-rest-init t c = (search rules, search rules, search rules, search rules, refl, refl, refl)
@@ -94,9 +73,6 @@ run_nested-operate-ran-requires t c = (search rules, (search rules, search rules
 
 pub run_nested-returns-then-ran-ne0-clause-over_all : goal.run_nested-returns-then-ran-ne0-clause-over_all
 run_nested-returns-then-ran-ne0-clause-over_all t c = nested_stops _ _ _ _ _ _ _ _ _ _ _ _ c.loop-rest.invariant.4 c.loop-rest.invariant.5 (c.loop-rest.invariant.6 ∙ run_begins _ _ _ _ _ _ _ _ c.if-run-ne0.false) _ _ (c.pop_call.ensures _) _ c.in-Some.is c.loop-rest-test.true _ _ c.operate-ran.ensures.over_all c.if-ran-ne0.true
-
-pub run_nested-returns-then-ran-ne0-clause-slots_stay : goal.run_nested-returns-then-ran-ne0-clause-slots_stay
-run_nested-returns-then-ran-ne0-clause-slots_stay t c = c.operate-ran.ensures.slots_stay
 
 pub run_nested-loop-rest-smaller : goal.run_nested-loop-rest-smaller
 run_nested-loop-rest-smaller t c = nested_falls _ _ _ _ _ _ _ _ _ _ _ _ c.loop-rest.invariant.4 c.loop-rest.invariant.5 c.loop-rest.invariant.6 _ _ (c.pop_call.ensures _) _ c.in-Some.is c.loop-rest-test.true _ _ c.operate-ran.ensures.over_all

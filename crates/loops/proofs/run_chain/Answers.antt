@@ -4,11 +4,5 @@ use Rattle.loops.proofs.run_chain.Goals as goal
 pub returns-then-forks_waiting-eq0-clause-over_all : goal.returns-then-forks_waiting-eq0-clause-over_all
 returns-then-forks_waiting-eq0-clause-over_all c = chain_idle _ _ _ _ _ (c.calls_waiting.ensures _) c.if-calls_waiting-eq0.true (c.forks_waiting.ensures _) c.if-forks_waiting-eq0.true
 
-pub returns-then-forks_waiting-eq0-clause-slots_stay : goal.returns-then-forks_waiting-eq0-clause-slots_stay
-returns-then-forks_waiting-eq0-clause-slots_stay c = c.requires.3
-
 pub returns-clause-over_all : goal.returns-clause-over_all
 returns-clause-over_all c = chain_ran _ _ _ _ _ _ c.gates.ensures.0 c.run_nested.ensures.over_all
-
-pub returns-clause-slots_stay : goal.returns-clause-slots_stay
-returns-clause-slots_stay c = c.run_nested.ensures.slots_stay

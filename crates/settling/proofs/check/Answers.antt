@@ -4,17 +4,8 @@ use Rattle.settling.proofs.check.Goals as goal
 pub returns-then-same-clause-over_values_delays : goal.returns-then-same-clause-over_values_delays
 returns-then-same-clause-over_values_delays c = check_same _ _ _ _ _ _ _ _ c.last-was.ensures c.ready.ensures c.look-v.ensures c.set_last.ensures _ _ c.in-Some.is c.same.ensures c.if-same.true
 
-pub returns-then-same-clause-slots_stay : goal.returns-then-same-clause-slots_stay
-returns-then-same-clause-slots_stay c = c.requires.2
-
 pub returns-in-None-clause-over_values_delays : goal.returns-in-None-clause-over_values_delays
 returns-in-None-clause-over_values_delays c = check_first _ _ _ _ _ _ _ _ c.last-was.ensures c.ready.ensures c.look-v.ensures c.set_last.ensures _ _ _ c.in-None.is c.detect.ensures.acts_in_both
 
-pub returns-in-None-clause-slots_stay : goal.returns-in-None-clause-slots_stay
-returns-in-None-clause-slots_stay c = c.detect.ensures.slots_stay
-
 pub returns-else-same-clause-over_values_delays : goal.returns-else-same-clause-over_values_delays
 returns-else-same-clause-over_values_delays c = check_new _ _ _ _ _ _ _ _ c.last-was.ensures c.ready.ensures c.look-v.ensures c.set_last.ensures _ _ _ _ _ c.in-Some.is c.same.ensures c.if-same.false c.detect-in-Some.ensures.acts_in_both
-
-pub returns-else-same-clause-slots_stay : goal.returns-else-same-clause-slots_stay
-returns-else-same-clause-slots_stay c = c.detect-in-Some.ensures.slots_stay

@@ -7,6 +7,3 @@ overflow_mul-rounds c = omega (arith, rounds_few c.inputs.result c.outputs.resul
 
 pub returns-clause-over_all : goal.returns-clause-over_all
 returns-clause-over_all c = all_checked _ _ _ _ _ _ _ c.inputs.ensures c.outputs.ensures c.settle_on.ensures.over_all
-
-pub returns-clause-slots_stay : goal.returns-clause-slots_stay
-returns-clause-slots_stay c = c.settle_on.ensures.slots_stay

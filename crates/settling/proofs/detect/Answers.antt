@@ -8,26 +8,14 @@ use Rattle.settling.proofs.detect.Goals as goal
 pub returns-in-6-clause-acts_in_both : goal.returns-in-6-clause-acts_in_both
 returns-in-6-clause-acts_in_both c = change_6 _ _ _ _ _ _ _ _ c.gate_at_input-g.ensures c.kind_of_gate.ensures _ c.in-6.is c.entry.ensures
 
-pub returns-in-6-clause-slots_stay : goal.returns-in-6-clause-slots_stay
-returns-in-6-clause-slots_stay c = c.requires.2
-
 pub returns-in-7-clause-acts_in_both : goal.returns-in-7-clause-acts_in_both
 returns-in-7-clause-acts_in_both c = change_7 _ _ _ _ _ _ _ _ c.gate_at_input-g.ensures c.kind_of_gate.ensures _ c.in-7.is c.edge_pulse.ensures
-
-pub returns-in-7-clause-slots_stay : goal.returns-in-7-clause-slots_stay
-returns-in-7-clause-slots_stay c = c.requires.2
 
 pub returns-in-8-clause-acts_in_both : goal.returns-in-8-clause-acts_in_both
 returns-in-8-clause-acts_in_both c = change_8 _ _ _ _ _ _ _ _ c.gate_at_input-g.ensures c.kind_of_gate.ensures _ _ c.in-8.is c.output.ensures c.pulse.ensures
 
-pub returns-in-8-clause-slots_stay : goal.returns-in-8-clause-slots_stay
-returns-in-8-clause-slots_stay c = c.requires.2
-
 pub returns-in-9-clause-acts_in_both : goal.returns-in-9-clause-acts_in_both
 returns-in-9-clause-acts_in_both c = change_9 _ _ _ _ _ _ _ _ c.gate_at_input-g.ensures c.kind_of_gate.ensures _ c.in-9.is c.edge_raised.ensures
-
-pub returns-in-9-clause-slots_stay : goal.returns-in-9-clause-slots_stay
-returns-in-9-clause-slots_stay c = c.requires.2
 
 pub returns-in-10-clause-acts_in_both : goal.returns-in-10-clause-acts_in_both
 returns-in-10-clause-acts_in_both c = change_buffer _ _ _ _ _ _ _ _ c.gate_at_input-g.ensures c.kind_of_gate.ensures _ c.in-10.is c.buffer_input.ensures
@@ -37,6 +25,3 @@ returns-in-10-clause-slots_stay c = lent_kept _ _ _ c.requires.2 (search rules) 
 
 pub returns-in_default-clause-acts_in_both : goal.returns-in_default-clause-acts_in_both
 returns-in_default-clause-acts_in_both c = change_pin _ _ _ _ _ _ _ _ c.gate_at_input-g.ensures c.kind_of_gate.ensures _ c.in_default.in_default-own.rest c.pin_raised.ensures
-
-pub returns-in_default-clause-slots_stay : goal.returns-in_default-clause-slots_stay
-returns-in_default-clause-slots_stay c = c.requires.2

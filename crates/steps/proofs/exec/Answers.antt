@@ -8,9 +8,6 @@ exec_queue-requires c = (search rules, search rules, c.requires.all_lent.3, queu
 pub returns-in-2-clause-over_all : goal.returns-in-2-clause-over_all
 returns-in-2-clause-over_all c = on_reroute _ _ _ _ _ _ c.requires.entered _ c.in-2.is c.output.ensures
 
-pub returns-in-2-clause-slots_stay : goal.returns-in-2-clause-slots_stay
-returns-in-2-clause-slots_stay c = c.requires.all_lent.3
-
 pub returns-in-11 : goal.returns-in-11
 returns-in-11 c =
     let m = c.exec_buffer.ensures _ _ in
@@ -24,44 +21,23 @@ returns-in-15 c =
 pub returns-in-18-clause-over_all : goal.returns-in-18-clause-over_all
 returns-in-18-clause-over_all c = on_var_get _ _ _ _ _ _ _ _ c.requires.entered c.in-18.is (c.exec_var_get.ensures _ _)
 
-pub returns-in-18-clause-slots_stay : goal.returns-in-18-clause-slots_stay
-returns-in-18-clause-slots_stay c = c.requires.all_lent.3
-
 pub returns-in-19-clause-over_all : goal.returns-in-19-clause-over_all
 returns-in-19-clause-over_all c = on_var_set _ _ _ _ _ _ _ _ c.requires.entered c.in-19.is (c.exec_var_set.ensures _ _)
-
-pub returns-in-19-clause-slots_stay : goal.returns-in-19-clause-slots_stay
-returns-in-19-clause-slots_stay c = c.requires.all_lent.3
 
 pub returns-in-20-clause-over_all : goal.returns-in-20-clause-over_all
 returns-in-20-clause-over_all c = on_branch _ _ _ _ _ _ _ _ c.requires.entered c.in-20.is (c.exec_branch.ensures _ _)
 
-pub returns-in-20-clause-slots_stay : goal.returns-in-20-clause-slots_stay
-returns-in-20-clause-slots_stay c = c.requires.all_lent.3
-
 pub returns-in-21-clause-over_all : goal.returns-in-21-clause-over_all
 returns-in-21-clause-over_all c = on_union _ _ _ _ _ _ _ _ c.requires.entered c.in-21.is (c.exec_union.ensures _ _)
-
-pub returns-in-21-clause-slots_stay : goal.returns-in-21-clause-slots_stay
-returns-in-21-clause-slots_stay c = c.requires.all_lent.3
 
 pub returns-in-22-clause-over_all : goal.returns-in-22-clause-over_all
 returns-in-22-clause-over_all c = on_toggle _ _ _ _ _ _ _ _ c.requires.entered c.in-22.is (c.exec_toggle.ensures _ _)
 
-pub returns-in-22-clause-slots_stay : goal.returns-in-22-clause-slots_stay
-returns-in-22-clause-slots_stay c = c.requires.all_lent.3
-
 pub returns-in-23-clause-over_all : goal.returns-in-23-clause-over_all
 returns-in-23-clause-over_all c = on_cycle _ _ _ _ _ _ _ _ c.requires.entered _ c.in-23.is c.pin-in-23.ensures (c.exec_cycle.ensures _ _)
 
-pub returns-in-23-clause-slots_stay : goal.returns-in-23-clause-slots_stay
-returns-in-23-clause-slots_stay c = c.requires.all_lent.3
-
 pub returns-in-31-clause-over_all : goal.returns-in-31-clause-over_all
 returns-in-31-clause-over_all c = on_break _ _ _ _ _ _ _ _ c.requires.entered c.in-31.is (c.exec_break.ensures _ _)
-
-pub returns-in-31-clause-slots_stay : goal.returns-in-31-clause-slots_stay
-returns-in-31-clause-slots_stay c = c.requires.all_lent.3
 
 pub returns-in-16-to-17 : goal.returns-in-16-to-17
 returns-in-16-to-17 c =
@@ -71,17 +47,8 @@ returns-in-16-to-17 c =
 pub returns-in-24-to-25-clause-over_all : goal.returns-in-24-to-25-clause-over_all
 returns-in-24-to-25-clause-over_all c = on_send _ _ _ _ _ _ _ _ c.requires.entered (send_kinds _ c.in-24-to-25.in_default-own.rest c.in-24-to-25.if-k-lt18-own.false c.in-24-to-25.if-k-lt26-own.true) (c.exec_send.ensures _)
 
-pub returns-in-24-to-25-clause-slots_stay : goal.returns-in-24-to-25-clause-slots_stay
-returns-in-24-to-25-clause-slots_stay c = c.requires.all_lent.3
-
 pub returns-in_default-clause-over_all : goal.returns-in_default-clause-over_all
 returns-in_default-clause-over_all c = on_low _ _ _ _ _ _ c.requires.entered c.in_default.in_default-own.rest c.in_default.if-k-lt15-own.true
 
-pub returns-in_default-clause-slots_stay : goal.returns-in_default-clause-slots_stay
-returns-in_default-clause-slots_stay c = c.requires.all_lent.3
-
 pub returns-in_default-2-clause-over_all : goal.returns-in_default-2-clause-over_all
 returns-in_default-2-clause-over_all c = on_high _ _ _ _ _ _ c.requires.entered c.in_default.in_default-own.rest c.in_default.if-k-lt26-own.false
-
-pub returns-in_default-2-clause-slots_stay : goal.returns-in_default-2-clause-slots_stay
-returns-in_default-2-clause-slots_stay c = c.requires.all_lent.3

@@ -11,6 +11,3 @@ returns-then-checks_waiting-eq0-clause-over_all c = finish_settled _ _ _ _ _ _ _
 
 pub returns-clause-over_all : goal.returns-clause-over_all
 returns-clause-over_all c = finish_settled _ _ _ _ _ _ _ _ _ _ _ _ _ c.if-stop-ne0.false c.publish_writes.ensures (settled_all _ _ _ _ _ _ c.refresh_all.ensures _ _ c.check_waiting.ensures.over_all) c.stop_of.ensures
-
-pub returns-clause-slots_stay : goal.returns-clause-slots_stay
-returns-clause-slots_stay c = c.check_waiting.ensures.slots_stay

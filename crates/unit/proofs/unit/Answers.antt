@@ -7,6 +7,3 @@ finish-stop-requires c = (search rules, search rules, search rules, c.run_chain-
 
 pub returns-clause-over_all : goal.returns-clause-over_all
 returns-clause-over_all c = unit_ran _ _ _ _ _ _ _ _ _ _ _ _ _ _ _ _ _ c.enter.ensures c.begin_act.ensures c.run_chain-chain.ensures.over_all c.finish-stop.ensures.over_all
-
-pub returns-clause-slots_stay : goal.returns-clause-slots_stay
-returns-clause-slots_stay c = c.finish-stop.ensures.slots_stay

@@ -1,6 +1,5 @@
 use borrow.Author.Rules.{rules}
-use native.Mathlib.Omega.{arith}
-use Rattle.std.proofs.lemmas.Result.{err_from_is_err_and}
+use Rattle.lists.proofs.Answers.{refused}
 use Rattle.opening.proofs.Acts.{fires_first, fires_next, fires_full, fires_last}
 use Rattle.opening.proofs.filing.fire_late.Goals as goal
 
@@ -8,9 +7,7 @@ pub loop-init : goal.loop-init
 loop-init c = (search rules, fires_first _ _ _ _)
 
 pub returns-in_err-activate : goal.returns-in_err-activate
-returns-in_err-activate c =
-    let p = err_from_is_err_and c.from_residual.result c.from_residual.ensures.1 in
-    rw p.1 (fires_full _ _ _ _ _ _ _ _ _ c.requires.2 c.entry-x.ensures c.loop.invariant.1 c.loop-test.true c.activate.ensures c.in_err-activate.was)
+returns-in_err-activate c = rw (refused c.from_residual.result c.from_residual.ensures.0) (fires_full _ _ _ _ _ _ _ _ _ c.requires.2 c.entry-x.ensures c.loop.invariant.1 c.loop-test.true c.activate.ensures c.in_err-activate.was)
 
 pub loop-preserved : goal.loop-preserved
 loop-preserved c = (search rules, fires_next _ _ _ _ _ _ _ _ _ c.requires.2 c.entry-x.ensures c.loop.invariant.1 c.loop-test.true c.activate.ensures c.in_ok-activate.was)

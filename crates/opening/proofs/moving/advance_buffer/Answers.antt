@@ -8,9 +8,6 @@ advance_queue-requires c = let q = is_queue_by _ _ _ c.kind_of_gate.ensures c.in
 pub returns-in-10-clause-over_all : goal.returns-in-10-clause-over_all
 returns-in-10-clause-over_all c = buffer_lands _ _ _ _ _ _ _ _ _ c.kind_of_gate.ensures c.in-10.is c.land.ensures.moves_gate
 
-pub returns-in-10-clause-slots_stay : goal.returns-in-10-clause-slots_stay
-returns-in-10-clause-slots_stay c = c.land.ensures.slots_stay
-
 pub returns-in-11-clause-over_all : goal.returns-in-11-clause-over_all
 returns-in-11-clause-over_all c = buffer_fires _ _ _ _ _ _ _ _ _ c.kind_of_gate.ensures _ _ c.in-11.is c.fires_advance-n.ensures.delays_change c.fire_late.ensures
 
@@ -20,17 +17,8 @@ returns-in-11-clause-slots_stay c = lent_moved _ _ _ _ _ _ _ c.requires.3 c.fire
 pub returns-in-16-to-17-clause-over_all : goal.returns-in-16-to-17-clause-over_all
 returns-in-16-to-17-clause-over_all c = buffer_releases _ _ _ _ _ _ _ _ _ _ _ c.kind_of_gate.ensures c.in-16-to-17.if-this-lt16-own.false c.in-16-to-17.if-this-lt18-own.true c.advance_queue.ensures.over_all
 
-pub returns-in-16-to-17-clause-slots_stay : goal.returns-in-16-to-17-clause-slots_stay
-returns-in-16-to-17-clause-slots_stay c = c.advance_queue.ensures.slots_stay
-
 pub returns-in_default-clause-over_all : goal.returns-in_default-clause-over_all
 returns-in_default-clause-over_all c = buffer_below _ _ _ _ _ _ _ c.kind_of_gate.ensures c.in_default.in_default-own.rest c.in_default.if-this-lt16-own.true
 
-pub returns-in_default-clause-slots_stay : goal.returns-in_default-clause-slots_stay
-returns-in_default-clause-slots_stay c = c.requires.3
-
 pub returns-in_default-2-clause-over_all : goal.returns-in_default-2-clause-over_all
 returns-in_default-2-clause-over_all c = buffer_above _ _ _ _ _ _ _ c.kind_of_gate.ensures c.in_default.in_default-own.rest c.in_default.if-this-lt18-own.false
-
-pub returns-in_default-2-clause-slots_stay : goal.returns-in_default-2-clause-slots_stay
-returns-in_default-2-clause-slots_stay c = c.requires.3

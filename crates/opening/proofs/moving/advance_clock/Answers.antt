@@ -4,11 +4,5 @@ use Rattle.opening.proofs.moving.advance_clock.Goals as goal
 pub returns-then-move_clock-clause-over_all : goal.returns-then-move_clock-clause-over_all
 returns-then-move_clock-clause-over_all c = clock_fires _ _ _ _ _ _ _ _ c.move_clock.ensures.moves_gate _ _ c.if-move_clock.true c.fire_pending.ensures
 
-pub returns-then-move_clock-clause-slots_stay : goal.returns-then-move_clock-clause-slots_stay
-returns-then-move_clock-clause-slots_stay c = c.move_clock.ensures.slots_stay
-
 pub returns-clause-over_all : goal.returns-clause-over_all
 returns-clause-over_all c = clock_waits _ _ _ _ _ _ _ _ c.move_clock.ensures.moves_gate c.if-move_clock.false
-
-pub returns-clause-slots_stay : goal.returns-clause-slots_stay
-returns-clause-slots_stay c = c.move_clock.ensures.slots_stay

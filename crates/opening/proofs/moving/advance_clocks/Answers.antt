@@ -1,5 +1,5 @@
 use borrow.Author.Rules.{rules}
-use Rattle.std.proofs.lemmas.Result.{err_from_is_err_and}
+use Rattle.lists.proofs.Answers.{refused}
 use mathlib.Core.Path.{ap, ◌∙◌}
 use Rattle.model.specs.Opening.{advance_clock}
 use Rattle.links.specs.Links.{gates_of_word}
@@ -12,12 +12,7 @@ pub loop-g-init : goal.loop-g-init
 loop-g-init c = (search rules, search rules, search rules, search rules, c.first_gate-g.ensures, leads_first _ (advance_clock _) _ _ _ (ap gates_of_word c.clocks-d.ensures ∙ clocks_of _))
 
 pub returns-in_err-advance_clock-clause-over_all : goal.returns-in_err-advance_clock-clause-over_all
-returns-in_err-advance_clock-clause-over_all c =
-    let p = err_from_is_err_and c.from_residual.result c.from_residual.ensures.1 in
-    rw p.1 (leads_full _ (advance_clock _) (clock_adds _) _ _ _ _ _ _ _ _ c.loop-g.invariant.5 c.loop-g.invariant.4 c.loop-g-test.true c.later_gates-d.ensures c.advance_clock.ensures.over_all c.in_err-advance_clock.was)
-
-pub returns-in_err-advance_clock-clause-slots_stay : goal.returns-in_err-advance_clock-clause-slots_stay
-returns-in_err-advance_clock-clause-slots_stay c = c.advance_clock.ensures.slots_stay
+returns-in_err-advance_clock-clause-over_all c = rw (refused c.from_residual.result c.from_residual.ensures.0) (leads_full _ (advance_clock _) (clock_adds _) _ _ _ _ _ _ _ _ c.loop-g.invariant.5 c.loop-g.invariant.4 c.loop-g-test.true c.later_gates-d.ensures c.advance_clock.ensures.over_all c.in_err-advance_clock.was)
 
 pub loop-g-smaller : goal.loop-g-smaller
 loop-g-smaller c = gates_fewer _ _ _ c.loop-g.invariant.4 c.loop-g-test.true c.later_gates-d.ensures
@@ -27,6 +22,3 @@ loop-g-preserved c = (search rules, search rules, search rules, c.advance_clock.
 
 pub returns-clause-over_all : goal.returns-clause-over_all
 returns-clause-over_all c = leads_last _ (advance_clock _) _ _ _ _ _ c.loop-g.invariant.5 c.loop-g.invariant.4 c.loop-g-test.false
-
-pub returns-clause-slots_stay : goal.returns-clause-slots_stay
-returns-clause-slots_stay c = c.loop-g.invariant.3

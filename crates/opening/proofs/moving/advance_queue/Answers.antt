@@ -5,11 +5,5 @@ use Rattle.opening.proofs.moving.advance_queue.Goals as goal
 pub returns-then-release-clause-over_all : goal.returns-then-release-clause-over_all
 returns-then-release-clause-over_all c = fires_once _ _ _ _ _ _ _ (releasing _ _ _) _ _ _ _ c.release.ensures.moves_gate c.if-release.true c.fire_late.ensures
 
-pub returns-then-release-clause-slots_stay : goal.returns-then-release-clause-slots_stay
-returns-then-release-clause-slots_stay c = c.release.ensures.slots_stay
-
 pub returns-clause-over_all : goal.returns-clause-over_all
 returns-clause-over_all c = fires_not _ _ _ _ _ _ (releasing _ _ _) _ _ _ c.release.ensures.moves_gate c.if-release.false
-
-pub returns-clause-slots_stay : goal.returns-clause-slots_stay
-returns-clause-slots_stay c = c.release.ensures.slots_stay

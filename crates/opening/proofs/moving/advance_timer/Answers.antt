@@ -4,11 +4,5 @@ use Rattle.opening.proofs.moving.advance_timer.Goals as goal
 pub returns-then-move_timer-clause-over_all : goal.returns-then-move_timer-clause-over_all
 returns-then-move_timer-clause-over_all c = timer_fires _ _ _ _ _ _ _ _ c.move_timer.ensures.moves_gate _ _ c.if-move_timer.true c.fire_late.ensures
 
-pub returns-then-move_timer-clause-slots_stay : goal.returns-then-move_timer-clause-slots_stay
-returns-then-move_timer-clause-slots_stay c = c.move_timer.ensures.slots_stay
-
 pub returns-clause-over_all : goal.returns-clause-over_all
 returns-clause-over_all c = timer_waits _ _ _ _ _ _ _ _ c.move_timer.ensures.moves_gate c.if-move_timer.false
-
-pub returns-clause-slots_stay : goal.returns-clause-slots_stay
-returns-clause-slots_stay c = c.move_timer.ensures.slots_stay
