@@ -1,5 +1,5 @@
 -- What the functions that read and write the tables come to: one law for each way out of one.
-use Rattle.std.proofs.Common.{◌≡◌, ℕ, ◌+◌, ◌*◌, ◌/◌, ◌%◌, ◌^◌, ◌<◌, ◌≤◌, min, Bool, true, false, not, ◌||◌, eqb, leb, List, map, length, get_or, take, set, sym, subst, refl, ap, ◌∙◌, ap₂, add-one, arith, length-take, get_or-take, get_or-set_same, ne_eqb, le-leb}
+use Rattle.std.proofs.Common.{◌≡◌, ℕ, ◌+◌, ◌*◌, ◌/◌, ◌%◌, ◌^◌, ◌<◌, ◌≤◌, min, Bool, true, false, not, ◌||◌, eqb, leb, List, map, length, get_or, take, set, sym, refl, ap, ◌∙◌, ap₂, add-one, arith, length-take, get_or-take, get_or-set_same, ne_eqb, le-leb}
 use mathlib.Core.Bool.{or-true}
 use borrow.Author.Tests.{lt-leb}
 use lib.Bits.{bit_or, bit_xor}
@@ -33,12 +33,6 @@ Counts most n m = (n ≡ m) × (n ≤ most)
 -- a mark of a table that has a word for each
 flag_at : (k i x : ℕ) (xs : List ℕ) (d : Bool) → i < k → i < length xs → x ≡ get_or xs i 0 → get_or (take k (map marked xs)) i d ≡ marked x
 flag_at k i x xs d h l e = get_or-take k (map marked xs) i d h ∙ map_marked_get xs i d l ∙ ap marked (sym e)
-
--- one mark more in a word of marks
-pub bit_set :
-    (bs bs₁ : List ℕ) (i b d : ℕ) → b < 64 → d ≡ get_or (words bs) i 0 → Stored bs bs₁ i (bit_or d (1 * 2 ^ b % 2 ^ 64)) →
-    Stored bs bs₁ i (bit_or (get_or (words bs) i 0) (2 ^ b))
-bit_set bs bs₁ i b d h e s = subst (Stored bs bs₁ i) (ap₂ bit_or e (one_digit b h)) s
 
 -- no mark there, where its digit is 0
 pub unmarked_at : (k g d : ℕ) (b : Bool) → g < k → eqb (d / 2 ^ g % 2) 0 ≡ not (get_or (digits k d) g b)

@@ -1,9 +1,5 @@
-use Rattle.std.proofs.Common.{refl}
 use Rattle.wires.proofs.Memory.{written_found, written_next, written_not}
 use Rattle.wires.proofs.written.is_written.Goals as goal
-
-pub loop-k-init : goal.loop-k-init
-loop-k-init c = refl
 
 pub returns-then-get-o : goal.returns-then-get-o
 returns-then-get-o c = written_found _ _ _ _ c.requires c.loop-k-test.true c.loop-k.invariant _ c.get.ensures c.if-get-o.true
