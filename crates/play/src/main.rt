@@ -1,7 +1,7 @@
 // Plays script.bin over circuit.bin, both in the folder that the program runs in, and prints the records and how the run ended, or the refusal.
 #![tactic(auto)]
 
-ghost use Rattle.std.specs.Prelude.{◌^◌, ◌<◌};
+ghost use Rattle.std.specs.Prelude.{◌^◌, ◌<◌, IfSome};
 ghost use Rattle.io.specs.Counts.{IsPrefixLen};
 
 mod outputs;
@@ -36,12 +36,11 @@ fn print_word(rt: &impl Print, word: u64, last: u8) -> io::Result<()> {
 fn print_record(rt: &impl Print, log: &[u8], at: usize, n: usize) -> io::Result<()>
     requires { (at < 2 ^ 61) × (n < 2 ^ 61) }
 {
-    let mut i = 0;
-    while i + 1 < n {
+    let last = n.saturating_sub(1);
+    for i in 0..last {
         print_word(rt, read(log, at + i), b' ')?;
-        i += 1;
     }
-    print_word(rt, read(log, at + i), b'\n')
+    print_word(rt, read(log, at + last), b'\n')
 }
 
 // Prints the records in the first `size` words of the log.
@@ -50,6 +49,7 @@ fn print_records(rt: &impl Print, circuit: &[u8], log: &[u8], size: usize) -> io
 {
     let shown = outputs(circuit);
     let mut at = 0;
+    // Stays: each record has a size of its own, by which `at` goes on, so no range has these places.
     while at < size {
         let n = record_size(log, at, size - at, shown);
         print_record(rt, log, at, n)?;
@@ -70,30 +70,14 @@ fn print_refused(rt: &impl Print, number: u64) -> io::Result<()> {
 
 // ---- playing
 
-// A file that was read: whether all of it fitted the buffer, and how many bytes came.
-#[derive(Clone, Copy)]
-struct Contents {
-    whole: bool,
-    bytes: usize,
-}
-
-// Reads a file to the front of a buffer. A file that ends later than the buffer, or cannot be read to its end, is not whole.
-fn read_file(rt: &impl Files, name: &str, buffer: &mut [u8]) -> Contents
-    ensures { IsPrefixLen result.bytes buffer.new }
+// Reads a file to the front of a buffer, and answers how many bytes came. None where it ends later than the buffer, or cannot be read to its end.
+fn read_file(rt: &impl Files, name: &str, buffer: &mut [u8]) -> Option<usize>
+    ensures { IfSome result (λ n. IsPrefixLen n buffer.new) }
 {
-    let Ok(mut file) = File::open(rt, name) else {
-        return Contents {
-            whole: false,
-            bytes: 0,
-        };
-    };
+    let mut file = File::open(rt, name).ok()?;
     let n = read_full(&mut file, buffer);
-    let mut next = [0u8; 1];
-    let more = file.read(&mut next);
-    Contents {
-        whole: matches!(more, Ok(0)),
-        bytes: n,
-    }
+    let more = file.read(&mut [0u8]);
+    matches!(more, Ok(0)).then_some(n)
 }
 
 // Lends a log and three areas of 65,536 bytes each, and prints what came of the call.
@@ -125,11 +109,8 @@ fn main(rt: HostRuntime) -> io::Result<()> {
     let mut script = [0u8; ROOM];
     let c = read_file(&rt, "circuit.bin", &mut circuit);
     let s = read_file(&rt, "script.bin", &mut script);
-    let n = c.bytes;
-    let m = s.bytes;
-    if c.whole && s.whole {
-        play(&rt, &circuit[..n], &script[..m])
-    } else {
-        print_refused(&rt, NO_FILES)
-    }
+    let (Some(n), Some(m)) = (c, s) else {
+        return print_refused(&rt, NO_FILES);
+    };
+    play(&rt, &circuit[..n], &script[..m])
 }

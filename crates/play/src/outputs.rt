@@ -21,10 +21,8 @@ pub fn outputs(circuit: &[u8]) -> usize
     let constants = least(read(circuit, 1), MOST_CONSTANTS);
     let first = 4 + 2 * constants;
     let mut total = 0;
-    let mut g = 0;
-    while g < gates {
+    for g in 0..gates {
         total += kinds::outputs(read(circuit, first + g));
-        g += 1;
     }
     total
 }

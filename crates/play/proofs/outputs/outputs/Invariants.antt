@@ -5,7 +5,4 @@ use Prim.Native.Nat.{◌+◌, ◌-◌, ◌*◌, ◌≤◌}
 use Rattle.play.proofs.outputs.outputs.Given as goal
 
 abbrev pub invariant-loop-g : goal.invariant-loop-g
-invariant-loop-g l = (l.g ≤ l.gates) × (l.total ≤ 9 * l.g) × (l.total + outputs_from (words l.circuit) (l.first + l.g) (l.gates - l.g) ≡ outputs_from (words l.circuit) l.first l.gates)
-
-abbrev pub decreases-loop-g : goal.decreases-loop-g
-decreases-loop-g l = l.gates - l.g
+invariant-loop-g l = (l.total ≤ 9 * l.g) × (l.total + outputs_from (words l.circuit) (l.first + l.g) (l.gates - l.g) ≡ outputs_from (words l.circuit) l.first l.gates)

@@ -1,7 +1,0 @@
-use Rattle.replay.specs.Tally.{with_cut}
-use Rattle.std.proofs.Common.{refl}
-use Rattle.replay.proofs.tally.Tally.with_cut.Goals as goal
-
-pub returns : goal.returns
-unfolding with_cut
-returns c = refl
