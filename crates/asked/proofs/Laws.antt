@@ -1,11 +1,11 @@
 -- Laws of cases and counts.
 use Rattle.std.proofs.Common.{◌≡◌, ℕ, ◌≤◌, false, eqb, List, ◌++◌, length, get_or, set, sym, refl, ap, arith, length-append, length-take-le, eq-eqb, ne_eqb}
 use lib.Seq.{set_out}
-use Rattle.packed.specs.Read.{IsPrefixLen}
 use Rattle.asked.specs.declared.case.Case.{Case}
 use Rattle.asked.specs.declared.case.Answers.{Answers}
 use Rattle.asked.specs.Case.{right}
-use Rattle.asked.specs.Tally.{counted, one_more}
+use Rattle.packed.specs.Tally.{one_more}
+use Rattle.asked.specs.Tally.{counted}
 
 -- the first answer is wrong
 pub first_wrong : (c : Case) (a : Answers) → (a.check ≡ c.check → ⊥) → false ≡ right c a
@@ -26,7 +26,3 @@ not_counted ns n h = sym (set_out ns n (one_more (get_or ns n 0)) h)
 pub is_counted : (ns : List ℕ) (n x : ℕ) → x ≡ one_more (get_or ns n 0) → set ns n x ≡ counted ns n
 unfolding counted
 is_counted ns n x e = ap (set ns n) e
-
--- what counts bytes of a list counts bytes of a longer one
-pub counts_longer : (n : ℕ) (xs ys : List ℕ) → IsPrefixLen n xs → IsPrefixLen n (xs ++ ys)
-counts_longer n xs ys h = let k : n ≤ length (xs ++ ys) = omega (arith, h.0, length-append xs ys) in (k, sym (length-take-le n (xs ++ ys) k))

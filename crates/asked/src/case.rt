@@ -7,6 +7,9 @@ use circuit::refusals::refused;
 use circuit::{check, refusal};
 use words::read;
 
+// The bytes of the numbers before a case's circuit.
+pub const HEAD: usize = 48;
+
 // The numbers before a case's circuit: what `check` and `refusal` have to answer, the bytes lent, and the circuit's length.
 #[derive(Clone, Copy)]
 pub struct Case {
@@ -26,16 +29,18 @@ pub struct Answers {
 }
 
 // The numbers from their six words.
-pub fn numbers(head: &[u8]) -> Case
-    ensures { result ≡ case_of (words head.now) }
-{
-    Case {
-        check: read(head, 0),
-        refusal: read(head, 1),
-        values: read(head, 2) as usize,
-        units: read(head, 3) as usize,
-        delays: read(head, 4) as usize,
-        circuit: read(head, 5) as usize,
+impl From<&[u8; HEAD]> for Case {
+    ghost from_gives = { λ head case. case ≡ case_of (words head.now) };
+
+    fn from(head: &[u8; HEAD]) -> Self {
+        Self {
+            check: read(head, 0),
+            refusal: read(head, 1),
+            values: read(head, 2) as usize,
+            units: read(head, 3) as usize,
+            delays: read(head, 4) as usize,
+            circuit: read(head, 5) as usize,
+        }
     }
 }
 

@@ -3,135 +3,122 @@
 #![tactic(auto)]
 
 ghost use Rattle.std.specs.Prelude.{◌≡◌};
-ghost use Rattle.packed.specs.Read.{IsPrefixLen};
 ghost use Rattle.asked.specs.SizeMet.{size_met};
 
 mod case;
 mod size_due;
 mod tally;
 
-use case::{Answers, Case, ask, is_right, numbers};
+use case::{Answers, Case, HEAD, ask, is_right};
 use circuit::refusals::refused;
 use packed::failing::fail;
-use packed::filled::{TOLD, filled_words};
-use packed::read_full;
-use size_due::{SizeDue, is_size_as_due};
+use packed::filled::{FILLED_WORD, TOLD};
+use packed::{next_bytes, next_word, or_0, read_full};
+use size_due::{SIZE_HEAD, SizeDue, is_size_as_due};
 use std::fs::File;
-use std::io;
 use std::io::Read;
 use std::rt::Files;
+use std::{fmt, io};
 use tally::Tally;
-use words::read;
 use words::told::put_at;
 
 // The room for a circuit or a script.
 const ROOM: usize = 65_536;
 
-// The bytes of the numbers before a case's circuit.
-const HEAD: usize = 48;
-
-// The bytes of the numbers before a size's circuit.
-const SIZE_HEAD: usize = 48;
-
 // ---- what is printed
-
-// Prints a text and a number.
-fn print(rt: &impl Print, text: &str, number: u64) -> io::Result<()> {
-    print!(rt; "{text}{number}")
-}
-
-// Prints how many cases with a number were right.
-fn print_right(rt: &impl Print, number: u64, right: u64) -> io::Result<()> {
-    println!(rt; "{number}: {right} right")
-}
-
-// Prints how many were asked and were wrong, and which could not be read whole; `name` is one of them, and `asked` stands behind how many there are.
-fn print_all(rt: &impl Print, name: &str, tally: Tally, asked: &str) -> io::Result<()> {
-    if tally.cut {
-        print!(rt; "not whole: ")?;
-        print(rt, name, tally.asked)?;
-        println!(rt)?;
-    }
-    print(rt, "", tally.asked)?;
-    print(rt, asked, tally.wrong)?;
-    println!(rt; " wrong")
-}
 
 // Prints a line for each number.
 fn print_numbers(rt: &impl Print, tally: Tally) -> io::Result<()> {
-    for i in 0..11 {
-        print_right(rt, i as u64, tally.right[i])?;
+    for (number, right) in tally.right.iter().enumerate() {
+        if matches!(number, 0..=10 | 19) {
+            println!(rt; "{number}: {right} right")?;
+        }
     }
-    print_right(rt, 19, tally.right[19])
+    Ok(())
+}
+
+// Prints how many were asked and were wrong, and which could not be read whole; `name` is one of them, and `asked` stands behind how many there are.
+fn print_all(
+    rt: &impl Print,
+    name: &str,
+    all: packed::tally::Tally,
+    asked: &str,
+) -> io::Result<()> {
+    let tried = all.tried;
+    let wrong = all.wrong;
+    if all.cut {
+        println!(rt; "not whole: {name} {tried}")?;
+    }
+    println!(rt; "{tried} {asked}, {wrong} wrong")
 }
 
 // ---- cases
+
+// A case that was wrong, by its number from 0, and what was answered to it.
+#[derive(Clone, Copy)]
+struct WrongCase {
+    number: u64,
+    case: Case,
+    answers: Answers,
+}
+
+impl fmt::Display for WrongCase {
+    fn fmt<W: fmt::Write>(&self, f: &mut fmt::Formatter<W>) -> fmt::Result {
+        let number = self.number;
+        let (check, due) = (self.answers.check, self.case.check);
+        write!(f, "case {number}: check answers {check}, due {due}")?;
+        let (refusal, due) = (self.answers.refusal, self.case.refusal);
+        write!(f, "; refusal answers {refusal}, due {due}")
+    }
+}
 
 // Reads a number of the file; 0 where it has ended.
 fn next_number(file: &mut impl Read) -> u64 {
     let mut word = [0u8; 8];
     read_full(file, &mut word);
-    read(&word, 0)
+    u64::from_le_bytes(word)
 }
 
-// Reads n bytes to the front of a buffer, none where it has no room for them, and answers how many came.
-fn next_bytes(file: &mut impl Read, buffer: &mut [u8], n: usize) -> usize
-    ensures { IsPrefixLen result buffer.new }
-{
-    if buffer.len() < n {
-        return 0;
-    }
-    read_full(file, &mut buffer[..n])
+// Reads as many bytes as these are; none where the file has fewer.
+fn fill(file: &mut impl Read, bytes: &mut [u8]) -> Option<()> {
+    (read_full(file, bytes) == bytes.len()).then_some(())
 }
 
-// Prints what was answered to a case, by its number from 0, and what was due.
-fn print_wrong_case(rt: &impl Print, number: u64, case: Case, answers: Answers) -> io::Result<()> {
-    print(rt, "case ", number)?;
-    print(rt, ": check answers ", answers.check)?;
-    print(rt, ", due ", case.check)?;
-    print(rt, "; refusal answers ", answers.refusal)?;
-    print(rt, ", due ", case.refusal)?;
-    println!(rt)
-}
-
-// Asks about a case with these bytes.
-fn ask_case(
-    rt: &impl Print,
-    tally: Tally,
-    case: Case,
-    circuit: &[u8],
-    script: &[u8],
-) -> io::Result<Tally> {
-    let answers = ask(case, circuit, script);
-    if is_right(case, answers) {
-        return Ok(tally.with_right(case.refusal));
-    }
-    print_wrong_case(rt, tally.asked, case, answers)?;
-    Ok(tally.with_wrong())
-}
-
-// Reads the next case and asks about it.
-fn ask_next_case(rt: &impl Print, file: &mut impl Read, tally: Tally) -> io::Result<Tally> {
+// Reads the next case and asks about it: the number that it has as it should; none where it cannot be read whole.
+fn ask_next_case(file: &mut impl Read, number: u64) -> Option<Result<u64, WrongCase>> {
     let mut head = [0u8; HEAD];
     let mut circuit = [0u8; ROOM];
     let mut script = [0u8; ROOM];
-    if read_full(file, &mut head) != HEAD {
-        return Ok(tally.with_cut());
-    }
-    let case = numbers(&head);
-    let n = next_bytes(file, &mut circuit, case.circuit);
-    if n != case.circuit {
-        return Ok(tally.with_cut());
-    }
-    let length = next_number(file) as usize;
-    let m = next_bytes(file, &mut script, length);
-    if m != length {
-        return Ok(tally.with_cut());
-    }
-    ask_case(rt, tally, case, &circuit[..n], &script[..m])
+    fill(file, &mut head)?;
+    let case = Case::from(&head);
+    let circuit = circuit.get_mut(..case.circuit)?;
+    fill(file, circuit)?;
+    let script = script.get_mut(..next_number(file) as usize)?;
+    fill(file, script)?;
+    let answers = ask(case, circuit, script);
+    Some(if is_right(case, answers) {
+        Ok(case.refusal)
+    } else {
+        Err(WrongCase {
+            number,
+            case,
+            answers,
+        })
+    })
 }
 
 // ---- sizes
+
+// A size that was wrong, by its number from 0.
+#[derive(Clone, Copy)]
+struct WrongSize(u64);
+
+impl fmt::Display for WrongSize {
+    fn fmt<W: fmt::Write>(&self, f: &mut fmt::Formatter<W>) -> fmt::Result {
+        let number = self.0;
+        write!(f, "wrong: size {number}")
+    }
+}
 
 // Asks about a size with these words for what is told, and compares them with `words`.
 fn ask_size_lent(due: SizeDue, circuit: &[u8], words: &[u64], told: &mut [u64]) -> bool
@@ -141,114 +128,77 @@ fn ask_size_lent(due: SizeDue, circuit: &[u8], words: &[u64], told: &mut [u64]) 
     is_size_as_due(due, number, told, words)
 }
 
-// The first two of the words that are due, as far as there is room: both figures, unless the call is refused.
-fn tell_figures(due: SizeDue, words: &mut [u64]) {
-    if due.number != 0 {
-        return;
-    }
-    put_at(words, 0, due.steps);
-    put_at(words, 1, due.bytes);
-}
-
-// Asks about a size with words that are filled: `words` becomes those that are due.
-fn ask_size_filled(due: SizeDue, circuit: &[u8], words: &mut [u64], told: &mut [u64]) -> bool {
-    tell_figures(due, words);
-    ask_size_lent(due, circuit, words, told)
-}
-
-// Asks about a size with as many words as are lent; one that lends more than there are is not as it should be.
+// Asks about a size with as many words as are lent, which are filled; one that lends more than there are is not as it should be. The first two of the words that are due
+// are both figures, as far as there is room, unless the call is refused.
 fn is_size_right(due: SizeDue, circuit: &[u8]) -> bool {
     if TOLD < due.told {
         return false;
     }
-    let mut words = filled_words();
-    let mut told = filled_words();
-    ask_size_filled(due, circuit, &mut words[..due.told], &mut told[..due.told])
-}
-
-// Asks about a size with these bytes, and counts it.
-fn ask_size(rt: &impl Print, tally: Tally, due: SizeDue, circuit: &[u8]) -> io::Result<Tally> {
-    if is_size_right(due, circuit) {
-        return Ok(tally.with_right(due.number));
+    let mut words = [FILLED_WORD; TOLD];
+    let mut told = [FILLED_WORD; TOLD];
+    let words = &mut words[..due.told];
+    if due.number == 0 {
+        put_at(words, 0, due.steps);
+        put_at(words, 1, due.bytes);
     }
-    print(rt, "wrong: size ", tally.asked)?;
-    println!(rt)?;
-    Ok(tally.with_wrong())
+    ask_size_lent(due, circuit, words, &mut told[..due.told])
 }
 
-// Reads the next size, if there is a buffer for it, and asks about it.
-fn ask_next_size(rt: &impl Print, file: &mut impl Read, tally: Tally) -> io::Result<Tally> {
+// Reads the next size, if there is a buffer for it, and asks about it: the number that it has as it should; none where it cannot be read whole.
+fn ask_next_size(file: &mut impl Read, number: u64) -> Option<Result<u64, WrongSize>> {
     let mut head = [0u8; SIZE_HEAD];
-    if !packed::next_bytes(file, &mut head, SIZE_HEAD) {
-        return Ok(tally.with_cut());
-    }
-    let due = SizeDue::of(&head);
+    next_bytes(file, &mut head, SIZE_HEAD)?;
+    let due = SizeDue::from(&head);
     let mut circuit = [0u8; ROOM];
-    if !packed::next_bytes(file, &mut circuit, due.circuit) {
-        return Ok(tally.with_cut());
-    }
-    ask_size(rt, tally, due, &circuit[..due.circuit])
+    next_bytes(file, &mut circuit, due.circuit)?;
+    Some(if is_size_right(due, &circuit[..due.circuit]) {
+        Ok(due.number)
+    } else {
+        Err(WrongSize(number))
+    })
 }
 
 // ---- a file
 
-// What it has.
-#[derive(Clone, Copy)]
-pub enum Sort {
-    Case,
-    Size,
-}
-
-// Reads how many there are.
-fn next_count(file: &mut impl Read, sort: Sort) -> u64 {
-    match sort {
-        Sort::Case => next_number(file),
-        Sort::Size => packed::next_word(file).value,
-    }
-}
-
-// Asks about the next of these.
-fn ask_next(rt: &impl Print, file: &mut impl Read, sort: Sort, tally: Tally) -> io::Result<Tally> {
-    match sort {
-        Sort::Case => ask_next_case(rt, file, tally),
-        Sort::Size => ask_next_size(rt, file, tally),
-    }
-}
-
-// Asks about so many, or up to the first that cannot be read whole.
-fn ask_all(rt: &impl Print, file: &mut impl Read, sort: Sort, count: u64) -> io::Result<Tally> {
-    let mut tally = Tally::new();
-    let mut left = count;
-    while 0 < left && !tally.cut {
-        tally = ask_next(rt, file, sort, tally)?;
-        left -= 1;
+// Asks about so many, or up to the first that cannot be read whole, and prints each that is wrong.
+fn ask_all<F: Read, E: fmt::Display + Drop, A: Fn(&mut F, u64) -> Option<Result<u64, E>>>(
+    rt: &impl Print,
+    file: &mut F,
+    count: u64,
+    ask_next: &A,
+) -> io::Result<Tally>
+    requires { A.IsAlwaysCallable ask_next.now }
+{
+    let mut tally = Tally::default();
+    for number in 0..count {
+        tally = match ask_next(file, number) {
+            None => return Ok(tally.with_cut()),
+            Some(Ok(right)) => tally.with_right(right),
+            Some(Err(wrong)) => {
+                println!(rt; "{wrong}")?;
+                tally.with_wrong()
+            }
+        };
     }
     Ok(tally)
 }
 
-// Prints what came of them.
-fn print_tally(rt: &impl Print, sort: Sort, tally: Tally) -> io::Result<()> {
-    match sort {
-        Sort::Case => {
-            print_numbers(rt, tally)?;
-            print_all(rt, "case ", tally, " asked, ")
-        }
-        Sort::Size => print_all(rt, "size ", tally, " sizes, "),
-    }
-}
-
-// Asks about all of a file, which lies in the folder that the program runs in.
-fn ask_file(rt: &(impl Files + Print + Eprint), name: &str, sort: Sort) -> io::Result<()> {
-    match File::open(rt, name) {
-        Ok(mut file) => {
-            let count = next_count(&mut file, sort);
-            print_tally(rt, sort, ask_all(rt, &mut file, sort, count)?)
-        }
-        Err(error) => fail(rt, name, error),
-    }
-}
-
 fn main(rt: HostRuntime) -> io::Result<()> {
-    ask_file(&rt, "questions.bin", Sort::Case)?;
-    ask_file(&rt, "sizes.bin", Sort::Size)
+    match File::open(&rt, "questions.bin") {
+        Ok(mut file) => {
+            let count = next_number(&mut file);
+            let tally = ask_all(&rt, &mut file, count, &ask_next_case)?;
+            print_numbers(&rt, tally)?;
+            print_all(&rt, "case", tally.all, "asked")?;
+        }
+        Err(error) => fail(&rt, "questions.bin", error)?,
+    }
+    match File::open(&rt, "sizes.bin") {
+        Ok(mut file) => {
+            let count = or_0(next_word(&mut file));
+            let tally = ask_all(&rt, &mut file, count, &ask_next_size)?;
+            print_all(&rt, "size", tally.all, "sizes")
+        }
+        Err(error) => fail(&rt, "sizes.bin", error),
+    }
 }

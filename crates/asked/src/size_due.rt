@@ -3,8 +3,10 @@ ghost use Rattle.words.specs.Words.{words};
 ghost use Rattle.std.specs.Prelude.{◌≡◌};
 ghost use Rattle.asked.specs.SizeDue.{size_due_of, size_as_due};
 
-use packed::same::is_same_words;
 use words::read;
+
+// The bytes of these numbers.
+pub const SIZE_HEAD: usize = 48;
 
 // The numbers before a size's circuit: the ticks; the words lent for what is told; the number that is due, and both figures; the circuit's length.
 #[derive(Clone, Copy)]
@@ -17,11 +19,11 @@ pub struct SizeDue {
     pub circuit: usize,
 }
 
-impl SizeDue {
-    // The numbers from their six words.
-    pub fn of(head: &[u8]) -> Self
-        ensures { result ≡ size_due_of (words head.now) }
-    {
+// The numbers from their six words.
+impl From<&[u8; SIZE_HEAD]> for SizeDue {
+    ghost from_gives = { λ head due. due ≡ size_due_of (words head.now) };
+
+    fn from(head: &[u8; SIZE_HEAD]) -> Self {
         Self {
             ticks: read(head, 0),
             told: read(head, 1) as usize,
@@ -37,8 +39,5 @@ impl SizeDue {
 pub fn is_size_as_due(due: SizeDue, number: u64, told: &[u64], words: &[u64]) -> bool
     ensures { result ≡ size_as_due due number told.now words.now }
 {
-    if number != due.number {
-        return false;
-    }
-    is_same_words(told, words)
+    number == due.number && told == words
 }

@@ -1,3 +1,4 @@
 -- What the contracts cite.
 pub mod Read
 pub mod Same
+pub mod Tally

@@ -1,11 +1,11 @@
 -- Bytes compared, and words.
-use Rattle.std.specs.Prelude.{ℕ, Bool, true, ◌&&◌, List, [], ◌∷◌, length, take, drop, ◌==◌}
+use Rattle.std.specs.Prelude.{ℕ, Bool, ◌&&◌, List, length, take, drop, ◌==◌}
+use Rattle.std.specs.List.{list_all}
 use Rattle.packed.specs.Same.{same}
 
 -- every byte is this one
-unfoldable pub alike : ℕ → List ℕ → Bool
-alike b [] = true
-alike b (x ∷ xs) = x == b && alike b xs
+abbrev pub alike : ℕ → List ℕ → Bool
+alike b xs = list_all (λ x. x == b) xs
 
 -- so is every byte of three areas
 unfoldable pub all_alike : ℕ → List ℕ → List ℕ → List ℕ → Bool

@@ -6,4 +6,3 @@ pub mod Due
 pub mod Met
 pub mod ReportDue
 pub mod ReportMet
-pub mod Tally

@@ -2,48 +2,28 @@
 ghost use Rattle.std.specs.Prelude.{◌≡◌};
 ghost use Rattle.replay.specs.Bytes.{alike, all_alike, holds, answered};
 
-use packed::same::{is_same, is_same_words};
-
 // Whether every byte of the area is this one.
 pub fn is_alike(area: &[u8], byte: u8) -> bool
     ensures { result ≡ alike byte area.now }
 {
-    let n = area.len();
-    let mut i = 0;
-    while i < n {
-        if area[i] != byte {
-            return false;
-        }
-        i += 1;
-    }
-    true
+    area.iter().all(|&x| x == byte)
 }
 
 // Whether every byte of the three areas is this one.
 pub fn are_alike(values: &[u8], units: &[u8], delays: &[u8], byte: u8) -> bool
     ensures { result ≡ all_alike byte values.now units.now delays.now }
 {
-    if !is_alike(values, byte) {
-        return false;
-    }
-    if !is_alike(units, byte) {
-        return false;
-    }
-    is_alike(delays, byte)
+    is_alike(values, byte) && (is_alike(units, byte) && is_alike(delays, byte))
 }
 
 // Whether the log holds these records, and behind them nothing but this byte.
 pub fn is_holding(log: &[u8], records: &[u8], byte: u8) -> bool
     ensures { result ≡ holds byte log.now records.now }
 {
-    let n = records.len();
-    if log.len() < n {
-        return false;
+    match log.split_at_checked(records.len()) {
+        None => false,
+        Some((front, rest)) => front == records && is_alike(rest, byte),
     }
-    if !is_same(&log[..n], records) {
-        return false;
-    }
-    is_alike(&log[n..], byte)
 }
 
 // Whether a call's number is the one due, and the bytes and the words that it leaves are these.
@@ -57,11 +37,5 @@ pub fn is_answered(
 ) -> bool
     ensures { result ≡ answered number due left.now bytes.now told.now words.now }
 {
-    if number != due {
-        return false;
-    }
-    if !is_same(left, bytes) {
-        return false;
-    }
-    is_same_words(told, words)
+    number == due && (left == bytes && told == words)
 }

@@ -7,6 +7,9 @@ use crate::bytes::{are_alike, is_answered};
 use packed::filled::FILLED;
 use words::read;
 
+// The bytes of the numbers before a class's circuit. The last of them, the bytes of all records together, is not used.
+pub const CLASS_HEAD: usize = 104;
+
 // The numbers before a class's circuit: the bytes lent, and the words for what is told; the call's number that is due, and whether the areas are zero afterwards (1) or
 // as they were (0); the lengths of circuit and book; the words told; the bytes of a part of the log, and how many parts there are.
 #[derive(Clone, Copy)]
@@ -26,22 +29,24 @@ pub struct ClassDue {
 }
 
 // The numbers from their words.
-pub fn class_numbers(head: &[u8]) -> ClassDue
-    ensures { result ≡ class_due_of (words head.now) }
-{
-    ClassDue {
-        log: read(head, 0) as usize,
-        values: read(head, 1) as usize,
-        units: read(head, 2) as usize,
-        delays: read(head, 3) as usize,
-        told: read(head, 4) as usize,
-        number: read(head, 5),
-        cleared: read(head, 6),
-        circuit: read(head, 7) as usize,
-        book: read(head, 8) as usize,
-        words: read(head, 9) as usize,
-        part: read(head, 10) as usize,
-        parts: read(head, 11),
+impl From<&[u8; CLASS_HEAD]> for ClassDue {
+    ghost from_gives = { λ head due. due ≡ class_due_of (words head.now) };
+
+    fn from(head: &[u8; CLASS_HEAD]) -> Self {
+        Self {
+            log: read(head, 0) as usize,
+            values: read(head, 1) as usize,
+            units: read(head, 2) as usize,
+            delays: read(head, 3) as usize,
+            told: read(head, 4) as usize,
+            number: read(head, 5),
+            cleared: read(head, 6),
+            circuit: read(head, 7) as usize,
+            book: read(head, 8) as usize,
+            words: read(head, 9) as usize,
+            part: read(head, 10) as usize,
+            parts: read(head, 11),
+        }
     }
 }
 
@@ -49,10 +54,7 @@ pub fn class_numbers(head: &[u8]) -> ClassDue
 fn area_byte(due: ClassDue) -> u8
     ensures { result ≡ area_byte due }
 {
-    if due.cleared == 0 {
-        return FILLED;
-    }
-    0
+    if due.cleared == 0 { FILLED } else { 0 }
 }
 
 // Whether the number is the one due, the log and the words told are these, and the areas are zero or as they were.
@@ -69,8 +71,6 @@ pub fn is_class_as_due(
 ) -> bool
     ensures { result ≡ class_as_due due number records.now words.now log.now values.now units.now delays.now told.now }
 {
-    if !is_answered(number, due.number, log, records, told, words) {
-        return false;
-    }
-    are_alike(values, units, delays, area_byte(due))
+    is_answered(number, due.number, log, records, told, words)
+        && are_alike(values, units, delays, area_byte(due))
 }

@@ -9,6 +9,9 @@ use circuit::refusals::Refusal;
 use run::Played;
 use words::read;
 
+// The bytes of the numbers before a run's circuit.
+pub const RUN_HEAD: usize = 72;
+
 // The numbers before a run's circuit: the bytes lent, the stop and the ticks due, and the lengths of circuit, script and records.
 #[derive(Clone, Copy)]
 pub struct Due {
@@ -24,19 +27,21 @@ pub struct Due {
 }
 
 // The numbers from their nine words.
-pub fn numbers(head: &[u8]) -> Due
-    ensures { result ≡ due_of (words head.now) }
-{
-    Due {
-        log: read(head, 0) as usize,
-        values: read(head, 1) as usize,
-        units: read(head, 2) as usize,
-        delays: read(head, 3) as usize,
-        stop: read(head, 4),
-        ticks: read(head, 5),
-        circuit: read(head, 6) as usize,
-        script: read(head, 7) as usize,
-        records: read(head, 8) as usize,
+impl From<&[u8; RUN_HEAD]> for Due {
+    ghost from_gives = { λ head due. due ≡ due_of (words head.now) };
+
+    fn from(head: &[u8; RUN_HEAD]) -> Self {
+        Self {
+            log: read(head, 0) as usize,
+            values: read(head, 1) as usize,
+            units: read(head, 2) as usize,
+            delays: read(head, 3) as usize,
+            stop: read(head, 4),
+            ticks: read(head, 5),
+            circuit: read(head, 6) as usize,
+            script: read(head, 7) as usize,
+            records: read(head, 8) as usize,
+        }
     }
 }
 
@@ -67,11 +72,5 @@ pub fn is_as_due(
 ) -> bool
     ensures { result ≡ as_due due (numbered answer) records.now filled log.now values.now units.now delays.now }
 {
-    if !is_end(due, answer) {
-        return false;
-    }
-    if !is_holding(log, records, filled) {
-        return false;
-    }
-    are_alike(values, units, delays, 0)
+    is_end(due, answer) && (is_holding(log, records, filled) && are_alike(values, units, delays, 0))
 }

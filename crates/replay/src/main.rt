@@ -1,7 +1,7 @@
 // Plays every run of runs.bin, every class of classes.bin and every report of reports.bin, and compares what comes of each with what is due, byte by byte. Each file has first how many.
 #![tactic(auto)]
 
-ghost use Rattle.std.specs.Prelude.{◌≡◌};
+ghost use Rattle.std.specs.Prelude.{◌≡◌, length};
 ghost use Rattle.replay.specs.ClassMet.{class_met};
 ghost use Rattle.replay.specs.Met.{met};
 ghost use Rattle.replay.specs.ReportMet.{report_met};
@@ -10,83 +10,32 @@ mod bytes;
 mod class_due;
 mod due;
 mod report_due;
-mod rooms;
-mod tally;
 
 use bytes::is_answered;
 use circuit::refusals::refused;
-use class_due::{ClassDue, class_numbers, is_class_as_due};
-use due::{Due, is_as_due, numbers};
+use class_due::{CLASS_HEAD, ClassDue, is_class_as_due};
+use due::{Due, RUN_HEAD, is_as_due};
 use packed::failing::fail;
-use packed::filled::{FILLED, TOLD, filled_words};
-use packed::{next_bytes, next_word, next_words};
-use report_due::ReportDue;
-use rooms::{DELAYS, ROOM, filled_delays, filled_room, room};
+use packed::filled::{FILLED, FILLED_WORD, TOLD};
+use packed::tally::Tally;
+use packed::{next_bytes, next_word, next_words, or_0};
+use report_due::{REPORT_HEAD, ReportDue};
 use std::fs::File;
 use std::io;
 use std::io::Read;
 use std::rt::Files;
-use tally::Tally;
 use words::told::put_at;
 
-// The bytes of the numbers before a run's circuit.
-const RUN_HEAD: usize = 72;
+// The room for a circuit, a script, a book, records, a log or an area, and for delays.
+const ROOM: usize = 262_144;
 
-// The bytes of the numbers before a class's circuit. The last of them, the bytes of all records together, is not used.
-const CLASS_HEAD: usize = 104;
+const DELAYS: usize = 524_288;
 
-// The bytes of the numbers before a report's circuit.
-const REPORT_HEAD: usize = 72;
-
-// ---- the parts of a log, read from a file
-
-// Reads how many bytes of records a part of a log has, and these to its front.
-fn next_part(file: &mut impl Read, part: &mut [u8]) -> bool {
-    let bytes = next_word(file);
-    if !bytes.whole {
-        return false;
-    }
-    next_bytes(file, part, bytes.value as usize)
-}
-
-// Reads the records of so many parts of a log, each of so many bytes: whether they were there whole, and have room.
-fn next_parts(file: &mut impl Read, log: &mut [u8], parts: u64, size: usize) -> bool {
-    let n = log.len();
-    let mut at = 0;
-    let mut left = parts;
-    while 0 < left {
-        if n - at < size {
-            return false;
-        }
-        if !next_part(file, &mut log[at..at + size]) {
-            return false;
-        }
-        at += size;
-        left -= 1;
-    }
-    true
-}
-
-// ---- what is printed
-
-// Prints two texts, a number and a third text.
-fn print(rt: &impl Print, text: &str, name: &str, number: u64, end: &str) -> io::Result<()> {
-    print!(rt; "{text}{name}{number}{end}")
-}
-
-// Prints the number of a run, a class or a report that differs, from 0.
-fn print_other(rt: &impl Print, name: &str, number: u64) -> io::Result<()> {
-    print(rt, "differs: ", name, number, "\n")
-}
-
-// Prints how many were played and differ, and which could not be read whole.
-fn print_tally(rt: &impl Print, name: &str, tally: Tally, played: &str) -> io::Result<()> {
-    if tally.cut {
-        print(rt, "not whole: ", name, tally.played, "\n")?;
-    }
-    let all = tally.played;
-    let differ = tally.differ;
-    println!(rt; "{all}{played}{differ} differ")
+// N bytes as they are lent. The `ensures` says only how many, which lending them needs: the prover is faster where it does not know the bytes.
+fn filled<const N: usize>() -> [u8; N]
+    ensures { N ≡ length result }
+{
+    [FILLED; N]
 }
 
 // ---- runs
@@ -113,10 +62,10 @@ fn play(due: Due, circuit: &[u8], script: &[u8], records: &[u8]) -> bool {
     if ROOM < due.log || ROOM < due.values || ROOM < due.units || DELAYS < due.delays {
         return false;
     }
-    let mut log = filled_room();
-    let mut values = filled_room();
-    let mut units = filled_room();
-    let mut delays = filled_delays();
+    let mut log = filled::<ROOM>();
+    let mut values = filled::<ROOM>();
+    let mut units = filled::<ROOM>();
+    let mut delays = filled::<DELAYS>();
     play_lent(
         due,
         circuit,
@@ -129,49 +78,23 @@ fn play(due: Due, circuit: &[u8], script: &[u8], records: &[u8]) -> bool {
     )
 }
 
-// Plays a run with these bytes, and counts it.
-fn play_one(
-    rt: &impl Print,
-    tally: Tally,
-    due: Due,
-    circuit: &[u8],
-    script: &[u8],
-    records: &[u8],
-) -> io::Result<Tally> {
-    if play(due, circuit, script, records) {
-        return Ok(tally.with_same());
-    }
-    print_other(rt, "run ", tally.played)?;
-    Ok(tally.with_other())
-}
-
-// Reads the next run, if there are buffers for it, and plays it.
-fn play_next_run(rt: &impl Print, file: &mut impl Read, tally: Tally) -> io::Result<Tally> {
+// Reads the next run, if there are buffers for it, and plays it: whether it is as it should be; none where it cannot be read whole.
+fn play_next_run(file: &mut impl Read) -> Option<bool> {
     let mut head = [0u8; RUN_HEAD];
-    if !next_bytes(file, &mut head, RUN_HEAD) {
-        return Ok(tally.with_cut());
-    }
-    let due = numbers(&head);
-    if ROOM < due.circuit || ROOM < due.script || ROOM < due.records {
-        return Ok(tally.with_cut());
-    }
-    let mut circuit = room();
-    let mut script = room();
-    let mut records = room();
-    if next_bytes(file, &mut circuit, due.circuit)
-        && next_bytes(file, &mut script, due.script)
-        && next_bytes(file, &mut records, due.records)
-    {
-        return play_one(
-            rt,
-            tally,
-            due,
-            &circuit[..due.circuit],
-            &script[..due.script],
-            &records[..due.records],
-        );
-    }
-    Ok(tally.with_cut())
+    next_bytes(file, &mut head, RUN_HEAD)?;
+    let due = Due::from(&head);
+    let mut circuit = [0u8; ROOM];
+    let mut script = [0u8; ROOM];
+    let mut records = [0u8; ROOM];
+    next_bytes(file, &mut circuit, due.circuit)?;
+    next_bytes(file, &mut script, due.script)?;
+    next_bytes(file, &mut records, due.records)?;
+    Some(play(
+        due,
+        &circuit[..due.circuit],
+        &script[..due.script],
+        &records[..due.records],
+    ))
 }
 
 // ---- classes
@@ -207,11 +130,11 @@ fn play_class(due: ClassDue, circuit: &[u8], book: &[u8], records: &[u8], words:
     {
         return false;
     }
-    let mut log = filled_room();
-    let mut values = filled_room();
-    let mut units = filled_room();
-    let mut delays = filled_delays();
-    let mut told = filled_words();
+    let mut log = filled::<ROOM>();
+    let mut values = filled::<ROOM>();
+    let mut units = filled::<ROOM>();
+    let mut delays = filled::<DELAYS>();
+    let mut told = [FILLED_WORD; TOLD];
     play_class_lent(
         due,
         circuit,
@@ -226,58 +149,42 @@ fn play_class(due: ClassDue, circuit: &[u8], book: &[u8], records: &[u8], words:
     )
 }
 
-// Reads the words that are due to be told, and the records of each part: into buffers that are filled, so that these become the words and the log that are due. Plays the
-// class and counts it.
-fn play_one_class(
-    rt: &impl Print,
-    file: &mut impl Read,
-    tally: Tally,
-    due: ClassDue,
-    circuit: &[u8],
-    book: &[u8],
-    records: &mut [u8],
-    words: &mut [u64],
-) -> io::Result<Tally> {
-    if !next_words(file, words, due.words) {
-        return Ok(tally.with_cut());
+// Reads the records of so many parts of a log, each of so many bytes: for each how many bytes of records it has, and these to its front. None where they are not there
+// whole, or have no room.
+fn next_parts(file: &mut impl Read, log: &mut [u8], parts: u64, size: usize) -> Option<()> {
+    let mut rest = log;
+    for _ in 0..parts {
+        let (part, behind) = rest.split_at_mut_checked(size)?;
+        let bytes = next_word(file)?;
+        next_bytes(file, part, bytes as usize)?;
+        rest = behind;
     }
-    if !next_parts(file, records, due.parts, due.part) {
-        return Ok(tally.with_cut());
-    }
-    if play_class(due, circuit, book, records, words) {
-        return Ok(tally.with_same());
-    }
-    print_other(rt, "class ", tally.played)?;
-    Ok(tally.with_other())
+    Some(())
 }
 
-// Reads the next class, if there are buffers for it, and plays it.
-fn play_next_class(rt: &impl Print, file: &mut impl Read, tally: Tally) -> io::Result<Tally> {
+// Reads the next class, if there are buffers for it, and plays it: whether it is as it should be; none where it cannot be read whole. The words that are due to be told,
+// and the records of each part, come into buffers that are filled, so that these become the words and the log that are due.
+fn play_next_class(file: &mut impl Read) -> Option<bool> {
     let mut head = [0u8; CLASS_HEAD];
-    if !next_bytes(file, &mut head, CLASS_HEAD) {
-        return Ok(tally.with_cut());
-    }
-    let due = class_numbers(&head);
-    if ROOM < due.circuit || ROOM < due.book || ROOM < due.log || TOLD < due.told {
-        return Ok(tally.with_cut());
-    }
-    let mut circuit = room();
-    let mut book = room();
-    let mut records = filled_room();
-    let mut words = filled_words();
-    if next_bytes(file, &mut circuit, due.circuit) && next_bytes(file, &mut book, due.book) {
-        return play_one_class(
-            rt,
-            file,
-            tally,
-            due,
-            &circuit[..due.circuit],
-            &book[..due.book],
-            &mut records[..due.log],
-            &mut words[..due.told],
-        );
-    }
-    Ok(tally.with_cut())
+    next_bytes(file, &mut head, CLASS_HEAD)?;
+    let due = ClassDue::from(&head);
+    let mut circuit = [0u8; ROOM];
+    let mut book = [0u8; ROOM];
+    let mut records = [FILLED; ROOM];
+    let mut words = [FILLED_WORD; TOLD];
+    let records = records.get_mut(..due.log)?;
+    let words = words.get_mut(..due.told)?;
+    next_bytes(file, &mut circuit, due.circuit)?;
+    next_bytes(file, &mut book, due.book)?;
+    next_words(file, words, due.words)?;
+    next_parts(file, records, due.parts, due.part)?;
+    Some(play_class(
+        due,
+        &circuit[..due.circuit],
+        &book[..due.book],
+        records,
+        words,
+    ))
 }
 
 // ---- reports
@@ -311,8 +218,8 @@ fn play_report(due: ReportDue, circuit: &[u8], log: &[u8], lines: &[u8], words: 
     if ROOM < due.report || TOLD < due.told {
         return false;
     }
-    let mut report = filled_room();
-    let mut told = filled_words();
+    let mut report = [FILLED; ROOM];
+    let mut told = [FILLED_WORD; TOLD];
     play_report_lent(
         due,
         circuit,
@@ -324,125 +231,80 @@ fn play_report(due: ReportDue, circuit: &[u8], log: &[u8], lines: &[u8], words: 
     )
 }
 
-// The first of the words that are due, if there is one: how many bytes the lines have, unless the call is refused.
-fn tell_lines(due: ReportDue, words: &mut [u64]) {
-    if due.number != 0 {
-        return;
-    }
-    put_at(words, 0, due.lines as u64);
-}
-
-// Reads the lines that are due, and tells how many bytes they have: into buffers that are filled, so that these become the buffer and the words that are due. Plays the
-// report and counts it.
-fn play_one_report(
-    rt: &impl Print,
-    file: &mut impl Read,
-    tally: Tally,
-    due: ReportDue,
-    circuit: &[u8],
-    log: &[u8],
-    lines: &mut [u8],
-    words: &mut [u64],
-) -> io::Result<Tally> {
-    if !next_bytes(file, lines, due.lines) {
-        return Ok(tally.with_cut());
-    }
-    tell_lines(due, words);
-    if play_report(due, circuit, log, lines, words) {
-        return Ok(tally.with_same());
-    }
-    print_other(rt, "report ", tally.played)?;
-    Ok(tally.with_other())
-}
-
-// Reads the next report, if there are buffers for it, and plays it.
-fn play_next_report(rt: &impl Print, file: &mut impl Read, tally: Tally) -> io::Result<Tally> {
+// Reads the next report, if there are buffers for it, and plays it: whether it is as it should be; none where it cannot be read whole. The lines that are due come into a
+// buffer that is filled, so that it becomes the one that is due. The first of the words that are due, if there is one, is how many bytes the lines have, unless the call
+// is refused.
+fn play_next_report(file: &mut impl Read) -> Option<bool> {
     let mut head = [0u8; REPORT_HEAD];
-    if !next_bytes(file, &mut head, REPORT_HEAD) {
-        return Ok(tally.with_cut());
+    next_bytes(file, &mut head, REPORT_HEAD)?;
+    let due = ReportDue::from(&head);
+    let mut circuit = [0u8; ROOM];
+    let mut log = [0u8; ROOM];
+    let mut lines = [FILLED; ROOM];
+    let mut words = [FILLED_WORD; TOLD];
+    let lines = lines.get_mut(..due.report)?;
+    let words = words.get_mut(..due.told)?;
+    next_bytes(file, &mut circuit, due.circuit)?;
+    next_bytes(file, &mut log, due.log)?;
+    next_bytes(file, lines, due.lines)?;
+    if due.number == 0 {
+        put_at(words, 0, due.lines as u64);
     }
-    let due = ReportDue::of(&head);
-    if ROOM < due.circuit || ROOM < due.log || ROOM < due.report || TOLD < due.told {
-        return Ok(tally.with_cut());
-    }
-    let mut circuit = room();
-    let mut log = room();
-    let mut lines = filled_room();
-    let mut words = filled_words();
-    if next_bytes(file, &mut circuit, due.circuit) && next_bytes(file, &mut log, due.log) {
-        return play_one_report(
-            rt,
-            file,
-            tally,
-            due,
-            &circuit[..due.circuit],
-            &log[..due.log],
-            &mut lines[..due.report],
-            &mut words[..due.told],
-        );
-    }
-    Ok(tally.with_cut())
+    Some(play_report(due, &circuit[..due.circuit], &log[..due.log], lines, words))
 }
 
 // ---- a file
 
-// What it has.
-#[derive(Clone, Copy)]
-pub enum Sort {
-    Run,
-    Class,
-    Report,
-}
-
-// Opens a file, which lies in the folder that the program runs in; none where it cannot.
-fn open<R: Files + Eprint>(rt: &R, name: &str) -> io::Result<Option<R::File>> {
-    match File::open(rt, name) {
-        Ok(file) => Ok(Some(file)),
-        Err(error) => {
-            fail(rt, name, error)?;
-            Ok(None)
-        }
-    }
-}
-
-// Plays the next of these.
-fn play_next(rt: &impl Print, file: &mut impl Read, sort: Sort, tally: Tally) -> io::Result<Tally> {
-    match sort {
-        Sort::Run => play_next_run(rt, file, tally),
-        Sort::Class => play_next_class(rt, file, tally),
-        Sort::Report => play_next_report(rt, file, tally),
-    }
-}
-
-// Plays so many, or up to the first that cannot be read whole.
-fn play_all(rt: &impl Print, file: &mut impl Read, sort: Sort, count: u64) -> io::Result<Tally> {
-    let mut tally = Tally::new();
-    let mut left = count;
-    while 0 < left && !tally.cut {
-        tally = play_next(rt, file, sort, tally)?;
-        left -= 1;
+// Plays so many, or up to the first that cannot be read whole, and prints the number of each that differs, from 0; `name` is one of them.
+fn play_all<F: Read, P: Fn(&mut F) -> Option<bool>>(
+    rt: &impl Print,
+    file: &mut F,
+    count: u64,
+    name: &str,
+    play_next: &P,
+) -> io::Result<Tally>
+    requires { P.IsAlwaysCallable play_next.now }
+{
+    let mut tally = Tally::default();
+    for number in 0..count {
+        tally = match play_next(file) {
+            None => return Ok(tally.with_cut()),
+            Some(true) => tally.with_right(),
+            Some(false) => {
+                println!(rt; "differs: {name} {number}")?;
+                tally.with_wrong()
+            }
+        };
     }
     Ok(tally)
 }
 
-// Plays all of a file; `name` is one of them, and `played` stands behind how many there are.
-fn play_file(
-    rt: &(impl Files + Print + Eprint),
+// Plays all of a file, which lies in the folder that the program runs in, and prints how many were played and differ, and which could not be read whole; `played` stands
+// behind how many there are.
+fn play_file<R: Files + Print + Eprint, P: Fn(&mut R::File) -> Option<bool>>(
+    rt: &R,
     file: &str,
-    sort: Sort,
     name: &str,
     played: &str,
-) -> io::Result<()> {
-    let Some(mut file) = open(rt, file)? else {
-        return Ok(());
+    play_next: &P,
+) -> io::Result<()>
+    requires { P.IsAlwaysCallable play_next.now }
+{
+    let mut file = match File::open(rt, file) {
+        Ok(file) => file,
+        Err(error) => return fail(rt, file, error),
     };
-    let count = next_word(&mut file).value;
-    let tally = play_all(rt, &mut file, sort, count)?;
-    print_tally(rt, name, tally, played)
+    let count = or_0(next_word(&mut file));
+    let tally = play_all(rt, &mut file, count, name, play_next)?;
+    let (tried, wrong) = (tally.tried, tally.wrong);
+    if tally.cut {
+        println!(rt; "not whole: {name} {tried}")?;
+    }
+    println!(rt; "{tried} {played}, {wrong} differ")
 }
 
 fn main(rt: HostRuntime) -> io::Result<()> {
-    play_file(&rt, "runs.bin", Sort::Run, "run ", " played, ")?;
-    play_file(&rt, "classes.bin", Sort::Class, "class ", " classes, ")?;
-    play_file(&rt, "reports.bin", Sort::Report, "report ", " reports, ")
+    play_file(&rt, "runs.bin", "run", "played", &play_next_run)?;
+    play_file(&rt, "classes.bin", "class", "classes", &play_next_class)?;
+    play_file(&rt, "reports.bin", "report", "reports", &play_next_report)
 }

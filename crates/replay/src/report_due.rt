@@ -5,6 +5,9 @@ ghost use Rattle.replay.specs.ReportDue.{report_due_of};
 
 use words::read;
 
+// The bytes of the numbers before a report's circuit.
+pub const REPORT_HEAD: usize = 72;
+
 // The numbers before a report's circuit: what is named; the bytes lent for the report, and the words for what is told; the call's number that is due; the lengths of
 // circuit and log, and the bytes of the lines.
 #[derive(Clone, Copy)]
@@ -20,11 +23,11 @@ pub struct ReportDue {
     pub lines: usize,
 }
 
-impl ReportDue {
-    // The numbers from their words.
-    pub fn of(head: &[u8]) -> Self
-        ensures { result ≡ report_due_of (words head.now) }
-    {
+// The numbers from their words.
+impl From<&[u8; REPORT_HEAD]> for ReportDue {
+    ghost from_gives = { λ head due. due ≡ report_due_of (words head.now) };
+
+    fn from(head: &[u8; REPORT_HEAD]) -> Self {
         Self {
             driver: read(head, 0),
             activity: read(head, 1),

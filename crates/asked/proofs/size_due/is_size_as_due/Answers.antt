@@ -1,10 +1,10 @@
+use Rattle.std.proofs.Common.{◌∙◌, ne_eqb}
+use Rattle.packed.proofs.Comparing.{same_is}
 use Rattle.asked.proofs.SizeMeeting.{number_other, words_decide}
 use Rattle.asked.proofs.size_due.is_size_as_due.Goals as goal
 
--- src/size_due.rt:39:9
 pub returns-then-number-due : goal.returns-then-number-due
-returns-then-number-due c = number_other _ _ _ _ c.if-number-due.true
+returns-then-number-due c = words_decide _ _ _ _ _ c.if-number-due.true (c.eq.ensures ∙ same_is _ _)
 
--- src/size_due.rt:35:1
-pub returns : goal.returns
-returns c = words_decide _ _ _ _ _ c.if-number-due.false c.is_same_words.ensures
+pub returns-else-number-due : goal.returns-else-number-due
+returns-else-number-due c = ne_eqb _ _ c.if-number-due.false ∙ number_other c.args.due c.args.number _ _ c.if-number-due.false

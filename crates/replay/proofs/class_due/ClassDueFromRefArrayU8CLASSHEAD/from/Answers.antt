@@ -1,5 +1,5 @@
 use Rattle.replay.specs.ClassDue.{class_due_of}
-use Rattle.replay.proofs.class_due.class_numbers.Goals as goal
+use Rattle.replay.proofs.class_due.ClassDueFromRefArrayU8CLASSHEAD.from.Goals as goal
 
 pub returns : goal.returns
 unfolding class_due_of

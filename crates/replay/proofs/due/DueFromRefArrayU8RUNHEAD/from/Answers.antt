@@ -1,5 +1,5 @@
 use Rattle.replay.specs.Due.{due_of}
-use Rattle.replay.proofs.due.numbers.Goals as goal
+use Rattle.replay.proofs.due.DueFromRefArrayU8RUNHEAD.from.Goals as goal
 
 pub returns : goal.returns
 unfolding due_of

@@ -1,5 +1,5 @@
 use Rattle.replay.specs.ReportDue.{report_due_of}
-use Rattle.replay.proofs.report_due.ReportDue.of.Goals as goal
+use Rattle.replay.proofs.report_due.ReportDueFromRefArrayU8REPORTHEAD.from.Goals as goal
 
 pub returns : goal.returns
 unfolding report_due_of
