@@ -1,15 +1,14 @@
 -- What the proofs of the functions cite: a load and a store of eight bytes, and the sign.
-use Prim.Native.Nat.{ℕ, zero, suc, ◌+◌, ◌*◌, ◌/◌, ◌^◌, ◌≤◌, ◌<◌}
+use Prim.Native.Nat.{ℕ, zero, suc, ◌+◌, ◌*◌, ◌/◌, ◌%◌, ◌^◌, ◌≤◌, ◌<◌}
 use mathlib.Core.Path.{◌≡◌, refl, sym, ap, ◌∙◌}
 use mathlib.Core.List.{List, [], ◌∷◌}
 use native.Mathlib.Nat.{suc-add}
 use native.Mathlib.Omega.{arith}
-use lib.ListN.{length, get_or, get_or-eq_default}
+use lib.ListN.{length, get_or, set, get_or-eq_default}
 use lib.Seq.{set_out}
-use borrow.Rule.Slice.PartMut.{put_mid}
-use Rattle.std.specs.Int.{w64, to_le_bytes, from_le_bytes}
+use Rattle.std.specs.Int.{w64, from_le_bytes}
 use Rattle.words.specs.Words.{word, words, tail, Stored}
-use Rattle.words.proofs.Laws.{eight, next, lengths}
+use Rattle.words.proofs.Laws.{eight, next, word_of, lengths}
 
 -- ---- a load
 
@@ -32,13 +31,25 @@ read_word i s x l e = let w : x ≡ at8 s (i * 8) = omega (arith, e) in w ∙ ge
 
 -- ---- a store
 
-pub put_word : (i : ℕ) (s : List ℕ) (v : ℕ) → v < 2 ^ 64 → i * 8 + 8 ≤ length s → Stored s (put_mid (i * 8) 8 s (to_le_bytes w64 v)) i v
+-- The eight bytes of v stored from o on.
+abbrev put8 : List ℕ → ℕ → ℕ → List ℕ
+put8 s o v =
+    let v1 = v / 256 in
+    let v2 = v1 / 256 in
+    let v3 = v2 / 256 in
+    let v4 = v3 / 256 in
+    let v5 = v4 / 256 in
+    let v6 = v5 / 256 in
+    let v7 = v6 / 256 in
+    set (set (set (set (set (set (set (set s o (v % 256)) (o + 1) (v1 % 256)) (o + 2) (v2 % 256)) (o + 3) (v3 % 256)) (o + 4) (v4 % 256)) (o + 5) (v5 % 256)) (o + 6) (v6 % 256)) (o + 7) (v7 % 256)
+
+pub put_word : (i : ℕ) (s : List ℕ) (v : ℕ) → v < 2 ^ 64 → i * 8 + 8 ≤ length s → Stored s (put8 s (i * 8) v) i v
 unfolding words tail
 put_word zero s v u l =
-    eight (λ t. Stored t (put_mid 0 8 t (to_le_bytes w64 v)) 0 v) (λ a b c d e f g h r. record { words = ap (λ (x : ℕ). x ∷ words r) (omega arith); tail = refl }) s l
+    eight (λ t. Stored t (put8 t 0 v) 0 v) (λ a b c d e f g h r. record { words = ap (λ (x : ℕ). x ∷ words r) (word_of v u); tail = refl }) s l
 put_word (suc i) s v u l =
-    eight (λ t. suc i * 8 + 8 ≤ length t → Stored t (put_mid (suc i * 8) 8 t (to_le_bytes w64 v)) (suc i) v)
-    (λ a b c d e f g h r m. let q = put_word i r v u (omega arith) in rw (next i) (record { words = ap (λ (t : List ℕ). word a b c d e f g h ∷ t) q.words; tail = q.tail })) s (omega arith) l
+    eight (λ t. suc i * 8 + 8 ≤ length t → Stored t (put8 t (suc i * 8) v) (suc i) v)
+    (λ a b c d e f g h r m. let q = put_word i r v u (omega arith) in rw (next i) (simp suc-add (record { words = ap (λ (t : List ℕ). word a b c d e f g h ∷ t) q.words; tail = q.tail }))) s (omega arith) l
 
 -- ---- past the end
 
