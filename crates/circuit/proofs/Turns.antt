@@ -1,13 +1,12 @@
--- Laws of loops over numbers in a row: a test of each, which ends at the first no; a step for each; an array made place by place.
+-- Laws of loops over numbers in a row: a test of each, which ends at the first no; a step for each; an array filled place by place.
 use Prim.Native.Nat.{ℕ, zero, suc, ◌+◌, ◌-◌, ◌≤◌, ◌<◌}
-use mathlib.Core.Path.{◌≡◌, refl, sym, ap, subst, ◌∙◌}
+use mathlib.Core.Path.{◌≡◌, refl, sym, ap, ◌∙◌}
 use mathlib.Core.Bool.{Bool, true, false, ◌&&◌}
 use mathlib.Core.List.{List}
 use native.Mathlib.Omega.{arith}
 use lib.Dec.{eqb}
-use lib.ListN.{get_or}
-use denote.Param.Members.{Mut, Called}
-use Rattle.std.specs.Array.{IsFromFnResultFrom}
+use lib.ListN.{length, get_or, set}
+use lib.Seq.{get_or-set_same, get_or-set_other}
 use borrow.Author.Tests.{eqb-true, eqb-false}
 use Rattle.model.specs.Base.{all, each, from}
 use Rattle.model.proofs.Lists.{from_first, from_none}
@@ -62,14 +61,14 @@ module _ {B : Type 0} (f : B → ℕ → B) (a n : ℕ) where
   unfolding each_from each from
   each_last b x k h i = let p : n - k ≡ 0 = omega arith in rw p at i
 
--- ---- an array made by a function of each place
+-- ---- an array filled from its first place on
 
-module _ {F : Type 0} (g : Mut F (ℕ × Unit {0}) ℕ) (f : F) (h : ℕ → ℕ) (ys : List ℕ) (one : (i y : ℕ) (q : F) → Called g f (i, tt) y q → (q ≡ f) × (y ≡ h i)) where
-  pub filled : (n i k : ℕ) → IsFromFnResultFrom g f ys i n → i ≤ k → k < i + n → get_or ys k 0 ≡ h k
-  filled zero i k e l m = absurd (omega arith)
-  filled (suc n) i k (q, y, e, s, r) l m =
-      go (filled n (i + 1) k (subst (λ p. IsFromFnResultFrom g p ys (i + 1) n) (one i y q s).0 r)) (eqb i k) refl
-    where
-      go : (i + 1 ≤ k → k < i + 1 + n → get_or ys k 0 ≡ h k) → (b : Bool) → eqb i k ≡ b → get_or ys k 0 ≡ h k
-      go later true t = let z : i ≡ k = eqb-true i k t in rw (← z) (e.1 0 ∙ (one i y q s).1)
-      go later false t = later (omega (arith, eqb-false i k t)) (omega arith)
+-- place g is filled, as those before it are
+pub fill_next :
+    (f : ℕ → ℕ) (xs : List ℕ) (g v : ℕ) → g < length xs → v ≡ f g → ((h : ℕ) → h < g → get_or xs h 0 ≡ f h) →
+    (h : ℕ) → h < g + 1 → get_or (set xs g v) h 0 ≡ f h
+fill_next f xs g v l e a h m = go (eqb h g) refl
+  where
+    go : (b : Bool) → eqb h g ≡ b → get_or (set xs g v) h 0 ≡ f h
+    go true q = let z : h ≡ g = eqb-true h g q in rw z (get_or-set_same xs g v 0 l ∙ e)
+    go false q = get_or-set_other xs g h v 0 (eqb-false h g q) ∙ a h (omega (arith, eqb-false h g q))

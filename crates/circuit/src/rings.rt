@@ -6,9 +6,8 @@ ghost use Rattle.model.specs.Questions.{question_6};
 ghost use Rattle.links.specs.Lent.{Linked, net_of};
 ghost use Rattle.circuit.specs.Gates.{gates_where, source_bit, awaited};
 
-use crate::sets::{gate_bit, gates_where, round};
+use crate::sets::{gate_bit, gates_where, round, words_of_gates};
 use links::layout::MOST_GATES;
-use std::array;
 
 // The word of the gate that input i reads; 0 where it reads none.
 fn source_bit(links: &[usize], i: usize) -> u64
@@ -44,7 +43,7 @@ fn all_awaited(links: &[usize]) -> [u64; MOST_GATES]
     requires { Linked links.now }
     ensures { (g : ℕ) → g < most_gates → get_or result g 0 ≡ awaited (net_of links.now) g }
 {
-    array::from_fn(|g| awaited(links, g))
+    words_of_gates(|g| awaited(links, g))
 }
 
 // At most as many rounds as there are gates: what is unplaced then stands in a ring, or behind one.

@@ -1,8 +1,10 @@
 // Sets of gates are words: gate g is bit g. Each gate has the word of those that it waits for, and in a round it is placed if it waits for none that is unplaced.
-ghost use Rattle.std.specs.Prelude.{◌≡◌, ℕ, Bool, true, ◌+◌, ◌*◌, ◌<◌, ◌≤◌, ◌^◌, length};
+ghost use Rattle.std.specs.Prelude.{◌≡◌, ℕ, Bool, true, ◌+◌, ◌*◌, ◌<◌, ◌≤◌, ◌^◌, length, get_or};
 ghost use Rattle.model.specs.Value.{bit};
 ghost use Rattle.model.specs.Circuit.{most_gates};
 ghost use Rattle.circuit.specs.Gates.{gates_where, gate_bit, waits};
+
+use links::layout::MOST_GATES;
 
 // The word of gate g alone; 0 for a number above 63, for which a word has no bit.
 pub fn gate_bit(g: usize) -> u64
@@ -30,6 +32,18 @@ pub(crate) fn gates_where<F: Fn(usize) -> bool>(n: usize, passes: F) -> u64
         word = with_bit(word, passes(g));
     }
     word
+}
+
+// The word of each gate.
+pub fn words_of_gates<F: Fn(usize) -> u64>(word: F) -> [u64; MOST_GATES]
+    requires callable { F.IsAlwaysCallable word }
+    ensures { (f : ℕ → ℕ) → ((g y : ℕ) → F.post word g y → y ≡ f g) → (g : ℕ) → g < most_gates → get_or result g 0 ≡ f g }
+{
+    let mut words = [0; MOST_GATES];
+    for g in 0..MOST_GATES {
+        words[g] = word(g);
+    }
+    words
 }
 
 // All of n gates.

@@ -9,11 +9,9 @@ ghost use Rattle.figures.specs.Figures.{entered_from, passed_on, no_ring};
 ghost use Rattle.size.specs.Numbers.{cap, with_number, numbered, Numbers};
 
 use crate::calls::{over_calls, over_outputs, passed_on};
-use circuit::sets::{all_gates, round};
-use links::layout::MOST_GATES;
+use circuit::sets::{all_gates, round, words_of_gates};
 use links::{first_gate, later_gates};
 use records::MOST_STEPS;
-use std::array;
 
 // Where sums stop.
 const CAP: u64 = MOST_STEPS + 1;
@@ -79,7 +77,7 @@ pub fn number_all(links: &[usize], numbers: &mut [u64]) -> bool
     ensures { (result ≡ no_ring (net_of links.now)) × (result ≡ true → Numbers (net_of links.now) numbers.new) }
 {
     let n = links::gates(links);
-    let words: [u64; MOST_GATES] = array::from_fn(|g| passed_on(links, g));
+    let words = words_of_gates(|g| passed_on(links, g));
     let mut unplaced = all_gates(n);
     for _k in 0..n {
         if unplaced == 0 {
