@@ -1,14 +1,15 @@
 -- What the functions over chains cite.
 use Prim.Native.Nat.{ℕ, zero, suc, ◌+◌, ◌-◌, ◌≤◌, ◌<◌}
-use mathlib.Core.Path.{◌≡◌, refl, ap}
+use mathlib.Core.Path.{◌≡◌, refl, ap, ◌∙◌}
 use mathlib.Core.Bool.{Bool, true, false}
 use mathlib.Core.List.{List, [], ◌∷◌, map}
 use native.Mathlib.Nat.{add-zero, zero-add}
 use native.Mathlib.Omega.{arith}
 use borrow.Author.Tests.{lt-ltb, le-ltb, eq-eqb, ne_eqb}
 use lib.Dec.{ltb}
-use lib.ListN.{length, get_or, set, length-map}
+use lib.ListN.{length, get_or, set, replicate, length-map}
 use lib.Seq.{sets}
+use Rattle.std.proofs.lemmas.List.{length-replicate}
 use Rattle.model.specs.Base.{if◌then◌otherwise◌}
 use Rattle.links.specs.Links.{packed}
 use Rattle.linking.specs.Building.{below, chains, chained, all_chained, chain, chain_at, size_at, target, row_of}
@@ -20,6 +21,10 @@ use Rattle.linking.proofs.Loops.{below_mono}
 pub one_chained : (hs ns hs₁ ns₁ : List ℕ) (i k h : ℕ) → h ≡ get_or hs k 0 → ns₁ ≡ set ns i h → hs₁ ≡ set hs k i → chains hs₁ ns₁ ≡ chained (chains hs ns) i k
 unfolding chained
 one_chained hs ns hs₁ ns₁ i k h e e₁ e₂ = rw (e₁, e, e₂)
+
+-- n places are filled anew
+pub refilled : (n a b : ℕ) (xs ys : List ℕ) → xs ≡ replicate n a → ys ≡ replicate (length xs) b → ys ≡ replicate n b
+refilled n a b xs ys e f = f ∙ ap (λ m. replicate m b) (ap length e ∙ length-replicate n a)
 
 pub chain_next : (key : ℕ → ℕ) (s s₁ r : Chains) (i k : ℕ) → 0 < i → k ≡ key (i - 1) → s₁ ≡ chained s (i - 1) k → all_chained key i s ≡ r → all_chained key (i - 1) s₁ ≡ r
 unfolding all_chained

@@ -42,6 +42,10 @@ Gates es n = (g : ℕ) → g < n → get_or es g 0 < most_gates
 abbrev pub chains : List ℕ → List ℕ → Chains
 chains heads next = record { heads = heads; next = next }
 
+-- room for chains
+abbrev pub blank : Chains
+blank = chains (replicate 576 0) (replicate 640 0)
+
 -- no number is in any chain
 abbrev pub no_chains : Chains
 no_chains = chains (replicate 576 640) (replicate 640 640)

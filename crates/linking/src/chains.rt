@@ -4,7 +4,7 @@ ghost use Rattle.std.specs.Prelude.{◌≡◌, map, ◌+◌, ◌≤◌, get_or};
 ghost use Rattle.std.proofs.lemmas.List.Edits.{sets};
 ghost use Rattle.model.specs.Base.{joined};
 ghost use Rattle.links.specs.Links.{listed};
-ghost use Rattle.linking.specs.Building.{no_chains, chained, all_chained, chain_at, size_at, target};
+ghost use Rattle.linking.specs.Building.{blank, no_chains, chained, all_chained, chain_at, size_at, target};
 ghost use Rattle.linking.specs.Lent.{Near};
 
 use crate::cells::{at, put, word};
@@ -24,21 +24,29 @@ pub struct Chains {
 }
 
 impl Chains {
+    // Room for chains: zeros, which are made in their place.
+    pub fn blank() -> Chains
+        ensures { result ≡ blank }
+    {
+        Chains {
+            heads: [0; MOST_OUTPUTS],
+            next: [0; MOST_INPUTS],
+        }
+    }
+
     // The numbers below n, each in the chain of its key, ascending. The keys are the words of the circuit from word `keys` on.
-    pub fn by_keys(circuit: &[u8], keys: usize, n: usize) -> Chains
+    pub fn fill_by_keys(&mut self, circuit: &[u8], keys: usize, n: usize)
+        requires blank { self.old ≡ blank }
         requires near { Near keys }
         requires near_2 { Near n }
-        ensures { result ≡ all_chained (λ i. get_or (words circuit.now) (keys + i) 0) n no_chains }
+        ensures { self.new ≡ all_chained (λ i. get_or (words circuit.now) (keys + i) 0) n no_chains }
     {
-        let mut made = Chains {
-            heads: [END; MOST_OUTPUTS],
-            next: [END; MOST_INPUTS],
-        };
+        self.heads.fill(END);
+        self.next.fill(END);
         for i in (0..n).rev() {
             let key = word(circuit, keys + i);
-            made.add(i, key);
+            self.add(i, key);
         }
-        made
     }
 
     // Number i comes first in chain `key`, if there is one.

@@ -29,8 +29,10 @@ pub fn link_lists(
     requires outputs_le_most_outputs { outputs ≤ most_outputs }
     ensures { cells.new ≡ lists_written (words circuit.now) sources inputs calls count outputs cells.old }
 {
-    let readers = Chains::by_keys(circuit, sources, inputs);
-    let called = Chains::by_keys(circuit, calls, count);
+    let mut readers = Chains::blank();
+    readers.fill_by_keys(circuit, sources, inputs);
+    let mut called = Chains::blank();
+    called.fill_by_keys(circuit, calls, count);
     readers.write(circuit, 0, outputs, cells, READERS);
     called.write(circuit, calls + count, outputs, cells, CALLS);
     write_rows(&readers, &called, outputs, cells, ROWS);
