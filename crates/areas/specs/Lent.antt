@@ -4,7 +4,7 @@ use Rattle.std.specs.Prelude.{◌≡◌, List, ℕ}
 use Rattle.words.specs.Slices.{Slice, before, after}
 use Rattle.lists.specs.Lists.{Filed}
 use Rattle.model.specs.Circuit.{Circuit}
-use Rattle.links.specs.Lent.{Linked, Room, net_of}
+use Rattle.links.specs.Lent.{Room, net_of}
 use Rattle.wires.specs.View.{Values, values}
 use Rattle.states.specs.View.{Delays, delays}
 use Rattle.states.specs.Lent.{Slots}
@@ -64,4 +64,4 @@ Goes a b r w = (b ≡ with_went a w) × (r ≡ w.answer)
 
 -- all areas are lent, with what each must be
 abbrev pub AllLent : List ℕ → List ℕ → List ℕ → List ℕ → Type 0
-AllLent links vs us ds = Linked links × Room vs × Room us × Slots links ds
+AllLent links vs us ds = Room vs × Room us × Slots links ds

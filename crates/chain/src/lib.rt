@@ -3,13 +3,14 @@
 
 ghost use Rattle.model.specs.Chain.{chained, fire_output, make_call};
 ghost use Rattle.links.specs.Links.{net};
-ghost use Rattle.links.specs.Lent.{Linked, Room};
+ghost use Rattle.links.specs.Lent.{Room};
 ghost use Rattle.states.specs.Lent.{SlotsStay};
 ghost use Rattle.areas.specs.Lent.{OverAll, OverUnits, AllLent};
 ghost use Rattle.steps.specs.Steps.{Entered};
 ghost use Rattle.chain.specs.Chain.{Runs, started};
 
 use crate::pushing::push_calls;
+use links::Links;
 use steps::exec;
 use stops::LIST_FULL;
 
@@ -23,8 +24,8 @@ pub struct Ran {
 }
 
 // Output o is fired: its calls wait, if they fit.
-pub fn fire_output(links: &[usize], units: &mut [u8], left: u64, o: usize) -> Ran
-    requires { Linked links.now × Room units.old }
+pub fn fire_output(links: &Links, units: &mut [u8], left: u64, o: usize) -> Ran
+    requires { Room units.old }
     ensures { OverUnits links.now (units.old, units.new) (λ c old new. Runs old new result (fire_output c o (started old left))) }
 {
     match push_calls(links, units, o) {
@@ -38,7 +39,7 @@ pub fn fire_output(links: &[usize], units: &mut [u8], left: u64, o: usize) -> Ra
 
 // Gate g, of kind k, which is no Loop, is entered through its input i: it makes its step, and what it fires is called.
 pub fn make_call(
-    links: &[usize],
+    links: &Links,
     values: &mut [u8],
     units: &mut [u8],
     delays: &mut [u8],

@@ -3,11 +3,11 @@ ghost use Rattle.std.specs.Prelude.{[], ◌∷◌};
 ghost use Rattle.std.proofs.Math.Option.{some};
 ghost use Rattle.model.specs.Chain.{push_calls};
 ghost use Rattle.links.specs.Links.{call_of};
-ghost use Rattle.links.specs.Lent.{Linked, Room, Short};
+ghost use Rattle.links.specs.Lent.{Room, Short};
 ghost use Rattle.units.specs.Lent.{Changes, UnitsChange};
 ghost use Rattle.chain.specs.Chain.{Pushes, calls_in, forks_behind, stack_before};
 
-use links::{call, call_count, called_input, first_call, is_remote};
+use links::{Links, called_input, is_remote};
 use lists::Full;
 use units::calls::{push_call, push_fork};
 
@@ -45,30 +45,30 @@ fn push_one(units: &mut [u8], target: usize) -> Result<(), Full>
 }
 
 // The remote ones of n calls from call a on, in their order, behind the forks.
-fn push_forks(links: &[usize], units: &mut [u8], a: usize, n: usize) -> Result<(), Full>
-    requires { Linked links.now × Room units.old × Short a × Short n }
+fn push_forks(links: &Links, units: &mut [u8], a: usize, n: usize) -> Result<(), Full>
+    requires { Room units.old × Short a × Short n }
     ensures { UnitsChange links.now (units.old, units.new) (λ _ old new. Pushes old new result (forks_behind (calls_in links.now a n) old.calls)) }
 {
     for k in 0..n {
-        fork_one(units, call(links, a + k))?;
+        fork_one(units, links.call(a + k))?;
     }
     Ok(())
 }
 
 // The others, from the last to the first, before the stack.
-fn push_stack(links: &[usize], units: &mut [u8], a: usize, n: usize) -> Result<(), Full>
-    requires { Linked links.now × Room units.old × Short a × Short n }
+fn push_stack(links: &Links, units: &mut [u8], a: usize, n: usize) -> Result<(), Full>
+    requires { Room units.old × Short a × Short n }
     ensures { UnitsChange links.now (units.old, units.new) (λ _ old new. Pushes old new result (stack_before (calls_in links.now a n) old.calls)) }
 {
     for k in (0..n).rev() {
-        stack_one(units, call(links, a + k))?;
+        stack_one(units, links.call(a + k))?;
     }
     Ok(())
 }
 
 // n calls from call a on, each where it belongs.
-fn push_all(links: &[usize], units: &mut [u8], a: usize, n: usize) -> Result<(), Full>
-    requires { Linked links.now × Room units.old × Short a × Short n }
+fn push_all(links: &Links, units: &mut [u8], a: usize, n: usize) -> Result<(), Full>
+    requires { Room units.old × Short a × Short n }
     ensures { UnitsChange links.now (units.old, units.new) (λ _ old new. Pushes old new result (stack_before (calls_in links.now a n) (forks_behind (calls_in links.now a n) old.calls))) }
 {
     push_forks(links, units, a, n)?;
@@ -76,17 +76,17 @@ fn push_all(links: &[usize], units: &mut [u8], a: usize, n: usize) -> Result<(),
 }
 
 // The calls of output o. Most outputs have one or none.
-pub fn push_calls(links: &[usize], units: &mut [u8], o: usize) -> Result<(), Full>
-    requires { Linked links.now × Room units.old }
+pub fn push_calls(links: &Links, units: &mut [u8], o: usize) -> Result<(), Full>
+    requires { Room units.old }
     ensures { UnitsChange links.now (units.old, units.new) (λ c old new. Pushes old new result (push_calls c (some o) old.calls)) }
 {
-    let n = call_count(links, o);
+    let n = links.call_count(o);
     if n == 0 {
         return Ok(());
     }
-    let a = first_call(links, o);
+    let a = links.first_call(o);
     if n == 1 {
-        return push_one(units, call(links, a));
+        return push_one(units, links.call(a));
     }
     push_all(links, units, a, n)
 }

@@ -6,69 +6,61 @@ ghost use Rattle.model.specs.Base.{all, from};
 ghost use Rattle.model.specs.Circuit.{most_gates, names, body_of_gate, gates};
 ghost use Rattle.model.specs.Questions.{calls_inside, in_a_body, has_entry, comes_out, question_19};
 ghost use Rattle.links.specs.Links.{call_of};
-ghost use Rattle.links.specs.Lent.{Linked, net_of};
+ghost use Rattle.links.specs.Lent.{net_of};
 ghost use Rattle.circuit.specs.Bodies.{stays_inside, well_placed};
 
 use kinds::numbers::{LOOP, LOOP_ENTRY};
-use links::{
-    body_of_gate, call, call_count, called_input, first_call, gate_at_input, gate_at_output,
-    kind_of_gate, setting,
-};
+use links::{Links, called_input};
 use model::Value;
 
 // ---- calls
 
 // Whether a call with this target goes to a gate in the body of the gate that has output o.
-fn call_inside(links: &[usize], o: usize, target: usize) -> bool
-    requires { Linked links.now }
+fn call_inside(links: &Links, o: usize, target: usize) -> bool
     ensures { result ≡ stays_inside (net_of links.now) o (call_of target) }
 {
-    let from = body_of_gate(links, gate_at_output(links, o));
-    let to = body_of_gate(links, gate_at_input(links, called_input(target)));
+    let from = links.body_of_gate(links.gate_at_output(o));
+    let to = links.body_of_gate(links.gate_at_input(called_input(target)));
     from == to
 }
 
 // Whether each call of output o does.
-fn calls_inside(links: &[usize], o: usize) -> bool
-    requires { Linked links.now }
+fn calls_inside(links: &Links, o: usize) -> bool
     ensures { result ≡ calls_inside (net_of links.now) o }
 {
-    let first = first_call(links, o);
-    let n = call_count(links, o);
-    (0..n).all(|k| call_inside(links, o, call(links, first + k)))
+    let first = links.first_call(o);
+    let n = links.call_count(o);
+    (0..n).all(|k| call_inside(links, o, links.call(first + k)))
 }
 
 // Whether the calls of each output do.
-fn all_calls_inside(links: &[usize]) -> bool
-    requires { Linked links.now }
+fn all_calls_inside(links: &Links) -> bool
     ensures { result ≡ all (calls_inside (net_of links.now)) (from 0 (length (net_of links.now).outputs)) }
 {
-    (0..links::outputs(links)).all(|o| calls_inside(links, o))
+    (0..links.outputs()).all(|o| calls_inside(links, o))
 }
 
 // ---- bodies
 
 // Whether the body that gate g lies in is 0 or that of a Loop.
-fn in_a_body(links: &[usize], g: usize) -> bool
-    requires { Linked links.now }
+fn in_a_body(links: &Links, g: usize) -> bool
     ensures { result ≡ in_a_body (net_of links.now) g }
 {
-    let body = body_of_gate(links, g);
-    body == 0 || kind_of_gate(links, body - 1) == LOOP
+    let body = links.body_of_gate(g);
+    body == 0 || links.kind_of_gate(body - 1) == LOOP
 }
 
 // Whether going outwards from the body that gate g lies in ends outside. It does so after as many bodies as there are gates, or never.
-fn comes_out(links: &[usize], g: usize) -> bool
-    requires { Linked links.now }
+fn comes_out(links: &Links, g: usize) -> bool
     ensures { result ≡ comes_out (net_of links.now) (length (net_of links.now).kinds) (body_of_gate (net_of links.now) g) }
 {
-    let n = links::gates(links);
-    let mut around = body_of_gate(links, g);
+    let n = links.gates();
+    let mut around = links.body_of_gate(g);
     for _k in 0..n {
         if around == 0 {
             return true;
         }
-        around = body_of_gate(links, around - 1);
+        around = links.body_of_gate(around - 1);
     }
     around == 0
 }
@@ -87,26 +79,25 @@ fn is_number(v: Value, g: usize) -> bool
 }
 
 // Whether gate e is an entry that names gate g.
-fn names(links: &[usize], g: usize, e: usize) -> bool
-    requires { Linked links.now }
+fn names(links: &Links, g: usize, e: usize) -> bool
     ensures { result ≡ names (net_of links.now).kinds (net_of links.now).stored (net_of links.now).first_input g e }
 {
-    kind_of_gate(links, e) == LOOP_ENTRY && is_number(setting(links, e, 0), g)
+    links.kind_of_gate(e) == LOOP_ENTRY && is_number(links.setting(e, 0), g)
 }
 
 // Whether gate g, if it is a Loop, has one entry, and that in its own body.
-fn has_entry(links: &[usize], g: usize) -> bool
-    requires { Linked links.now × (g < most_gates) }
+fn has_entry(links: &Links, g: usize) -> bool
+    requires { g < most_gates }
     ensures { result ≡ has_entry (net_of links.now) g }
 {
-    if kind_of_gate(links, g) != LOOP {
+    if links.kind_of_gate(g) != LOOP {
         return true;
     }
-    let n = links::gates(links);
+    let n = links.gates();
     let mut entries: usize = 0;
     for e in 0..n {
         if names(links, g, e) {
-            if body_of_gate(links, e) != g + 1 {
+            if links.body_of_gate(e) != g + 1 {
                 return false;
             }
             entries += 1;
@@ -118,24 +109,22 @@ fn has_entry(links: &[usize], g: usize) -> bool
 // ---- gates
 
 // Whether gate g lies in a body that there is, has its entry if it is a Loop, and lies in no ring of bodies.
-fn gate_good(links: &[usize], g: usize) -> bool
-    requires { Linked links.now × (g < most_gates) }
+fn gate_good(links: &Links, g: usize) -> bool
+    requires { g < most_gates }
     ensures { result ≡ well_placed (net_of links.now) g }
 {
     in_a_body(links, g) && has_entry(links, g) && comes_out(links, g)
 }
 
 // Whether each gate is so.
-fn gates_good(links: &[usize]) -> bool
-    requires { Linked links.now }
+fn gates_good(links: &Links) -> bool
     ensures { result ≡ all (well_placed (net_of links.now)) (gates (net_of links.now)) }
 {
-    (0..links::gates(links)).all(|g| gate_good(links, g))
+    (0..links.gates()).all(|g| gate_good(links, g))
 }
 
 // Of all calls and all gates.
-pub fn bodies_good(links: &[usize]) -> bool
-    requires { Linked links.now }
+pub fn bodies_good(links: &Links) -> bool
     ensures { result ≡ question_19 (net_of links.now) }
 {
     all_calls_inside(links) && gates_good(links)

@@ -6,10 +6,11 @@ ghost use Rattle.model.specs.Base.{if◌then◌otherwise◌};
 ghost use Rattle.model.specs.Circuit.{minus_one, kind_of_gate};
 ghost use Rattle.model.specs.Questions.{within, question_1, value_output, int_such_that, int_or_nothing, float_or_nothing, good_setting, names_constant, good_input, question_4};
 ghost use Rattle.kinds.specs.Pins.{in_of};
-ghost use Rattle.links.specs.Lent.{Linked, net_of};
+ghost use Rattle.links.specs.Lent.{net_of};
 
 use kinds::numbers::{LOOP, VAR};
 use kinds::{Out, Pin};
+use links::Links;
 use links::layout::MINUS_ONE;
 use model::Value;
 use words::get;
@@ -27,16 +28,14 @@ fn takes_source(pin: Pin) -> bool
 }
 
 // Whether output o is there and shows a value; `out_at` says of one that is not there that it fires.
-pub fn value_output(links: &[usize], o: usize) -> bool
-    requires { Linked links.now }
+pub fn value_output(links: &Links, o: usize) -> bool
     ensures { result ≡ value_output (net_of links.now) o }
 {
-    matches!(links::out_at(links, o), Out::Shows | Out::Passes)
+    matches!(links.out_at(o), Out::Shows | Out::Passes)
 }
 
 // Whether the pin's source is -1, or a value output where the pin takes one and no constant is stored.
-fn good_source(links: &[usize], pin: Pin, source: u64, stored: u64) -> bool
-    requires { Linked links.now }
+fn good_source(links: &Links, pin: Pin, source: u64, stored: u64) -> bool
     ensures { result ≡ (if eqb source minus_one then true otherwise value_output (net_of links.now) source && (in_of pin).source && eqb stored 0) }
 {
     source == MINUS_ONE || value_output(links, source as usize) && takes_source(pin) && stored == 0
@@ -52,11 +51,10 @@ fn takes_constant(pin: Pin) -> bool
 }
 
 // Whether a constant has this name; 0 names nothing.
-fn names_constant(links: &[usize], k: usize) -> bool
-    requires { Linked links.now }
+fn names_constant(links: &Links, k: usize) -> bool
     ensures { result ≡ names_constant (net_of links.now) k }
 {
-    k < links::constants(links)
+    k < links.constants()
 }
 
 // Whether nothing is stored, or the pin takes a constant.
@@ -83,12 +81,11 @@ fn float_or_nothing(v: Value) -> bool
 }
 
 // The Int number of a gate of this kind.
-fn names_gate(links: &[usize], kind: u64, v: Value) -> bool
-    requires { Linked links.now }
+fn names_gate(links: &Links, kind: u64, v: Value) -> bool
     ensures { result ≡ int_such_that (λ g. eqb (kind_of_gate (net_of links.now) g) kind) v }
 {
     if let Value::Int(g) = v {
-        links::kind_of_gate(links, g as usize) == kind
+        links.kind_of_gate(g as usize) == kind
     } else {
         false
     }
@@ -106,8 +103,7 @@ fn names_channel(v: Value) -> bool
 }
 
 // Whether a pin, if it is a setting, may be set to v.
-fn good_setting(links: &[usize], pin: Pin, v: Value) -> bool
-    requires { Linked links.now }
+fn good_setting(links: &Links, pin: Pin, v: Value) -> bool
     ensures { result ≡ good_setting (net_of links.now) (in_of pin).setting v }
 {
     match pin {
@@ -123,8 +119,7 @@ fn good_setting(links: &[usize], pin: Pin, v: Value) -> bool
 // ---- inputs
 
 // Whether an input is good, by what it is, its words for source and stored, and the value stored.
-fn good_input(links: &[usize], pin: Pin, source: u64, stored: u64, v: Value) -> bool
-    requires { Linked links.now }
+fn good_input(links: &Links, pin: Pin, source: u64, stored: u64, v: Value) -> bool
     ensures { result ≡ good_input (net_of links.now) (in_of pin) source stored v }
 {
     good_source(links, pin, source, stored)
@@ -134,8 +129,8 @@ fn good_input(links: &[usize], pin: Pin, source: u64, stored: u64, v: Value) -> 
 }
 
 // Whether each input is good.
-pub fn inputs_good(circuit: &[u8], links: &[usize]) -> bool
-    requires { (question_1 circuit.now (words circuit.now) ≡ true) × Linked links.now }
+pub fn inputs_good(circuit: &[u8], links: &Links) -> bool
+    requires { question_1 circuit.now (words circuit.now) ≡ true }
     ensures { result ≡ question_4 (words circuit.now) (net_of links.now) }
 {
     let n = get(circuit, 2) as usize;
@@ -143,13 +138,7 @@ pub fn inputs_good(circuit: &[u8], links: &[usize]) -> bool
     for i in 0..n {
         let source = get(circuit, first + i);
         let stored = get(circuit, first + n + i);
-        if !good_input(
-            links,
-            links::pin_at(links, i),
-            source,
-            stored,
-            links::stored_in(links, i),
-        ) {
+        if !good_input(links, links.pin_at(i), source, stored, links.stored_in(i)) {
             return false;
         }
     }

@@ -7,13 +7,12 @@ ghost use Rattle.words.specs.Words.{words};
 ghost use Rattle.model.specs.Circuit.{circuit as circuit_of};
 ghost use Rattle.model.specs.Questions.{question_1, circuit_refusal, script_refusal, refusal};
 ghost use Rattle.links.specs.Links.{cells};
-ghost use Rattle.links.specs.Lent.{Linked};
 ghost use Rattle.circuit.specs.Numbers.{refused};
 ghost use Rattle.circuit.specs.Refusals.{words_refusal, links_refusal, areas_refusal, links_after};
 
 use crate::refusals::Refusal;
 use linking::link;
-use links::layout::CELLS;
+use links::Links;
 
 mod areas;
 mod bodies;
@@ -45,9 +44,8 @@ fn words_refusal(circuit: &[u8]) -> Result<(), Refusal>
 }
 
 // Questions 4, 5, 19, 6 and 7, of the links of a circuit whose words passed; no areas are lent.
-fn links_refusal(circuit: &[u8], links: &[usize]) -> Result<(), Refusal>
+fn links_refusal(circuit: &[u8], links: &Links) -> Result<(), Refusal>
     requires circuit_value { words_refusal circuit.now ≡ 0 }
-    requires linked { Linked links.now }
     requires links_value { links.now ≡ cells (circuit_of (words circuit.now)) }
     ensures { refused result ≡ links_refusal (words circuit.now) (circuit_of (words circuit.now)) }
 {
@@ -70,8 +68,7 @@ fn links_refusal(circuit: &[u8], links: &[usize]) -> Result<(), Refusal>
 }
 
 // The first question about a circuit whose answer is no, where no areas are lent. The links are made where its words pass.
-pub fn circuit_refusal(circuit: &[u8], links: &mut [usize]) -> Result<(), Refusal>
-    requires { Linked links.old }
+pub fn circuit_refusal(circuit: &[u8], links: &mut Links) -> Result<(), Refusal>
     ensures { (refused result ≡ circuit_refusal none circuit.now) × (links.new ≡ links_after circuit.now links.old) }
 {
     words_refusal(circuit)?;
@@ -111,12 +108,11 @@ fn areas_refusal(circuit: &[u8], values: usize, units: usize, delays: usize) -> 
 // The first question about a circuit whose answer is no, where areas of these lengths are lent. The links are made where its words pass, for the runs of the call.
 pub fn refusal_lent(
     circuit: &[u8],
-    links: &mut [usize],
+    links: &mut Links,
     values: usize,
     units: usize,
     delays: usize,
 ) -> Result<(), Refusal>
-    requires { Linked links.old }
     ensures { (refused result ≡ circuit_refusal (some (record { values = values; units = units; delays = delays })) circuit.now) × (links.new ≡ links_after circuit.now links.old) }
 {
     circuit_refusal(circuit, links)?;
@@ -133,7 +129,7 @@ pub fn refusal(
 ) -> Result<(), Refusal>
     ensures { refused result ≡ refusal (some (record { values = values; units = units; delays = delays })) circuit.now script.now }
 {
-    let mut links = [0usize; CELLS];
+    let mut links = Links::new();
     refusal_lent(circuit, &mut links, values, units, delays)?;
     script_refusal(circuit, script)
 }
@@ -142,7 +138,7 @@ pub fn refusal(
 pub fn check(circuit: &[u8], script: &[u8]) -> Result<(), Refusal>
     ensures { refused result ≡ refusal none circuit.now script.now }
 {
-    let mut links = [0usize; CELLS];
+    let mut links = Links::new();
     circuit_refusal(circuit, &mut links)?;
     script_refusal(circuit, script)
 }

@@ -2,7 +2,6 @@
 #![tactic(auto)]
 
 ghost use Rattle.std.specs.Prelude.{◌<◌};
-ghost use Rattle.links.specs.Lent.{Linked};
 ghost use Rattle.circuit.specs.Numbers.{refused};
 ghost use Rattle.run.specs.Call.{Ready};
 ghost use Rattle.class.specs.Call.{Right, call_of, left_of};
@@ -11,7 +10,7 @@ ghost use Rattle.class.specs.Scripts.{Scripts, Turned, SoFar};
 use books::{count, entry, good_book, part_of};
 use circuit::refusal_lent;
 use circuit::refusals::Refusal;
-use links::layout::CELLS;
+use links::Links;
 use run::script_answer;
 use telling::tell;
 
@@ -21,7 +20,7 @@ const MOST_SCRIPTS: usize = 16;
 // Script i of n: its span of the book, its part of the log, of so many bytes, and what is told of it.
 fn turn(
     circuit: &[u8],
-    links: &[usize],
+    links: &Links,
     book: &[u8],
     n: usize,
     size: usize,
@@ -32,7 +31,7 @@ fn turn(
     delays: &mut [u8],
     told: &mut [u64],
 )
-    requires { Linked links.now × Ready links.now circuit.now values.old units.old delays.old × Scripts book.now log.old n size × (i < n) }
+    requires { Ready links.now circuit.now values.old units.old delays.old × Scripts book.now log.old n size × (i < n) }
     ensures { Turned (call_of circuit.now book.now log.old values.old units.old delays.old told.old) size i (left_of log.new values.new units.new delays.new told.new) }
 {
     let s = entry(book, n, i);
@@ -55,7 +54,7 @@ fn turn(
 // The n scripts of a book, in order.
 fn scripts(
     circuit: &[u8],
-    links: &[usize],
+    links: &Links,
     book: &[u8],
     n: usize,
     size: usize,
@@ -65,7 +64,7 @@ fn scripts(
     delays: &mut [u8],
     told: &mut [u64],
 )
-    requires { Linked links.now × Ready links.now circuit.now values.old units.old delays.old × Scripts book.now log.old n size }
+    requires { Ready links.now circuit.now values.old units.old delays.old × Scripts book.now log.old n size }
     ensures { SoFar (call_of circuit.now book.now log.old values.old units.old delays.old told.old) size n (left_of log.new values.new units.new delays.new told.new) }
 {
     for i in 0..n {
@@ -88,7 +87,7 @@ pub fn class(
 ) -> Result<(), Refusal>
     ensures { Right (call_of circuit.now book.now log.old values.old units.old delays.old told.old) (left_of log.new values.new units.new delays.new told.new) (refused result) }
 {
-    let mut links = [0usize; CELLS];
+    let mut links = Links::new();
     refusal_lent(circuit, &mut links, values.len(), units.len(), delays.len())?;
     if !good_book(MOST_SCRIPTS, book) {
         return Err(Refusal::NoBook);

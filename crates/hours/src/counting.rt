@@ -76,6 +76,7 @@ pub fn count_all(log: &[u8], names: Names) -> Option<Tally>
     let size = log.len() / 8;
     let mut tally = Tally::new();
     let mut at: usize = 0;
+    // Stays: each record has a size of its own, by which `at` goes on, so no range has these places.
     while at < size {
         count_record(log, at, names, &mut tally)?;
         at += record_size(log, at, size - at, names.outs);

@@ -2,7 +2,7 @@
 #![tactic(auto)]
 
 ghost use Rattle.std.specs.Prelude.{◌≡◌, ◌≤◌, length};
-ghost use Rattle.links.specs.Lent.{Linked, net_of};
+ghost use Rattle.links.specs.Lent.{net_of};
 ghost use Rattle.walk.specs.Walk.{WholeLog};
 ghost use Rattle.circuit.specs.Numbers.{refused};
 ghost use Rattle.hours.specs.Hours.{longest, good_names, reported};
@@ -12,7 +12,7 @@ ghost use Rattle.hours.specs.Call.{Written, Right, call_of, left_of};
 use circuit::inputs::value_output;
 use circuit::refusals::Refusal;
 use counting::{Names, count_all};
-use links::layout::CELLS;
+use links::Links;
 use whole::log_refusal;
 use words::told::put_at;
 use writing::{DRIVER, LINE, write_report};
@@ -26,8 +26,7 @@ mod writing;
 const LONGEST: u64 = 60000;
 
 // Whether driver and activity are value outputs, and the length is 1 to 60,000 milliseconds.
-fn good_names(links: &[usize], driver: u64, activity: u64, len: u64) -> bool
-    requires { Linked links.now }
+fn good_names(links: &Links, driver: u64, activity: u64, len: u64) -> bool
     ensures { result ≡ good_names (net_of links.now) driver activity len }
 {
     if !value_output(links, driver as usize) {
@@ -82,12 +81,12 @@ pub fn hours(
 ) -> Result<(), Refusal>
     ensures { Right (call_of circuit.now log.now driver activity len report.old told.old) (left_of report.new told.new) (refused result) }
 {
-    let mut links = [0usize; CELLS];
+    let mut links = Links::new();
     log_refusal(circuit, log, &mut links)?;
     if !good_names(&links, driver, activity, len) {
         return Err(Refusal::WrongNames);
     }
-    let outs = links::outputs(&links);
+    let outs = links.outputs();
     let written = write_hours(log, outs, driver as usize, activity as usize, len, report);
     let size = written.ok_or(Refusal::NoRoom)?;
     put_at(told, 0, size as u64);

@@ -1,3 +1,4 @@
+// Stays: a kind is a number, since `links` promises the one that its array holds, of any array; an enum has no value for the others.
 // The numbers of the 31 kinds.
 pub const SELECT: u64 = 1;
 

@@ -137,8 +137,8 @@ pub constants_are : (ws : List ℕ) (K : ℕ) (l l₁ l₂ : List ℕ) → l₁ 
 unfolding constants_written
 constants_are ws K l l₁ l₂ e₁ e₂ = rw (e₂, e₁)
 
-pub all_are : (ws : List ℕ) (G K I C O : ℕ) (l l₁ l₂ l₃ l₄ l₅ : List ℕ) → O ≡ below (outs_at ws (4 + 2 * K)) G → l₁ ≡ written l 0 total (λ k. 0) →
+pub all_are : (ws : List ℕ) (G K I C O : ℕ) (l₁ l₂ l₃ l₄ l₅ : List ℕ) → O ≡ below (outs_at ws (4 + 2 * K)) G → l₁ ≡ replicate total 0 →
     l₂ ≡ gates_written ws (4 + 2 * K) G (4 + 2 * K + 2 * G + I) K I O l₁ → l₃ ≡ inputs_written ws (4 + 2 * K) G (4 + 2 * K + 2 * G) I K l₂ →
-    l₄ ≡ lists_written ws (4 + 2 * K + 2 * G) I (4 + 2 * K + 2 * G + 2 * I) C O l₃ → l₅ ≡ constants_written ws K l₄ → l₅ ≡ all_written ws G K I C l
+    l₄ ≡ lists_written ws (4 + 2 * K + 2 * G) I (4 + 2 * K + 2 * G + 2 * I) C O l₃ → l₅ ≡ constants_written ws K l₄ → l₅ ≡ all_written ws G K I C
 unfolding all_written
-all_are ws G K I C O l l₁ l₂ l₃ l₄ l₅ eo e₁ e₂ e₃ e₄ e₅ = rw (e₅, e₄, e₃, e₂, e₁, eo)
+all_are ws G K I C O l₁ l₂ l₃ l₄ l₅ eo e₁ e₂ e₃ e₄ e₅ = rw (e₅, e₄, e₃, e₂, e₁, eo)

@@ -102,17 +102,10 @@ empty_room [] = [·]
 empty_room (n ∷ ns) = ◌∷·◌ {n = n} {x = []} (omega arith) (empty_room ns)
 
 -- after clearing
-pub cleared : (ns l l₁ : List ℕ) → length l ≡ sum ns → l₁ ≡ written l 0 (sum ns) (λ k. 0) → Holds ns (empty ns) l₁
-cleared ns l l₁ h e =
-    let n : ℕ = sum ns in
-    let k : length {A = ℕ} (replicate n 0) ≡ n = length-replicate n 0 in
-    let s : length l ≤ 0 + length {A = ℕ} (replicate n 0) = omega arith in
+pub cleared : (ns l : List ℕ) → l ≡ replicate (sum ns) 0 → Holds ns (empty ns) l
+cleared ns l e =
     record {
-      cells =
-          e ∙ ap (λ (r : List ℕ). sets l 0 r) (listed_replicate n 0)
-          ∙ sets-eq (replicate n 0) l 0 (omega arith)
-          ∙ ap (λ (r : List ℕ). replicate n 0 ++ r) (drop_of_length-le l s)
-          ∙ append-nil (replicate n 0) ∙ sym (empty_tables ns);
+      cells = e ∙ sym (empty_tables ns);
       room = empty_room ns;
     }
 

@@ -6,7 +6,7 @@ use mathlib.Core.List.{List, [], ◌∷◌, map}
 use mathlib.Core.Option.{Option}
 use native.Mathlib.Omega.{arith}
 use lib.Dec.{eqb}
-use lib.ListN.{length, get_or, length-map, get_or-map}
+use lib.ListN.{replicate, length, get_or, length-map, get_or-map}
 use Rattle.model.specs.declared.Value.{Value}
 use Rattle.model.specs.declared.Value.TheVariants.{Nothing}
 use Rattle.model.specs.Base.{keep, all, joined, both, from, sum}
@@ -308,8 +308,8 @@ module _ {bytes : List ℕ} (ws : List ℕ) (z : Sizes bytes ws) where
 
   -- ---- all tables, one after the other
 
-  module _ (good : (k : ℕ) → k < K → good_constant (constant_kind k) (constant_content k) ≡ true) (full : length (circuit ws).pins ≡ I) (l : List ℕ) (long : length l ≡ total) where
-    all_tables : all_written ws G K I C l ≡ cells (circuit ws)
+  module _ (good : (k : ℕ) → k < K → good_constant (constant_kind k) (constant_content k) ≡ true) (full : length (circuit ws).pins ≡ I) where
+    all_tables : all_written ws G K I C ≡ cells (circuit ws)
     unfolding all_written constants_written lists_written inputs_written gates_written word_cells sum table_sizes tables cells joined both
     all_tables =
         let readers : ℕ → List ℕ = members (λ i. get_or ws (sources + i) 0) I in
@@ -318,7 +318,7 @@ module _ {bytes : List ℕ} (ws : List ℕ) (z : Sizes bytes ws) where
         let row : ℕ → ℕ = row_of (λ o. length (readers o)) (λ o. length (made o)) in
         let o : O ≤ 9 * G = outs_below ws kinds G O refl in
         let es : List ℕ = entries_found ws kinds G (sources + I) K in
-        let h = cleared table_sizes l (written l 0 total (λ k. 0)) long refl in
+        let h = cleared table_sizes (replicate total 0) refl in
         let h = table_put table_sizes _ 0 (G ∷ K ∷ I ∷ O ∷ word_cells ws kinds G) _ _ (omega arith) refl (omega arith) refl h in
         let h = table_put table_sizes _ 1 (listed G (gate_cell ws kinds G es)) _ _ (omega arith) refl (omega (arith, z.gates, listed_length G (gate_cell ws kinds G es))) refl h in
         let h = table_put table_sizes _ 6 (joined (listed G (output_cells ws kinds))) _ _ (omega arith) refl outputs_length refl h in
@@ -385,10 +385,10 @@ module _ (bytes ws : List ℕ) (q₁ : question_1 bytes ws ≡ true) (q₃ : que
   inputs_all g k i eg ek ei = rw (eg, ek, ei) (inputs_are ws (sizes bytes ws q₁) full)
 
   -- what the builder writes is `cells` of the circuit
-  pub built : (l l₁ : List ℕ) (g k i n : ℕ) → question_2 ws ≡ true → length l ≡ total → g ≡ get_or ws 0 0 → k ≡ get_or ws 1 0 → i ≡ get_or ws 2 0 → n ≡ get_or ws 3 0 →
-      l₁ ≡ all_written ws g k i n l → l₁ ≡ cells (circuit ws)
+  pub built : (l₁ : List ℕ) (g k i n : ℕ) → question_2 ws ≡ true → g ≡ get_or ws 0 0 → k ≡ get_or ws 1 0 → i ≡ get_or ws 2 0 → n ≡ get_or ws 3 0 →
+      l₁ ≡ all_written ws g k i n → l₁ ≡ cells (circuit ws)
   unfolding question_2 yes_all word_at
-  built l l₁ g k i n q₂ long eg ek ei en e =
+  built l₁ g k i n q₂ eg ek ei en e =
       let z = sizes bytes ws q₁ in
       let t : ℕ → Bool = λ j. good_constant (constant_kind ws z j) (constant_content ws z j) in
       let bs : both good_constant (part ws 4 (get_or ws 1 0)) (part ws (4 + get_or ws 1 0) (get_or ws 1 0)) ≡ listed (get_or ws 1 0) t
@@ -397,4 +397,4 @@ module _ (bytes ws : List ℕ) (q₁ : question_1 bytes ws ≡ true) (q₃ : que
       let good : (j : ℕ) → j < get_or ws 1 0 → t j ≡ true
       = λ j h. sym (listed_in (get_or ws 1 0) t j true h)
       ∙ all_places (listed (get_or ws 1 0) t) (ap (λ (r : List Bool). all (λ b. b) r) (sym bs) ∙ q₂) j in
-      e ∙ (λ j. all_written ws (eg j) (ek j) (ei j) (en j) l) ∙ all_tables ws z good full l long
+      e ∙ (λ j. all_written ws (eg j) (ek j) (ei j) (en j)) ∙ all_tables ws z good full

@@ -186,11 +186,11 @@ unfoldable pub constants_written : List ℕ → ℕ → List ℕ → List ℕ
 constants_written ws K l = written (written l constant_kinds_at K (λ k. get_or ws (4 + k) 0)) constant_contents_at K (λ k. get_or ws (4 + K + k) 0)
 
 -- all tables, in cleared cells
-unfoldable pub all_written : List ℕ → ℕ → ℕ → ℕ → ℕ → List ℕ → List ℕ
-all_written ws G K I C l =
+unfoldable pub all_written : List ℕ → ℕ → ℕ → ℕ → ℕ → List ℕ
+all_written ws G K I C =
     let kinds = 4 + 2 * K in
     let sources = kinds + 2 * G in
     let calls = sources + 2 * I in
     let O = below (outs_at ws kinds) G in
     constants_written ws K
-    (lists_written ws sources I calls C O (inputs_written ws kinds G sources I K (gates_written ws kinds G (sources + I) K I O (written l 0 total (λ k. 0)))))
+    (lists_written ws sources I calls C O (inputs_written ws kinds G sources I K (gates_written ws kinds G (sources + I) K I O (replicate total 0))))

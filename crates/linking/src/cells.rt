@@ -6,6 +6,7 @@ ghost use Rattle.links.specs.Lent.{Short};
 ghost use Rattle.linking.specs.Building.{written};
 ghost use Rattle.linking.specs.Lent.{Near};
 
+use links::Links;
 use links::layout::DIGIT;
 
 // Word i of the circuit, and 0 past the end.
@@ -33,14 +34,14 @@ pub fn put(cells: &mut [usize], i: usize, v: usize)
 }
 
 // n cells, from cell `base` on, become f(0), f(1), ..
-pub fn write_each<F: Fn(usize) -> usize>(cells: &mut [usize], base: usize, n: usize, f: F)
+pub fn write_each<F: Fn(usize) -> usize>(cells: &mut Links, base: usize, n: usize, f: F)
     requires near { Near base }
     requires near_2 { Near n }
     requires callable { (k : ℕ) → k < n → F.pre f k }
     ensures { (v : ℕ → ℕ) → ((k r : ℕ) → k < n → F.post f k r → r ≡ v k) → cells.new ≡ written cells.old base n v }
 {
     for k in 0..n {
-        put(cells, base + k, f(k));
+        cells.put(base + k, f(k));
     }
 }
 

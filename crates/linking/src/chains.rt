@@ -8,6 +8,7 @@ ghost use Rattle.linking.specs.Building.{blank, no_chains, chained, all_chained,
 ghost use Rattle.linking.specs.Lent.{Near};
 
 use crate::cells::{at, put, word};
+use links::Links;
 use links::layout::{MOST_INPUTS, MOST_OUTPUTS};
 
 // No chain has more members.
@@ -73,7 +74,7 @@ impl Chains {
     }
 
     // The cells from cell `base` on become the members of n chains, one behind the other.
-    pub fn write(&self, circuit: &[u8], targets: usize, n: usize, cells: &mut [usize], base: usize)
+    pub fn write(&self, circuit: &[u8], targets: usize, n: usize, cells: &mut Links, base: usize)
         requires near { Near targets }
         requires near_2 { Near n }
         requires near_3 { Near base }
@@ -87,7 +88,7 @@ impl Chains {
     }
 
     // The cells from cell `base` on become the members of chain o.
-    fn write_one(&self, circuit: &[u8], targets: usize, o: usize, cells: &mut [usize], base: usize)
+    fn write_one(&self, circuit: &[u8], targets: usize, o: usize, cells: &mut Links, base: usize)
         requires near { Near targets }
         requires base_bound { base ≤ 4294967296 }
         ensures { cells.new ≡ sets cells.old base (map (target (words circuit.now) targets) (chain_at self.now o)) }
@@ -98,7 +99,7 @@ impl Chains {
                 return;
             }
             let v = target(circuit, targets, p);
-            put(cells, base + n, v);
+            cells.put(base + n, v);
             p = self.next[p];
         }
     }

@@ -7,10 +7,11 @@ ghost use Rattle.linking.specs.Building.{gate_bit, bits_of, word_cells};
 use crate::cells::put;
 use crate::gates::GateTable;
 use kinds::numbers::*;
+use links::Links;
 use links::layout::*;
 
 // The words of gates: DeltaTime and ServerUptime, buffers and Queues, Clocks, Stopwatches, receivers of events.
-pub fn write_words(gates: GateTable, cells: &mut [usize])
+pub fn write_words(gates: GateTable, cells: &mut Links)
     ensures { cells.new ≡ sets cells.old 4 (word_cells (words gates.entry.circuit.now) gates.entry.kinds gates.entry.count) }
 {
     let time_sources = gates_within(gates, DELTA_TIME, SERVER_UPTIME);
@@ -19,11 +20,11 @@ pub fn write_words(gates: GateTable, cells: &mut [usize])
     let clocks = gates_within(gates, CLOCK, CLOCK);
     let stopwatches = gates_within(gates, STOPWATCH, STOPWATCH);
     let receivers = gates_within(gates, EVENT_CUSTOM, EVENT_CUSTOM_GLOBAL);
-    put(cells, TIME_SOURCES, time_sources);
-    put(cells, BUFFERS, buffers + queues);
-    put(cells, CLOCKS, clocks);
-    put(cells, STOPWATCHES, stopwatches);
-    put(cells, RECEIVERS, receivers);
+    cells.put(TIME_SOURCES, time_sources);
+    cells.put(BUFFERS, buffers + queues);
+    cells.put(CLOCKS, clocks);
+    cells.put(STOPWATCHES, stopwatches);
+    cells.put(RECEIVERS, receivers);
 }
 
 // A word of the gates: bit g is set where the kind of gate g is one of low to high.

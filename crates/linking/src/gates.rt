@@ -11,6 +11,7 @@ ghost use Rattle.linking.specs.Lent.{Near};
 use crate::cells::{at, pack, put, word, write_each};
 use crate::entries::find_entries;
 use crate::gate_words::write_words;
+use links::Links;
 use links::layout::*;
 
 // The gates of a circuit: their kinds are the words from word `kinds` on, and the words of their ranks and bodies stand behind these.
@@ -30,7 +31,7 @@ pub fn link_gates(
     constants: usize,
     inputs: usize,
     outputs: usize,
-    cells: &mut [usize],
+    cells: &mut Links,
 )
     requires stored_bound { stored ≤ 32768 }
     requires constants_le_most_constants { constants ≤ most_constants }
@@ -48,17 +49,17 @@ pub fn link_gates(
 }
 
 // The counts.
-fn write_counts(gates: usize, constants: usize, inputs: usize, outputs: usize, cells: &mut [usize])
+fn write_counts(gates: usize, constants: usize, inputs: usize, outputs: usize, cells: &mut Links)
     ensures { cells.new ≡ sets cells.old 0 (gates ∷ constants ∷ inputs ∷ outputs ∷ []) }
 {
-    put(cells, GATE_COUNT, gates);
-    put(cells, CONSTANT_COUNT, constants);
-    put(cells, INPUT_COUNT, inputs);
-    put(cells, OUTPUT_COUNT, outputs);
+    cells.put(GATE_COUNT, gates);
+    cells.put(CONSTANT_COUNT, constants);
+    cells.put(INPUT_COUNT, inputs);
+    cells.put(OUTPUT_COUNT, outputs);
 }
 
 // The cells from cell `base` on become those of the gates: kind and body, rank, first input and entry, first output.
-fn write_gates(gates: GateTable, entries: &[usize], cells: &mut [usize], base: usize)
+fn write_gates(gates: GateTable, entries: &[usize], cells: &mut Links, base: usize)
     requires gates { Gates entries.now gates.count }
     requires near { Near base }
     requires small { Small (words gates.circuit.now) gates.kinds gates.count 256 }
@@ -74,14 +75,14 @@ fn write_gates(gates: GateTable, entries: &[usize], cells: &mut [usize], base: u
         let kind_and_body = kind + BODY * (place / RANKS);
         let input_and_entry = inputs + ENTRY * entry;
         let gate = pack(kind_and_body, place % RANKS, input_and_entry, outputs);
-        put(cells, base + g, gate);
+        cells.put(base + g, gate);
         inputs += inputs_of(gates, g);
         outputs += outputs_of(gates, g);
     }
 }
 
 // The cells from cell `base` on become those of the outputs of the gates: each output's gate.
-fn write_outputs(gates: GateTable, cells: &mut [usize], base: usize)
+fn write_outputs(gates: GateTable, cells: &mut Links, base: usize)
     requires base_bound { base ≤ 32768 }
     ensures { cells.new ≡ sets cells.old base (joined (listed gates.entry.count (output_cells (words gates.entry.circuit.now) gates.entry.kinds))) }
 {
@@ -104,6 +105,7 @@ pub fn count_outputs(gates: GateTable) -> usize
     outputs
 }
 
+// Stays: these two are one line each over the two of `kinds`; one function over either would be longer than both.
 // How many inputs gate g has.
 pub fn inputs_of(gates: GateTable, g: usize) -> usize
     requires near { Near g }

@@ -14,6 +14,7 @@ use crate::CONSTANTS;
 use crate::cells::{pack, word, write_each};
 use crate::gates::{GateTable, inputs_of};
 use kinds::{Pin, pin_at};
+use links::Links;
 use links::layout::*;
 
 // The tables of the inputs.
@@ -22,7 +23,7 @@ pub fn link_inputs(
     sources: usize,
     inputs: usize,
     constants: usize,
-    cells: &mut [usize],
+    cells: &mut Links,
 )
     requires sources_bound { sources ≤ 32768 }
     requires inputs_le_most_inputs { inputs ≤ most_inputs }
@@ -66,7 +67,7 @@ pub fn word_named(circuit: &[u8], named: usize, count: usize, k: usize) -> usize
 }
 
 // The cells from cell `base` on become those of the inputs of the gates, whose sources are the words from word `sources` on.
-fn write_inputs(gates: GateTable, sources: usize, cells: &mut [usize], base: usize)
+fn write_inputs(gates: GateTable, sources: usize, cells: &mut Links, base: usize)
     requires sources_bound { sources ≤ 32768 }
     requires base_bound { base ≤ 32768 }
     ensures { cells.new ≡ sets cells.old base (joined (listed gates.entry.count (input_cells (words gates.entry.circuit.now) gates.entry.kinds sources))) }
@@ -85,7 +86,7 @@ fn write_inputs_of(
     kind: u64,
     sources: usize,
     g: usize,
-    cells: &mut [usize],
+    cells: &mut Links,
     base: usize,
 )
     requires near { Near sources }

@@ -7,13 +7,13 @@ ghost use Rattle.model.specs.Circuit.{circuit as circuit_of, most_gates, most_in
 ghost use Rattle.model.specs.Questions.{question_1, question_2, question_3};
 ghost use Rattle.model.specs.Chain.{most_calls};
 ghost use Rattle.links.specs.Links.{cells, most_constants};
-ghost use Rattle.links.specs.Lent.{Linked};
 ghost use Rattle.linking.specs.Building.{below, Small, ins_at, constants_written, all_written};
 
 use crate::cells::{word, write_each};
 use crate::gates::{GateTable, count_outputs, link_gates};
 use crate::inputs::link_inputs;
 use crate::lists::link_lists;
+use links::Links;
 use links::layout::*;
 
 mod cells;
@@ -28,11 +28,10 @@ mod lists;
 const CONSTANTS: usize = 4;
 
 // Writes the links of a circuit down. Questions 1 to 3 about it are answered yes.
-pub fn link(circuit: &[u8], links: &mut [usize])
+pub fn link(circuit: &[u8], links: &mut Links)
     requires circuit_value { question_1 circuit.now (words circuit.now) ≡ true }
     requires circuit_value_2 { question_2 (words circuit.now) ≡ true }
     requires circuit_value_3 { question_3 (words circuit.now) (circuit_of (words circuit.now)) ≡ true }
-    requires linked { Linked links.old }
     ensures { links.new ≡ cells (circuit_of (words circuit.now)) }
 {
     let gates = word(circuit, 0);
@@ -49,7 +48,7 @@ fn link_all(
     constants: usize,
     inputs: usize,
     calls: usize,
-    cells: &mut [usize],
+    cells: &mut Links,
 )
     requires gates_le_most_gates { gates ≤ most_gates }
     requires constants_le_most_constants { constants ≤ most_constants }
@@ -58,7 +57,7 @@ fn link_all(
     requires inputs_value { inputs ≡ below (ins_at (words circuit.now) (4 + 2 * constants)) gates }
     requires small { Small (words circuit.now) (4 + 2 * constants) gates 256 }
     requires small_2 { Small (words circuit.now) (4 + 2 * constants + gates) gates 16777216 }
-    ensures { cells.new ≡ all_written (words circuit.now) gates constants inputs calls cells.old }
+    ensures { cells.new ≡ all_written (words circuit.now) gates constants inputs calls }
 {
     let kinds = CONSTANTS + 2 * constants;
     let sources = kinds + 2 * gates;
@@ -69,7 +68,7 @@ fn link_all(
         count: gates,
     };
     let outputs = count_outputs(table);
-    write_each(cells, 0, CELLS, |_| 0);
+    cells.clear();
     link_gates(table, sources + inputs, constants, inputs, outputs, cells);
     link_inputs(table, sources, inputs, constants, cells);
     link_lists(circuit, sources, inputs, callers, calls, outputs, cells);
@@ -77,7 +76,7 @@ fn link_all(
 }
 
 // The tables of the constants.
-fn link_constants(circuit: &[u8], constants: usize, cells: &mut [usize])
+fn link_constants(circuit: &[u8], constants: usize, cells: &mut Links)
     requires { constants ≤ most_constants }
     ensures { cells.new ≡ constants_written (words circuit.now) constants cells.old }
 {

@@ -9,6 +9,7 @@ ghost use Rattle.linking.specs.Lent.{Near};
 
 use crate::cells::{pack, put};
 use crate::chains::Chains;
+use links::Links;
 use links::layout::*;
 
 // The tables of readers, calls and rows. The keys of the inputs are their sources; the keys of the calls are the outputs that they come from.
@@ -19,7 +20,7 @@ pub fn link_lists(
     calls: usize,
     count: usize,
     outputs: usize,
-    cells: &mut [usize],
+    cells: &mut Links,
 )
     requires sources_bound { sources ≤ 32768 }
     requires inputs_le_most_inputs { inputs ≤ most_inputs }
@@ -39,7 +40,7 @@ pub fn link_lists(
 }
 
 // n cells, from cell `base` on, become the rows of n outputs: where the readers begin and how many they are, and the same of the calls.
-fn write_rows(readers: &Chains, called: &Chains, n: usize, cells: &mut [usize], base: usize)
+fn write_rows(readers: &Chains, called: &Chains, n: usize, cells: &mut Links, base: usize)
     requires near { Near n }
     requires near_2 { Near base }
     requires short { Short (below (size_at readers.now) n) }
@@ -52,7 +53,7 @@ fn write_rows(readers: &Chains, called: &Chains, n: usize, cells: &mut [usize], 
         let more_readers = readers.size(o);
         let more_calls = called.size(o);
         let row = pack(first_reader, more_readers, first_call, more_calls);
-        put(cells, base + o, row);
+        cells.put(base + o, row);
         first_reader += more_readers;
         first_call += more_calls;
     }

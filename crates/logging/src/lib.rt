@@ -8,7 +8,7 @@ ghost use Rattle.model.specs.Base.{if◌then◌otherwise◌};
 // The definitions `values` and `units` are named for what they hold, beside the slices of their names.
 ghost use Rattle.model.specs.Value.{kind_of, content_of};
 ghost use Rattle.model.specs.Record.{head_size, gates_and_forms, kinds_and_contents};
-ghost use Rattle.links.specs.Lent.{Linked, net_of, Room};
+ghost use Rattle.links.specs.Lent.{net_of, Room};
 ghost use Rattle.links.specs.Links.{most_outputs};
 ghost use Rattle.wires.specs.Held.{held};
 ghost use Rattle.wires.specs.View.{out_tags_at, out_contents_at};
@@ -16,7 +16,7 @@ ghost use Rattle.logging.specs.Log.{fits, written_as, Writes};
 ghost use Rattle.logging.specs.Rows.{head_row, entries_in, outs_in, Says};
 ghost use Rattle.logging.specs.Lent.{record_in};
 
-use links::outputs;
+use links::Links;
 use records::head::HEAD;
 use units::begun::begun;
 use units::entries::{form_of, gate_of};
@@ -78,11 +78,10 @@ fn write_units(units: &[u8], first: usize, n: usize, log: &mut [u8], p: usize)
 }
 
 // How many outputs the record of a tick with this stop shows: all, or none where there is a stop.
-fn outputs_shown(links: &[usize], stop: u64) -> usize
-    requires { Linked links.now }
+fn outputs_shown(links: &Links, stop: u64) -> usize
     ensures { (result ≡ (if eqb stop 0 then length (net_of links.now).outputs otherwise 0)) × (result ≤ most_outputs) }
 {
-    if stop == 0 { outputs(links) } else { 0 }
+    if stop == 0 { links.outputs() } else { 0 }
 }
 
 // The kind of what output o shows.
@@ -112,14 +111,14 @@ fn write_outputs(values: &[u8], log: &mut [u8], p: usize, n: usize)
 
 // The record of a tick becomes the words of the log from word `at` on, if it fits there: how many words it has. Else nothing is written.
 pub fn write_record(
-    links: &[usize],
+    links: &Links,
     values: &[u8],
     units: &[u8],
     log: &mut [u8],
     at: usize,
     head: Head,
 ) -> Option<usize>
-    requires { Linked links.now × Room values.now × Room units.now × (at * 8 ≤ length log.old) }
+    requires { Room values.now × Room units.now × (at * 8 ≤ length log.old) }
     ensures value { result ≡ written_as (fits log.old at (record_in links.now values.now units.now head)) (record_in links.now values.now units.now head) }
     ensures writes { Writes log.old log.new at (record_in links.now values.now units.now head) }
 {

@@ -3,14 +3,14 @@ ghost use Rattle.std.specs.Prelude.{◌≡◌, ◌-◌, ltb};
 ghost use Rattle.model.specs.State.{runs_left≔};
 ghost use Rattle.model.specs.Delays.{nat};
 ghost use Rattle.model.specs.Loops.{begin_body, goes_on};
-ghost use Rattle.links.specs.Lent.{Linked, net_of, Room};
+ghost use Rattle.links.specs.Lent.{net_of, Room};
 ghost use Rattle.wires.specs.Lent.{Turns, wires_in};
 ghost use Rattle.areas.specs.Lent.{OverValues, OverValuesUnits};
 ghost use Rattle.chain.specs.Chain.{Runs, started};
 ghost use Rattle.loops.specs.Loops.{CountsRead, BeginsLoop, EndsLoop, stays_on};
 
 use chain::{Ran, fire_output};
-use links::{entry_of_loop, input, output};
+use links::Links;
 use model::Value;
 use steps::reading::readied;
 use value::as_int;
@@ -49,13 +49,13 @@ fn natural(z: i64) -> u64
 }
 
 // What the inputs of Loop g read, which are ready.
-fn read_counts(links: &[usize], values: &[u8], g: usize, broke: bool) -> Counts
-    requires { Linked links.now × Room values.now }
+fn read_counts(links: &Links, values: &[u8], g: usize, broke: bool) -> Counts
+    requires { Room values.now }
     ensures { CountsRead (net_of links.now) g (wires_in links.now values.now) broke result }
 {
-    let count = natural(as_int(look(links, values, input(links, g, 1)), 0));
-    let first = unsigned(as_int(look(links, values, input(links, g, 2)), 0));
-    let step = unsigned(as_int(look(links, values, input(links, g, 3)), 1));
+    let count = natural(as_int(look(links, values, links.input(g, 1)), 0));
+    let first = unsigned(as_int(look(links, values, links.input(g, 2)), 0));
+    let step = unsigned(as_int(look(links, values, links.input(g, 3)), 1));
     Counts {
         count,
         first,
@@ -65,19 +65,19 @@ fn read_counts(links: &[usize], values: &[u8], g: usize, broke: bool) -> Counts
 }
 
 // The Loop of gate g begins: Count, FirstIndex and Step are read, and no Break is set.
-pub fn begin_loop(links: &[usize], values: &mut [u8], g: usize) -> Counts
-    requires { Linked links.now × Room values.old }
+pub fn begin_loop(links: &Links, values: &mut [u8], g: usize) -> Counts
+    requires { Room values.old }
     ensures { OverValues links.now (values.old, values.new) (λ c old new. BeginsLoop c g old new result) }
 {
-    readied(links, values, input(links, g, 1), 3);
+    readied(links, values, links.input(g, 1), 3);
     let counts = read_counts(links, values, g, breaking(links, values));
     set_breaking(links, values, false);
     counts
 }
 
 // A run of a body is counted, if the tick may make one more.
-pub fn begin_run(links: &[usize], values: &mut [u8]) -> bool
-    requires { Linked links.now × Room values.old }
+pub fn begin_run(links: &Links, values: &mut [u8]) -> bool
+    requires { Room values.old }
     ensures value { result ≡ ltb 0 (wires_in links.now values.old).runs_left }
     ensures turns { Turns links.now (values.old, values.new) (λ _ w. runs_left≔ w (w.runs_left - 1)) }
 {
@@ -91,25 +91,25 @@ pub fn begin_run(links: &[usize], values: &mut [u8]) -> bool
 
 // A run of the body of Loop g begins: its entry shows the index, no Union has passed, Body is fired.
 pub fn begin_body(
-    links: &[usize],
+    links: &Links,
     values: &mut [u8],
     units: &mut [u8],
     left: u64,
     g: usize,
     i: u64,
 ) -> Ran
-    requires { Linked links.now × Room values.old × Room units.old }
+    requires { Room values.old × Room units.old }
     ensures { OverValuesUnits links.now (values.old, values.new) (units.old, units.new) (λ c old new. Runs old new result (begin_body c g i (started old left))) }
 {
-    let e = entry_of_loop(links, g);
-    set_out(links, values, output(links, e, 1), Value::Int(i));
+    let e = links.entry_of_loop(g);
+    set_out(links, values, links.output(e, 1), Value::Int(i));
     clear_unions_passed(links, values);
-    fire_output(links, units, left, output(links, e, 0))
+    fire_output(links, units, left, links.output(e, 0))
 }
 
 // Whether a Loop goes on after a run of its body that came to this stop, or 0: nothing stopped, and no Break ran.
-pub fn goes_on(links: &[usize], values: &[u8], stop: u64) -> bool
-    requires { Linked links.now × Room values.now }
+pub fn goes_on(links: &Links, values: &[u8], stop: u64) -> bool
+    requires { Room values.now }
     ensures { result ≡ stays_on stop (wires_in links.now values.now) }
 {
     if stop != 0 {
@@ -119,8 +119,8 @@ pub fn goes_on(links: &[usize], values: &[u8], stop: u64) -> bool
 }
 
 // The runs of Loop g are over: the Break before it is as it was, and the Loop shows what they came to.
-pub fn loop_over(links: &[usize], values: &mut [u8], g: usize, broke: bool, looped: Looped) -> Ran
-    requires { Linked links.now × Room values.old }
+pub fn loop_over(links: &Links, values: &mut [u8], g: usize, broke: bool, looped: Looped) -> Ran
+    requires { Room values.old }
     ensures { OverValues links.now (values.old, values.new) (λ c old new. EndsLoop c g broke looped old new result) }
 {
     if looped.stop != 0 {
@@ -130,14 +130,14 @@ pub fn loop_over(links: &[usize], values: &mut [u8], g: usize, broke: bool, loop
         };
     }
     set_breaking(links, values, broke);
-    set_out(links, values, output(links, g, 1), Value::Int(looped.done));
+    set_out(links, values, links.output(g, 1), Value::Int(looped.done));
     set_out(
         links,
         values,
-        output(links, g, 2),
+        links.output(g, 2),
         Value::Bool(looped.aborted),
     );
-    set_out(links, values, output(links, g, 3), Value::Bool(false));
+    set_out(links, values, links.output(g, 3), Value::Bool(false));
     Ran {
         left: looped.left,
         stop: 0,

@@ -3,7 +3,7 @@
 
 ghost use Rattle.model.specs.Loops.{operate, run_nested, run_body, run_loop, run_chain};
 ghost use Rattle.model.specs.Chain.{chained};
-ghost use Rattle.links.specs.Lent.{Linked, net_of};
+ghost use Rattle.links.specs.Lent.{net_of};
 ghost use Rattle.states.specs.Lent.{SlotsStay};
 ghost use Rattle.areas.specs.Lent.{OverAll, AllLent};
 ghost use Rattle.chain.specs.Chain.{Runs, started};
@@ -12,7 +12,7 @@ ghost use Rattle.loops.specs.Loops.{LoopsAs, going_on, looping};
 use chain::{Ran, fire_output, make_call};
 use counting::{Looped, begin_body, begin_loop, begin_run, goes_on, loop_over};
 use kinds::numbers::LOOP;
-use links::{gate_at_input, gates, kind_of_gate, output};
+use links::Links;
 use stops::{LIST_FULL, RUNAWAY};
 use units::calls::{calls_waiting, forks_waiting, pop_call};
 use wires::bodies::{set_unions_passed, unions_passed};
@@ -23,7 +23,7 @@ pub mod counting;
 // The body of Loop g is run once, with index i: the calls that wait before it wait on, and after it those Unions have passed that had before.
 #[cycle(iterate_operate_run_body_run_loop_run_nested)]
 fn run_body(
-    links: &[usize],
+    links: &Links,
     values: &mut [u8],
     units: &mut [u8],
     delays: &mut [u8],
@@ -62,7 +62,7 @@ fn run_body(
 // The runs of Loop g's body, `count` at the most: up to a stop, or a Break, or the tick's limit of runs.
 #[cycle(iterate_operate_run_body_run_loop_run_nested)]
 fn iterate(
-    links: &[usize],
+    links: &Links,
     values: &mut [u8],
     units: &mut [u8],
     delays: &mut [u8],
@@ -110,7 +110,7 @@ fn iterate(
 // The Loop of gate g.
 #[cycle(iterate_operate_run_body_run_loop_run_nested)]
 fn run_loop(
-    links: &[usize],
+    links: &Links,
     values: &mut [u8],
     units: &mut [u8],
     delays: &mut [u8],
@@ -141,7 +141,7 @@ fn run_loop(
 // Input i is entered: a Loop fires Completed when its runs are over.
 #[cycle(iterate_operate_run_body_run_loop_run_nested)]
 fn operate(
-    links: &[usize],
+    links: &Links,
     values: &mut [u8],
     units: &mut [u8],
     delays: &mut [u8],
@@ -154,8 +154,8 @@ fn operate(
     ensures over_all { OverAll links.now (values.old, values.new) (units.old, units.new) (delays.old, delays.new) (λ c old new. Runs old new result (operate c (run_body c nesting) inside i (started old left))) }
     ensures slots_stay { SlotsStay links.now delays.new }
 {
-    let g = gate_at_input(links, i);
-    let k = kind_of_gate(links, g);
+    let g = links.gate_at_input(i);
+    let k = links.kind_of_gate(g);
     if k != LOOP {
         return make_call(links, values, units, delays, left, i, g, k, inside);
     }
@@ -163,13 +163,13 @@ fn operate(
     if ran.stop != 0 {
         return ran;
     }
-    fire_output(links, units, ran.left, output(links, g, 0))
+    fire_output(links, units, ran.left, links.output(g, 0))
 }
 
 // The calls that wait above `under` of them are made, one after the other, with what they call, as long as the tick may make steps; outside bodies the forks, too.
 #[cycle(iterate_operate_run_body_run_loop_run_nested)]
 fn run_nested(
-    links: &[usize],
+    links: &Links,
     values: &mut [u8],
     units: &mut [u8],
     delays: &mut [u8],
@@ -220,7 +220,7 @@ fn run_nested(
 
 // A chain and its forks: the calls that wait are made, as long as the tick may make steps.
 pub fn run_chain(
-    links: &[usize],
+    links: &Links,
     values: &mut [u8],
     units: &mut [u8],
     delays: &mut [u8],
@@ -236,5 +236,5 @@ pub fn run_chain(
             return begun;
         }
     }
-    run_nested(links, values, units, delays, begun, 0, gates(links), false)
+    run_nested(links, values, units, delays, begun, 0, links.gates(), false)
 }

@@ -7,12 +7,12 @@ ghost use Rattle.model.specs.Base.{joined};
 ghost use Rattle.model.specs.Value.{same};
 ghost use Rattle.model.specs.Circuit.{kind_of_gate, setting};
 ghost use Rattle.model.specs.Opening.{fire, delivered};
-ghost use Rattle.links.specs.Lent.{Linked, net_of, Room, Short};
+ghost use Rattle.links.specs.Lent.{net_of, Room, Short};
 ghost use Rattle.units.specs.Lent.{UnitsChange};
 ghost use Rattle.opening.specs.Opening.{stimuli_of};
 ghost use Rattle.opening.specs.Stages.{Puts, event, heard_by};
 
-use links::{first_gate, kind_of_gate, later_gates, receivers, setting};
+use links::{Links, first_gate, later_gates};
 use lists::Full;
 use model::Value;
 use records::forms::{FIRE, STIMULUS};
@@ -24,8 +24,8 @@ use value::same;
 use words::get;
 
 // n Fires of gate g, to late.
-pub fn fire_late(links: &[usize], units: &mut [u8], g: usize, n: usize) -> Result<(), Full>
-    requires { Linked links.now × Room units.old × Short g }
+pub fn fire_late(links: &Links, units: &mut [u8], g: usize, n: usize) -> Result<(), Full>
+    requires { Room units.old × Short g }
     ensures { UnitsChange links.now (units.old, units.new) (λ c old new. Puts c old new result to_late (fire n g)) }
 {
     let x = entry(g, FIRE, 0);
@@ -36,8 +36,8 @@ pub fn fire_late(links: &[usize], units: &mut [u8], g: usize, n: usize) -> Resul
 }
 
 // One Fire of gate g, to pending.
-pub fn fire_pending(links: &[usize], units: &mut [u8], g: usize) -> Result<(), Full>
-    requires { Linked links.now × Room units.old × Short g }
+pub fn fire_pending(links: &Links, units: &mut [u8], g: usize) -> Result<(), Full>
+    requires { Room units.old × Short g }
     ensures { UnitsChange links.now (units.old, units.new) (λ c old new. Puts c old new result to_pending (fire 1 g)) }
 {
     activate(links, units, Place::Pending, entry(g, FIRE, 0))
@@ -46,30 +46,29 @@ pub fn fire_pending(links: &[usize], units: &mut [u8], g: usize) -> Result<(), F
 // ---- events
 
 // Whether gate r receives what a gate of this kind sends on this channel.
-fn receives(links: &[usize], kind: u64, channel: Value, r: usize) -> bool
-    requires { Linked links.now }
+fn receives(links: &Links, kind: u64, channel: Value, r: usize) -> bool
     ensures { result ≡ (eqb (kind_of_gate (net_of links.now) r) (kind + 2) && same channel (setting (net_of links.now) r 0)) }
 {
-    let k = kind_of_gate(links, r);
+    let k = links.kind_of_gate(r);
     if k < 2 {
         return false;
     }
     if k - 2 != kind {
         return false;
     }
-    same(channel, setting(links, r, 0))
+    same(channel, links.setting(r, 0))
 }
 
 // Event e, sent by a gate of this kind on this channel, to gate r, if r receives it.
 fn deliver_to(
-    links: &[usize],
+    links: &Links,
     units: &mut [u8],
     kind: u64,
     channel: Value,
     e: usize,
     r: usize,
 ) -> Result<(), Full>
-    requires { Linked links.now × Room units.old × Short e × Short r }
+    requires { Room units.old × Short e × Short r }
     ensures { UnitsChange links.now (units.old, units.new) (λ c old new. Puts c old new result to_delivered (heard_by c kind channel (event old e).row (r ∷ []))) }
 {
     if receives(links, kind, channel, r) {
@@ -79,14 +78,14 @@ fn deliver_to(
 }
 
 // Event e of the tick before, to the receivers of its channel, in their order.
-fn deliver_event(links: &[usize], units: &mut [u8], e: usize) -> Result<(), Full>
-    requires { Linked links.now × Room units.old × Short e }
+fn deliver_event(links: &Links, units: &mut [u8], e: usize) -> Result<(), Full>
+    requires { Room units.old × Short e }
     ensures { UnitsChange links.now (units.old, units.new) (λ c old new. Puts c old new result to_delivered (delivered c (event old e))) }
 {
     let g = sender(units, e);
-    let kind = kind_of_gate(links, g);
-    let channel = setting(links, g, 1);
-    let mut d = receivers(links);
+    let kind = links.kind_of_gate(g);
+    let channel = links.setting(g, 1);
+    let mut d = links.receivers();
     let mut r = first_gate(d);
     while r < 64 {
         d = later_gates(d);
@@ -97,8 +96,8 @@ fn deliver_event(links: &[usize], units: &mut [u8], e: usize) -> Result<(), Full
 }
 
 // All events of the tick before, in the order sent.
-pub fn deliver_all(links: &[usize], units: &mut [u8]) -> Result<(), Full>
-    requires { Linked links.now × Room units.old }
+pub fn deliver_all(links: &Links, units: &mut [u8]) -> Result<(), Full>
+    requires { Room units.old }
     ensures { UnitsChange links.now (units.old, units.new) (λ c old new. Puts c old new result to_delivered (joined (map (delivered c) old.events))) }
 {
     let n = events(units);
@@ -112,14 +111,14 @@ pub fn deliver_all(links: &[usize], units: &mut [u8]) -> Result<(), Full>
 
 // n stimuli of the script, in their order.
 pub fn stimulate(
-    links: &[usize],
+    links: &Links,
     units: &mut [u8],
     script: &[u8],
     gates_at: usize,
     constants_at: usize,
     n: usize,
 ) -> Result<(), Full>
-    requires { Linked links.now × Room units.old × HasWords script.now gates_at n × HasWords script.now constants_at n }
+    requires { Room units.old × HasWords script.now gates_at n × HasWords script.now constants_at n }
     ensures { UnitsChange links.now (units.old, units.new) (λ c old new. Puts c old new result to_late (stimuli_of c (words script.now) gates_at constants_at n)) }
 {
     for k in 0..n {

@@ -6,7 +6,7 @@ ghost use Rattle.std.specs.Prelude.{◌≡◌};
 ghost use Rattle.words.specs.Slices.{HasWords};
 ghost use Rattle.model.specs.Value.{narrow};
 ghost use Rattle.model.specs.Opening.{begin_tick};
-ghost use Rattle.links.specs.Lent.{Linked, Room};
+ghost use Rattle.links.specs.Lent.{Room};
 ghost use Rattle.wires.specs.Lent.{TickFits};
 ghost use Rattle.states.specs.Lent.{Slots, SlotsStay};
 ghost use Rattle.areas.specs.Areas.{with_state};
@@ -18,6 +18,7 @@ ghost use Rattle.opening.specs.Lent.{given_at};
 use crate::filing::{deliver_all, stimulate};
 use crate::moving::{advance_buffers, advance_clocks, advance_timers};
 use floats::narrowing::narrow;
+use links::Links;
 use lists::Full;
 use settling::check_waiting;
 use states::counting::begin_count;
@@ -32,14 +33,8 @@ mod filing;
 mod moving;
 
 // The next tick begins, of this length, which is narrowed here and counted: what was carried is late, and what was sent is to be delivered. The length as f32 bits.
-fn begin_tick(
-    links: &[usize],
-    values: &mut [u8],
-    units: &mut [u8],
-    delays: &mut [u8],
-    dt: u64,
-) -> u32
-    requires { AllLent links.now values.old units.old delays.old × TickFits links.now values.old }
+fn begin_tick(links: &Links, values: &mut [u8], units: &mut [u8], delays: &mut [u8], dt: u64) -> u32
+    requires { Room values.old × Room units.old × Slots links.now delays.old × TickFits links.now values.old }
     ensures over_all { OverAll links.now (values.old, values.new) (units.old, units.new) (delays.old, delays.new) (λ c old new. new ≡ with_state (reopened c old) (begin_tick old.state dt)) }
     ensures value { (result ≡ narrow dt) × SlotsStay links.now delays.new }
 {
@@ -52,14 +47,14 @@ fn begin_tick(
 
 // The events of the tick before are delivered, then the stimuli come.
 fn arrive(
-    links: &[usize],
+    links: &Links,
     units: &mut [u8],
     script: &[u8],
     gates_at: usize,
     constants_at: usize,
     n: usize,
 ) -> Result<(), Full>
-    requires { Linked links.now × Room units.old × HasWords script.now gates_at n × HasWords script.now constants_at n }
+    requires { Room units.old × HasWords script.now gates_at n × HasWords script.now constants_at n }
     ensures { OverUnits links.now (units.old, units.new) (λ c old new. Opens c old new result (arrived c old.state old.kept.events (stimuli_of c (words script.now) gates_at constants_at n))) }
 {
     deliver_all(links, units)?;
@@ -68,7 +63,7 @@ fn arrive(
 
 // Buffers and Queues, Clocks, Stopwatches move on; dt is the tick's length in f32 bits.
 fn advance(
-    links: &[usize],
+    links: &Links,
     values: &mut [u8],
     units: &mut [u8],
     delays: &mut [u8],
@@ -85,7 +80,7 @@ fn advance(
 
 // Ended pulses fall, gates move on, time sources become stale, and what waits is settled; dt is the tick's length in f32 bits.
 fn finish(
-    links: &[usize],
+    links: &Links,
     values: &mut [u8],
     units: &mut [u8],
     delays: &mut [u8],
@@ -107,7 +102,7 @@ fn finish(
 
 // A tick of the length dt, with n stimuli: their gates and constants stand in the script from these words on. It stops at the first list that is full.
 pub fn open(
-    links: &[usize],
+    links: &Links,
     values: &mut [u8],
     units: &mut [u8],
     delays: &mut [u8],
@@ -117,7 +112,7 @@ pub fn open(
     n: usize,
     dt: u64,
 ) -> Result<(), Full>
-    requires { Linked links.now × Room values.old × Room units.old × Slots links.now delays.old × HasWords script.now gates_at n × HasWords script.now constants_at n × TickFits links.now values.old }
+    requires { Room values.old × Room units.old × Slots links.now delays.old × HasWords script.now gates_at n × HasWords script.now constants_at n × TickFits links.now values.old }
     ensures over_all { OverAll links.now (values.old, values.new) (units.old, units.new) (delays.old, delays.new) (λ c old new. Goes (reopened c old) new result (opened c old (given_at c (words script.now) dt gates_at constants_at n))) }
     ensures slots_stay { SlotsStay links.now delays.new }
 {

@@ -8,7 +8,7 @@ ghost use Rattle.model.specs.Circuit.{output, setting};
 ghost use Rattle.model.specs.Wires.{look, set_outs};
 ghost use Rattle.model.specs.Opening.{advance_buffer, advance_clock, advance_timer};
 ghost use Rattle.links.specs.Links.{net};
-ghost use Rattle.links.specs.Lent.{Linked, net_of, Room, Short};
+ghost use Rattle.links.specs.Lent.{net_of, Room, Short};
 ghost use Rattle.wires.specs.Lent.{wires_in, Turns};
 ghost use Rattle.states.specs.View.{is_queue};
 ghost use Rattle.states.specs.Lent.{Slots, SlotsStay};
@@ -19,9 +19,7 @@ ghost use Rattle.opening.specs.Lent.{MovesGate};
 
 use crate::filing::{fire_late, fire_pending};
 use floats::ONE;
-use links::{
-    buffers, clocks, first_gate, input, kind_of_gate, later_gates, output, setting, stopwatches,
-};
+use links::{Links, first_gate, later_gates};
 use lists::Full;
 use model::Value;
 use queues::queue_advance;
@@ -35,8 +33,8 @@ use wires::refreshing::ready;
 // ---- buffers and Queues
 
 // Eight values, to the outputs from o on.
-fn set_row(links: &[usize], values: &mut [u8], o: usize, row: [Value; 8])
-    requires { Linked links.now × Room values.old × (o + 8 < 2 ^ 64) }
+fn set_row(links: &Links, values: &mut [u8], o: usize, row: [Value; 8])
+    requires { Room values.old × (o + 8 < 2 ^ 64) }
     ensures { Turns links.now (values.old, values.new) (λ c w. set_outs c w o row) }
 {
     for k in 0..8 {
@@ -45,39 +43,39 @@ fn set_row(links: &[usize], values: &mut [u8], o: usize, row: [Value; 8])
 }
 
 // Value buffer g moves on, and shows what lands.
-fn land(links: &[usize], values: &mut [u8], delays: &mut [u8], g: usize, dt: u32)
-    requires { Linked links.now × Room values.old × Slots links.now delays.old }
+fn land(links: &Links, values: &mut [u8], delays: &mut [u8], g: usize, dt: u32)
+    requires { Room values.old × Slots links.now delays.old }
     ensures moves_gate { MovesGate links.now (values.old, values.new) (delays.old, delays.new) (λ c. landing c dt g) to_late g 0 }
     ensures slots_stay { SlotsStay links.now delays.new }
 {
     if let Some(v) = buffer_advance(links, delays, g, dt) {
-        set_out(links, values, output(links, g, 0), v);
+        set_out(links, values, links.output(g, 0), v);
     }
 }
 
 // Queue g moves on, and shows the record that leaves: whether one does.
-fn release(links: &[usize], values: &mut [u8], delays: &mut [u8], g: usize, dt: u32) -> bool
-    requires { Linked links.now × Room values.old × Slots links.now delays.old × (is_queue (net links.now) g ≡ true) }
+fn release(links: &Links, values: &mut [u8], delays: &mut [u8], g: usize, dt: u32) -> bool
+    requires { Room values.old × Slots links.now delays.old × (is_queue (net links.now) g ≡ true) }
     ensures moves_gate { MovesGate links.now (values.old, values.new) (delays.old, delays.new) (λ c. releasing c dt g) to_late g (bit result) }
     ensures slots_stay { SlotsStay links.now delays.new }
 {
     let Some(r) = queue_advance(links, delays, g, dt) else {
         return false;
     };
-    set_row(links, values, output(links, g, 1), r.row);
+    set_row(links, values, links.output(g, 1), r.row);
     true
 }
 
 // Queue g moves on, and fires if a record leaves.
 fn advance_queue(
-    links: &[usize],
+    links: &Links,
     values: &mut [u8],
     units: &mut [u8],
     delays: &mut [u8],
     g: usize,
     dt: u32,
 ) -> Result<(), Full>
-    requires { Linked links.now × Room values.old × Room units.old × Slots links.now delays.old × Short g × (is_queue (net links.now) g ≡ true) }
+    requires { Room values.old × Room units.old × Slots links.now delays.old × Short g × (is_queue (net links.now) g ≡ true) }
     ensures over_all { OverAll links.now (values.old, values.new) (units.old, units.new) (delays.old, delays.new) (λ c old new. Opens c old new result (releasing c dt g old.state)) }
     ensures slots_stay { SlotsStay links.now delays.new }
 {
@@ -89,18 +87,18 @@ fn advance_queue(
 
 // Gate g, a buffer or a Queue, moves on by a tick of the length dt in f32 bits.
 fn advance_buffer(
-    links: &[usize],
+    links: &Links,
     values: &mut [u8],
     units: &mut [u8],
     delays: &mut [u8],
     g: usize,
     dt: u32,
 ) -> Result<(), Full>
-    requires { Linked links.now × Room values.old × Room units.old × Slots links.now delays.old × Short g }
+    requires { Room values.old × Room units.old × Slots links.now delays.old × Short g }
     ensures over_all { OverAll links.now (values.old, values.new) (units.old, units.new) (delays.old, delays.new) (λ c old new. Opens c old new result (advance_buffer c dt (unopened old.state) g)) }
     ensures slots_stay { SlotsStay links.now delays.new }
 {
-    match kind_of_gate(links, g) {
+    match links.kind_of_gate(g) {
         // a value buffer, in ticks or in seconds
         10 | 12 => {
             land(links, values, delays, g, dt);
@@ -119,7 +117,7 @@ fn advance_buffer(
 
 // All buffers and Queues, in their order.
 pub fn advance_buffers(
-    links: &[usize],
+    links: &Links,
     values: &mut [u8],
     units: &mut [u8],
     delays: &mut [u8],
@@ -130,7 +128,7 @@ pub fn advance_buffers(
     ensures slots_stay { SlotsStay links.now delays.new }
 {
     // Stays: one function for all three would have to say of its closure what it makes of three lent areas, which is longer than the loop.
-    let mut d = buffers(links);
+    let mut d = links.buffers();
     let mut g = first_gate(d);
     while g < 64 {
         d = later_gates(d);
@@ -143,21 +141,21 @@ pub fn advance_buffers(
 // ---- Clocks
 
 // The interval of Clock g: what input i reads, else its setting, else 1.0.
-fn interval(links: &[usize], values: &[u8], g: usize, i: usize) -> u64
-    requires { Linked links.now × Room values.now }
+fn interval(links: &Links, values: &[u8], g: usize, i: usize) -> u64
+    requires { Room values.now }
     ensures { result ≡ as_float (as_float one_point_zero (setting (net_of links.now) g 2)) (look (net_of links.now) (wires_in links.now values.now) i) }
 {
-    let other = as_float(setting(links, g, 2), ONE);
+    let other = as_float(links.setting(g, 2), ONE);
     as_float(look(links, values, i), other)
 }
 
 // Clock g moves on: whether it fires. Both inputs are read, also where it is not enabled.
-fn move_clock(links: &[usize], values: &mut [u8], delays: &mut [u8], g: usize) -> bool
-    requires { Linked links.now × Room values.old × Slots links.now delays.old }
+fn move_clock(links: &Links, values: &mut [u8], delays: &mut [u8], g: usize) -> bool
+    requires { Room values.old × Slots links.now delays.old }
     ensures moves_gate { MovesGate links.now (values.old, values.new) (delays.old, delays.new) (λ c s. advance_clock c (unopened s) g) to_pending g (bit result) }
     ensures slots_stay { SlotsStay links.now delays.new }
 {
-    let i = input(links, g, 0);
+    let i = links.input(g, 0);
     ready(links, values, i);
     ready(links, values, i + 1);
     let seconds = interval(links, values, g, i + 1);
@@ -168,13 +166,13 @@ fn move_clock(links: &[usize], values: &mut [u8], delays: &mut [u8], g: usize) -
 
 // Clock g moves on, and fires if it comes to its interval.
 fn advance_clock(
-    links: &[usize],
+    links: &Links,
     values: &mut [u8],
     units: &mut [u8],
     delays: &mut [u8],
     g: usize,
 ) -> Result<(), Full>
-    requires { Linked links.now × Room values.old × Room units.old × Slots links.now delays.old × Short g }
+    requires { Room values.old × Room units.old × Slots links.now delays.old × Short g }
     ensures over_all { OverAll links.now (values.old, values.new) (units.old, units.new) (delays.old, delays.new) (λ c old new. Opens c old new result (advance_clock c (unopened old.state) g)) }
     ensures slots_stay { SlotsStay links.now delays.new }
 {
@@ -186,7 +184,7 @@ fn advance_clock(
 
 // All Clocks, in their order.
 pub fn advance_clocks(
-    links: &[usize],
+    links: &Links,
     values: &mut [u8],
     units: &mut [u8],
     delays: &mut [u8],
@@ -196,7 +194,7 @@ pub fn advance_clocks(
     ensures slots_stay { SlotsStay links.now delays.new }
 {
     // Stays: one function for all three would have to say of its closure what it makes of three lent areas, which is longer than the loop.
-    let mut d = clocks(links);
+    let mut d = links.clocks();
     let mut g = first_gate(d);
     while g < 64 {
         d = later_gates(d);
@@ -209,22 +207,22 @@ pub fn advance_clocks(
 // ---- Stopwatches
 
 // Stopwatch g shows its time, if it shows it anew.
-fn show_time(links: &[usize], values: &mut [u8], g: usize, shows: bool, time: u64)
-    requires { Linked links.now × Room values.old }
+fn show_time(links: &Links, values: &mut [u8], g: usize, shows: bool, time: u64)
+    requires { Room values.old }
     ensures { Turns links.now (values.old, values.new) (λ c w. set_outs c w (output c g 0) (if shows then Float time ∷ [] otherwise [])) }
 {
     if shows {
-        set_out(links, values, output(links, g, 0), Value::Float(time));
+        set_out(links, values, links.output(g, 0), Value::Float(time));
     }
 }
 
 // Stopwatch g moves on, and shows its time: whether it expires. Its limit is read, also where it stands still.
-fn move_timer(links: &[usize], values: &mut [u8], delays: &mut [u8], g: usize) -> bool
-    requires { Linked links.now × Room values.old × Slots links.now delays.old }
+fn move_timer(links: &Links, values: &mut [u8], delays: &mut [u8], g: usize) -> bool
+    requires { Room values.old × Slots links.now delays.old }
     ensures moves_gate { MovesGate links.now (values.old, values.new) (delays.old, delays.new) (λ c s. advance_timer c (unopened s) g) to_late g (bit result) }
     ensures slots_stay { SlotsStay links.now delays.new }
 {
-    let i = input(links, g, 3);
+    let i = links.input(g, 3);
     ready(links, values, i);
     let limit = as_float(look(links, values, i), 0);
     let dt = wires::ticks::dt(links, values);
@@ -235,13 +233,13 @@ fn move_timer(links: &[usize], values: &mut [u8], delays: &mut [u8], g: usize) -
 
 // Stopwatch g moves on, and fires if it expires.
 fn advance_timer(
-    links: &[usize],
+    links: &Links,
     values: &mut [u8],
     units: &mut [u8],
     delays: &mut [u8],
     g: usize,
 ) -> Result<(), Full>
-    requires { Linked links.now × Room values.old × Room units.old × Slots links.now delays.old × Short g }
+    requires { Room values.old × Room units.old × Slots links.now delays.old × Short g }
     ensures over_all { OverAll links.now (values.old, values.new) (units.old, units.new) (delays.old, delays.new) (λ c old new. Opens c old new result (advance_timer c (unopened old.state) g)) }
     ensures slots_stay { SlotsStay links.now delays.new }
 {
@@ -253,7 +251,7 @@ fn advance_timer(
 
 // All Stopwatches, in their order.
 pub fn advance_timers(
-    links: &[usize],
+    links: &Links,
     values: &mut [u8],
     units: &mut [u8],
     delays: &mut [u8],
@@ -263,7 +261,7 @@ pub fn advance_timers(
     ensures slots_stay { SlotsStay links.now delays.new }
 {
     // Stays: one function for all three would have to say of its closure what it makes of three lent areas, which is longer than the loop.
-    let mut d = stopwatches(links);
+    let mut d = links.stopwatches();
     let mut g = first_gate(d);
     while g < 64 {
         d = later_gates(d);

@@ -16,6 +16,7 @@ pub fn read_full(file: &mut impl Read, buffer: &mut [u8]) -> usize
     ensures { IsPrefixLen result buffer.new }
 {
     let mut done = 0;
+    // Stays: each read says how much it brought, so no range has these places.
     while done < buffer.len()
         && let Ok(n @ 1..) = file.read(&mut buffer[done..])
     {

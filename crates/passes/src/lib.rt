@@ -8,7 +8,7 @@ ghost use Rattle.model.specs.State.{Send};
 ghost use Rattle.model.specs.Closing.{as_listed};
 // The definition `units` is named `view` here, beside the slice of that name.
 ghost use Rattle.links.specs.Links.{net};
-ghost use Rattle.links.specs.Lent.{Linked, Room};
+ghost use Rattle.links.specs.Lent.{Room};
 ghost use Rattle.states.specs.Lent.{Slots, SlotsStay};
 ghost use Rattle.units.specs.View.{listed_of, units as view};
 ghost use Rattle.units.specs.Calls.{first_of};
@@ -19,7 +19,7 @@ ghost use Rattle.passes.specs.Taking.{next_of, Takes, over};
 ghost use Rattle.passes.specs.Lent.{PassesLate, PassesMain, LeavesMain, BeginsUnit};
 
 use chain::Ran;
-use links::rank_of_gate;
+use links::Links;
 use records::MOST_UNITS;
 use stops::LIST_FULL;
 use unit::{Act, unit};
@@ -49,7 +49,7 @@ fn listed(a: Act) -> u64
 
 // A unit begins and runs, where one more may begin.
 fn begin(
-    links: &[usize],
+    links: &Links,
     values: &mut [u8],
     units: &mut [u8],
     delays: &mut [u8],
@@ -57,7 +57,7 @@ fn begin(
     left: u64,
     to: Place,
 ) -> Ran
-    requires { Linked links.now × Room values.old × Room units.old × Slots links.now delays.old × FewCalls (net links.now) × (length (view (net links.now) units.old).begun < most_units) }
+    requires { Room values.old × Room units.old × Slots links.now delays.old × FewCalls (net links.now) × (length (view (net links.now) units.old).begun < most_units) }
     ensures over_all { OverAll links.now (values.old, values.new) (units.old, units.new) (delays.old, delays.new) (λ c old new. BeginsUnit c old new a left to result) }
     ensures slots_stay { SlotsStay links.now delays.new }
 {
@@ -100,13 +100,13 @@ fn late_over(units: &[u8], left: u64) -> Ran
 
 // The late pass: what is late begins by rank, and a delivered event only while nothing else is late.
 pub fn late_pass(
-    links: &[usize],
+    links: &Links,
     values: &mut [u8],
     units: &mut [u8],
     delays: &mut [u8],
     left: u64,
 ) -> Ran
-    requires { Linked links.now × Room values.old × Room units.old × Slots links.now delays.old × FewCalls (net links.now) }
+    requires { Room values.old × Room units.old × Slots links.now delays.old × FewCalls (net links.now) }
     ensures over_all { OverAll links.now (values.old, values.new) (units.old, units.new) (delays.old, delays.new) (λ c old new. PassesLate c old new left result) }
     ensures over_all_2 { OverAll links.now (values.old, values.new) (units.old, units.new) (delays.old, delays.new) (λ _ old new. LeavesMain old new) }
     ensures slots_stay { SlotsStay links.now delays.new }
@@ -145,13 +145,13 @@ fn main_over(units: &[u8], left: u64) -> Ran
 
 // The main pass: what is pending begins by rank; what is raised at a rank that it has reached is carried.
 pub fn main_pass(
-    links: &[usize],
+    links: &Links,
     values: &mut [u8],
     units: &mut [u8],
     delays: &mut [u8],
     left: u64,
 ) -> Ran
-    requires { Linked links.now × Room values.old × Room units.old × Slots links.now delays.old × FewCalls (net links.now) }
+    requires { Room values.old × Room units.old × Slots links.now delays.old × FewCalls (net links.now) }
     ensures over_all { OverAll links.now (values.old, values.new) (units.old, units.new) (delays.old, delays.new) (λ c old new. PassesMain c old new left result) }
     ensures slots_stay { SlotsStay links.now delays.new }
 {
@@ -164,7 +164,7 @@ pub fn main_pass(
                 stop: 0,
             };
         };
-        let reached = rank_of_gate(links, gate_of(x));
+        let reached = links.rank_of_gate(gate_of(x));
         let r = begin(
             links,
             values,

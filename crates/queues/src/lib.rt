@@ -10,14 +10,14 @@ ghost use Rattle.model.specs.Delays.{queue_record, advance_records};
 ghost use Rattle.delays.specs.States.{started};
 ghost use Rattle.queue.specs.Queue.{released};
 ghost use Rattle.links.specs.Links.{net};
-ghost use Rattle.links.specs.Lent.{Linked, net_of};
+ghost use Rattle.links.specs.Lent.{net_of};
 ghost use Rattle.states.specs.View.{delay_in, starting, is_queue, queue_at, queue_countdown, Moves};
 ghost use Rattle.states.specs.Lent.{SlotsFit, Parts, Slots, SlotsStay, DelaysChange};
 ghost use Rattle.queues.specs.Start.{Cleared, given, next_part, Numbered};
 
 use delays::countdown::{Started, in_seconds, in_ticks};
 use kinds::numbers::{QUEUE_IN_SECONDS, QUEUE_IN_TICKS};
-use links::{gates, kind_of_gate};
+use links::Links;
 use model::Value;
 use queue::{PART, PART_BYTES, Record, advance, push};
 use states::counting::count_changed;
@@ -37,8 +37,8 @@ fn countdown(seconds: bool, wait: Value) -> Started
 }
 
 // Where the part of Queue g begins, in bytes.
-fn part_at(links: &[usize], delays: &[u8], g: usize) -> usize
-    requires { Linked links.now × Slots links.now delays.now × (is_queue (net links.now) g ≡ true) }
+fn part_at(links: &Links, delays: &[u8], g: usize) -> usize
+    requires { Slots links.now delays.now × (is_queue (net links.now) g ≡ true) }
     ensures { (result ≡ queue_at (get_or (words delays.now) g 0) * 8) × (result + 34832 ≤ length delays.now) }
 {
     let p = get(delays, g) as usize;
@@ -46,22 +46,22 @@ fn part_at(links: &[usize], delays: &[u8], g: usize) -> usize
 }
 
 // A new record of Queue g: eight values and its wait. With 256 records it is dropped.
-pub fn queue_record(links: &[usize], delays: &mut [u8], g: usize, row: [Value; 8], wait: Value)
-    requires { Linked links.now × Slots links.now delays.old × (is_queue (net links.now) g ≡ true) }
+pub fn queue_record(links: &Links, delays: &mut [u8], g: usize, row: [Value; 8], wait: Value)
+    requires { Slots links.now delays.old × (is_queue (net links.now) g ≡ true) }
     ensures { DelaysChange links.now (delays.old, delays.new) (λ c old new. new ≡ starting old g (λ d left. queue_record d row left) (queue_countdown (eqb (kind_of_gate c g) 17) wait)) }
 {
-    let k = countdown(kind_of_gate(links, g) == QUEUE_IN_SECONDS, wait);
+    let k = countdown(links.kind_of_gate(g) == QUEUE_IN_SECONDS, wait);
     let a = part_at(links, delays, g);
     push(&mut delays[a..a + PART_BYTES], Record { row, left: k.left });
     count_changed(links, delays, k.changed);
 }
 
 // Queue g moves on by a tick of the length dt in f32 bits: the front record, if it is due.
-pub fn queue_advance(links: &[usize], delays: &mut [u8], g: usize, dt: u32) -> Option<Record>
-    requires { Linked links.now × Slots links.now delays.old × (is_queue (net links.now) g ≡ true) }
+pub fn queue_advance(links: &Links, delays: &mut [u8], g: usize, dt: u32) -> Option<Record>
+    requires { Slots links.now delays.old × (is_queue (net links.now) g ≡ true) }
     ensures { DelaysChange links.now (delays.old, delays.new) (λ _ old new. Moves old new g (advance_records dt (delay_in old g)) (released result []).row (released result []).fires) }
 {
-    let seconds = kind_of_gate(links, g) == QUEUE_IN_SECONDS;
+    let seconds = links.kind_of_gate(g) == QUEUE_IN_SECONDS;
     let a = part_at(links, delays, g);
     advance(&mut delays[a..a + PART_BYTES], seconds, dt)
 }
@@ -79,11 +79,11 @@ fn clear(delays: &mut [u8])
 }
 
 // Gate g, if it is a Queue, has part n, with no records: the part that the next Queue has.
-fn give_part(links: &[usize], delays: &mut [u8], g: usize, n: usize) -> usize
-    requires { Linked links.now × (n ≤ 64) }
+fn give_part(links: &Links, delays: &mut [u8], g: usize, n: usize) -> usize
+    requires { n ≤ 64 }
     ensures { (words delays.new ≡ given (net_of links.now) g n (words delays.old)) × SameTail (delays.old, delays.new) × (result ≡ next_part (net_of links.now) g n) }
 {
-    let kind = kind_of_gate(links, g);
+    let kind = links.kind_of_gate(g);
     if kind < QUEUE_IN_TICKS {
         return n;
     }
@@ -96,11 +96,11 @@ fn give_part(links: &[usize], delays: &mut [u8], g: usize, n: usize) -> usize
 }
 
 // Each Queue has the part of its number.
-fn give_parts(links: &[usize], delays: &mut [u8])
-    requires { Linked links.now × Parts links.now delays.old }
+fn give_parts(links: &Links, delays: &mut [u8])
+    requires { Parts links.now delays.old }
     ensures { Numbered (net_of links.now) (length (net_of links.now).kinds) (words delays.old) (words delays.new) × SameTail (delays.old, delays.new) }
 {
-    let count = gates(links);
+    let count = links.gates();
     let mut n: usize = 0;
     for g in 0..count {
         n = give_part(links, delays, g, n);
@@ -108,8 +108,8 @@ fn give_parts(links: &[usize], delays: &mut [u8])
 }
 
 // The small states at the start of a run, whatever the area held.
-pub fn start(links: &[usize], delays: &mut [u8])
-    requires { Linked links.now × Parts links.now delays.old }
+pub fn start(links: &Links, delays: &mut [u8])
+    requires { Parts links.now delays.old }
     ensures { DelaysChange links.now (delays.old, delays.new) (λ c old new. (new.delays ≡ replicate (length c.kinds) idle) × (new.changed ≡ 0) × (new.rest ≡ old.rest) × SlotsStay links.now delays.new) }
 {
     clear(delays);

@@ -40,6 +40,7 @@ fn filled<const N: usize>() -> [u8; N]
 
 // ---- runs
 
+// Stays: what is lent for a run, a class and a report differs in number and kind, so `play_lent`, `play_class_lent` and `play_report_lent` share no parameters.
 // Plays a run with this log and these areas, and compares.
 fn play_lent(
     due: Due,

@@ -7,7 +7,7 @@ ghost use Rattle.model.specs.Opening.{start};
 ghost use Rattle.model.specs.Run.{most_steps};
 ghost use Rattle.links.specs.Links.{net};
 ghost use Rattle.circuit.specs.Numbers.{numbered};
-ghost use Rattle.links.specs.Lent.{Linked, Room};
+ghost use Rattle.links.specs.Lent.{Room};
 ghost use Rattle.states.specs.Lent.{Parts, Slots, SlotsStay};
 ghost use Rattle.areas.specs.Lent.{OverAll};
 ghost use Rattle.unit.specs.Unit.{FewCalls};
@@ -18,7 +18,7 @@ ghost use Rattle.run.specs.Call.{RightCall, Ready};
 use crate::clearing::clear;
 use circuit::refusals::Refusal;
 use circuit::{refusal_lent, script_refusal};
-use links::layout::CELLS;
+use links::Links;
 use records::MOST_STEPS;
 use ticks::tick;
 use words::get;
@@ -42,8 +42,8 @@ pub struct Outcome {
 }
 
 // The areas at the start of a run, whatever they held.
-fn start(links: &[usize], values: &mut [u8], units: &mut [u8], delays: &mut [u8])
-    requires { Linked links.now × Room values.old × Room units.old × Parts links.now delays.old }
+fn start(links: &Links, values: &mut [u8], units: &mut [u8], delays: &mut [u8])
+    requires { Room values.old × Room units.old × Parts links.now delays.old }
     ensures { OverAll links.now (values.old, values.new) (units.old, units.new) (delays.old, delays.new) (λ c _ new. (new.state ≡ start c) × (new.lists.carried ≡ []) × SlotsStay links.now delays.new) }
 {
     wires::start::start(links, values);
@@ -53,7 +53,7 @@ fn start(links: &[usize], values: &mut [u8], units: &mut [u8], delays: &mut [u8]
 
 // All ticks of a script, up to a stop.
 fn play(
-    links: &[usize],
+    links: &Links,
     values: &mut [u8],
     units: &mut [u8],
     delays: &mut [u8],
@@ -61,7 +61,7 @@ fn play(
     log: &mut [u8],
     limit: u64,
 ) -> Outcome
-    requires linked { Linked links.now × Room values.old × Room units.old × Slots links.now delays.old × FewCalls (net links.now) }
+    requires linked { Room values.old × Room units.old × Slots links.now delays.old × FewCalls (net links.now) }
     requires limit_bound { (limit < 2 ^ 63) × GoodScript (net links.now) (words script.now) }
     requires started { Started links.now values.old units.old delays.old }
     ensures logs { Logs links.now script.now (log.old, log.new) limit result }
@@ -109,14 +109,14 @@ fn play(
 
 // A run over the circuit of these links, with the steps that a tick may make; its areas are zero afterwards.
 fn perform(
-    links: &[usize],
+    links: &Links,
     script: &[u8],
     log: &mut [u8],
     values: &mut [u8],
     units: &mut [u8],
     delays: &mut [u8],
 ) -> Outcome
-    requires linked { Linked links.now × Room values.old × Room units.old × Parts links.now delays.old }
+    requires linked { Room values.old × Room units.old × Parts links.now delays.old }
     requires few_calls { FewCalls (net links.now) × GoodScript (net links.now) (words script.now) }
     ensures logs { Logs links.now script.now (log.old, log.new) most_steps result }
     ensures size_in_bounds { result.size * 8 ≤ length log.old }
@@ -133,14 +133,14 @@ fn perform(
 // One script of a call whose circuit is not refused: the questions about the script, and where none of them refuses it its run.
 pub fn script_answer(
     circuit: &[u8],
-    links: &[usize],
+    links: &Links,
     script: &[u8],
     log: &mut [u8],
     values: &mut [u8],
     units: &mut [u8],
     delays: &mut [u8],
 ) -> Result<Played, Refusal>
-    requires { Linked links.now × Ready links.now circuit.now values.old units.old delays.old }
+    requires { Ready links.now circuit.now values.old units.old delays.old }
     ensures { RightCall circuit.now script.now (log.old, log.new) (values.old, values.new) (units.old, units.new) (delays.old, delays.new) (λ a. numbered result ≡ told a) }
 {
     script_refusal(circuit, script)?;
@@ -163,7 +163,7 @@ pub fn run(
 ) -> Result<Played, Refusal>
     ensures { RightCall circuit.now script.now (log.old, log.new) (values.old, values.new) (units.old, units.new) (delays.old, delays.new) (λ a. numbered result ≡ told a) }
 {
-    let mut links = [0usize; CELLS];
+    let mut links = Links::new();
     refusal_lent(circuit, &mut links, values.len(), units.len(), delays.len())?;
     script_answer(circuit, &links, script, log, values, units, delays)
 }

@@ -7,7 +7,7 @@ ghost use Rattle.model.specs.Value.{truthy};
 ghost use Rattle.model.specs.Circuit.{Circuit, output, most_inputs};
 ghost use Rattle.model.specs.State.{form_output, State, wires≔};
 ghost use Rattle.model.specs.Settle.{Settled, calm, raise, pulse, edge, check, most_checks};
-ghost use Rattle.links.specs.Lent.{Linked, net_of, Room, Short};
+ghost use Rattle.links.specs.Lent.{net_of, Room, Short};
 ghost use Rattle.states.specs.Lent.{Slots, SlotsStay};
 ghost use Rattle.units.specs.View.{act_of};
 ghost use Rattle.units.specs.Raising.{activate, place_for};
@@ -19,7 +19,7 @@ ghost use Rattle.settling.specs.Rounds.{acted, hit_by, goes_on, round_of};
 ghost use Rattle.settling.specs.Lent.{ActsInValues, ActsInBoth, PinRaises, Settles, FilesInRound, GoesRound};
 
 use floats::lt64;
-use links::{gate_at_input, input, inputs, kind_of_gate, output, outputs};
+use links::Links;
 use lists::Full;
 use model::Value;
 use records::forms::{BY_OUTPUT, BY_PIN, FIRE, FORMS};
@@ -69,17 +69,17 @@ fn edge_of(was: Value, v: Value) -> Edge
 }
 
 // An Edge: its output for the direction goes up.
-fn edge_pulse(links: &[usize], values: &mut [u8], g: usize, was: Value, v: Value)
-    requires { Linked links.now × Room values.old }
+fn edge_pulse(links: &Links, values: &mut [u8], g: usize, was: Value, v: Value)
+    requires { Room values.old }
     ensures { ActsInValues links.now (values.old, values.new) (λ c _ s. edge c s was v (λ t o. calm (wires≔ t (pulse c t.wires (output c g o))))) Nothing }
 {
     let e = edge_of(was, v);
     match e {
         Edge::Rising => {
-            pulse(links, values, output(links, g, 0));
+            pulse(links, values, links.output(g, 0));
         }
         Edge::Falling => {
-            pulse(links, values, output(links, g, 1));
+            pulse(links, values, links.output(g, 1));
         }
         Edge::Level => {}
     }
@@ -98,12 +98,11 @@ fn edge_raised(g: usize, was: Value, v: Value) -> Raised
 }
 
 // Input i of gate g, an exec pin: the gate is raised where the value is true.
-fn pin_raised(links: &[usize], g: usize, i: usize, v: Value) -> Raised
-    requires { Linked links.now }
+fn pin_raised(links: &Links, g: usize, i: usize, v: Value) -> Raised
     ensures { Short g → (truthy v ≡ true → i < most_inputs) → PinRaises (net_of links.now) g i v result }
 {
     if truthy(v) {
-        let p = less(i, input(links, g, 0));
+        let p = less(i, links.input(g, 0));
         return Raised::MayWait(entry(g, BY_PIN + p % FORMS, 0));
     }
     Raised::Nothing
@@ -111,19 +110,19 @@ fn pin_raised(links: &[usize], g: usize, i: usize, v: Value) -> Raised
 
 // What watched input i reads changed from `was` to v: a detector, a value buffer, or an exec pin.
 fn detect(
-    links: &[usize],
+    links: &Links,
     values: &mut [u8],
     delays: &mut [u8],
     i: usize,
     was: Value,
     v: Value,
 ) -> Raised
-    requires { Linked links.now × Room values.old × Slots links.now delays.old }
+    requires { Room values.old × Slots links.now delays.old }
     ensures acts_in_both { (truthy v ≡ true → i < most_inputs) → ActsInBoth links.now (values.old, values.new) (delays.old, delays.new) (λ c. acted c i was v) result }
     ensures slots_stay { SlotsStay links.now delays.new }
 {
-    let g = gate_at_input(links, i);
-    match kind_of_gate(links, g) {
+    let g = links.gate_at_input(i);
+    match links.kind_of_gate(g) {
         // a ChangeDetector
         6 => Raised::MayWait(entry(g, FIRE, 0)),
         // an Edge
@@ -133,7 +132,7 @@ fn detect(
         }
         // a Change
         8 => {
-            pulse(links, values, output(links, g, 0));
+            pulse(links, values, links.output(g, 0));
             Raised::Nothing
         }
         // an EdgeExec
@@ -149,8 +148,8 @@ fn detect(
 }
 
 // Watched input i is read again, and acted on if it changed.
-pub fn check(links: &[usize], values: &mut [u8], delays: &mut [u8], i: usize) -> Raised
-    requires { Linked links.now × Room values.old × Slots links.now delays.old }
+pub fn check(links: &Links, values: &mut [u8], delays: &mut [u8], i: usize) -> Raised
+    requires { Room values.old × Slots links.now delays.old }
     ensures over_values_delays { OverValuesDelays links.now (values.old, values.new) (delays.old, delays.new) (λ c old new. Settles c old new result (λ when. check c when old.state i)) }
     ensures slots_stay { SlotsStay links.now delays.new }
 {
@@ -181,8 +180,8 @@ fn put_off(to: Place) -> Place
 }
 
 // Entry x is filed where `to` says; a round that does so made a check.
-fn file(links: &[usize], units: &mut [u8], to: Place, x: u64) -> Result<bool, Full>
-    requires { Linked links.now × Room units.old }
+fn file(links: &Links, units: &mut [u8], to: Place, x: u64) -> Result<bool, Full>
+    requires { Room units.old }
     ensures { UnitsChange links.now (units.old, units.new) (λ c old new. FilesInRound old new result (activate c to (act_of c x) old.lists)) }
 {
     activate(links, units, to, x)?;
@@ -191,7 +190,7 @@ fn file(links: &[usize], units: &mut [u8], to: Place, x: u64) -> Result<bool, Fu
 
 // A round: the input that waits longest is checked, and what this raises is filed. Whether one waited.
 fn check_next(
-    links: &[usize],
+    links: &Links,
     values: &mut [u8],
     units: &mut [u8],
     delays: &mut [u8],
@@ -222,7 +221,7 @@ fn check_next(
 
 // At most n rounds, up to the first that finds nothing waiting or a list full.
 fn settle_on(
-    links: &[usize],
+    links: &Links,
     values: &mut [u8],
     units: &mut [u8],
     delays: &mut [u8],
@@ -245,7 +244,7 @@ fn settle_on(
 // Each input that waits is checked; what this raises goes where `to` says, up to the first that finds its list full. Once what is stale is refreshed, this settles;
 // callers ask first whether any input waits, since most often none does.
 pub fn check_waiting(
-    links: &[usize],
+    links: &Links,
     values: &mut [u8],
     units: &mut [u8],
     delays: &mut [u8],
@@ -255,6 +254,6 @@ pub fn check_waiting(
     ensures over_all { OverAll links.now (values.old, values.new) (units.old, units.new) (delays.old, delays.new) (λ c old new. Goes old new result (goes_on c to (most_checks c) old.state old.lists)) }
     ensures slots_stay { SlotsStay links.now delays.new }
 {
-    let rounds = (inputs(links) + 1) * (outputs(links) + 1);
+    let rounds = (links.inputs() + 1) * (links.outputs() + 1);
     settle_on(links, values, units, delays, to, rounds)
 }

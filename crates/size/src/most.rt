@@ -7,12 +7,13 @@ ghost use Rattle.model.specs.Circuit.{gate_at_input};
 ghost use Rattle.model.specs.Script.{most_ticks};
 ghost use Rattle.kinds.specs.Pins.{in_of, out_of};
 ghost use Rattle.links.specs.Links.{net};
-ghost use Rattle.links.specs.Lent.{Linked, net_of};
+ghost use Rattle.links.specs.Lent.{net_of};
 ghost use Rattle.figures.specs.Figures.{greatest, is-E, is_exec, entered_from, most_unit_steps, most_log_bytes};
 ghost use Rattle.size.specs.Numbers.{with_number, Numbers, most_of_inputs, most_of_outputs};
 
 use crate::numbers::{number_of, with_output};
 use kinds::{Out, Pin};
+use links::Links;
 use records::head::HEAD;
 use records::{MOST_UNITS, MOST_WAITING};
 
@@ -45,23 +46,21 @@ fn greatest<F: Fn(usize) -> Option<u64>>(n: usize, number: F) -> u64
 }
 
 // The number of the gate of input i, if that is an E.
-fn number_of_input(links: &[usize], numbers: &[u64], i: usize) -> Option<u64>
-    requires { Linked links.now }
+fn number_of_input(links: &Links, numbers: &[u64], i: usize) -> Option<u64>
     ensures { result ≡ then_some (is-E (get_or (net_of links.now).pins i value)) (get_or numbers.now (gate_at_input (net_of links.now) i) 0) }
 {
-    if is_e(links::pin_at(links, i)) {
-        Some(number_of(numbers, links::gate_at_input(links, i)))
+    if is_e(links.pin_at(i)) {
+        Some(number_of(numbers, links.gate_at_input(i)))
     } else {
         None
     }
 }
 
 // The sum of the calls of output o, if that is an exec output.
-fn number_of_output(links: &[usize], numbers: &[u64], o: usize) -> Option<u64>
-    requires { Linked links.now }
+fn number_of_output(links: &Links, numbers: &[u64], o: usize) -> Option<u64>
     ensures { result ≡ then_some (is_exec (get_or (net_of links.now).outputs o fires)) (each (with_number numbers.now) 0 (entered_from (net_of links.now) o)) }
 {
-    if is_exec(links::out_at(links, o)) {
+    if is_exec(links.out_at(o)) {
         Some(with_output(links, numbers, 0, o))
     } else {
         None
@@ -69,37 +68,32 @@ fn number_of_output(links: &[usize], numbers: &[u64], o: usize) -> Option<u64>
 }
 
 // The greatest number of an E's gate.
-fn of_inputs(links: &[usize], numbers: &[u64]) -> u64
-    requires { Linked links.now }
+fn of_inputs(links: &Links, numbers: &[u64]) -> u64
     ensures { result ≡ most_of_inputs (net_of links.now) numbers.now }
 {
-    greatest(links::inputs(links), |i| number_of_input(links, numbers, i))
+    greatest(links.inputs(), |i| number_of_input(links, numbers, i))
 }
 
 // The greatest sum of an exec output's calls.
-fn of_outputs(links: &[usize], numbers: &[u64]) -> u64
-    requires { Linked links.now }
+fn of_outputs(links: &Links, numbers: &[u64]) -> u64
     ensures { result ≡ most_of_outputs (net_of links.now) numbers.now }
 {
-    greatest(
-        links::outputs(links),
-        |o| number_of_output(links, numbers, o),
-    )
+    greatest(links.outputs(), |o| number_of_output(links, numbers, o))
 }
 
 // The most steps that any one unit can cause; 50,000,001 for more than 50,000,000.
-pub fn unit_steps(links: &[usize], numbers: &[u64]) -> u64
-    requires { Linked links.now × Numbers (net links.now) numbers.now }
+pub fn unit_steps(links: &Links, numbers: &[u64]) -> u64
+    requires { Numbers (net links.now) numbers.now }
     ensures { result ≡ most_unit_steps (net_of links.now) }
 {
     of_inputs(links, numbers).max(of_outputs(links, numbers))
 }
 
 // The most bytes of a log of so many ticks.
-pub fn log_bytes(links: &[usize], ticks: u64) -> u64
-    requires { Linked links.now × (ticks ≤ most_ticks) }
+pub fn log_bytes(links: &Links, ticks: u64) -> u64
+    requires { ticks ≤ most_ticks }
     ensures { result ≡ most_log_bytes (net_of links.now) ticks }
 {
-    let words = HEAD + 2 * MOST_UNITS + 2 * MOST_WAITING + 2 * links::outputs(links);
+    let words = HEAD + 2 * MOST_UNITS + 2 * MOST_WAITING + 2 * links.outputs();
     8 * (ticks * words as u64)
 }

@@ -4,13 +4,13 @@ ghost use Rattle.std.specs.Prelude.{◌≡◌, true, ◌+◌, ◌≤◌, length,
 ghost use Rattle.model.specs.Base.{each};
 ghost use Rattle.model.specs.Circuit.{most_gates};
 ghost use Rattle.links.specs.Links.{gates_of_word};
-ghost use Rattle.links.specs.Lent.{Linked, net_of};
+ghost use Rattle.links.specs.Lent.{net_of};
 ghost use Rattle.figures.specs.Figures.{entered_from, passed_on, no_ring};
 ghost use Rattle.size.specs.Numbers.{cap, with_number, numbered, Numbers};
 
 use crate::calls::{over_calls, over_outputs, passed_on};
 use circuit::sets::{all_gates, round, words_of_gates};
-use links::{first_gate, later_gates};
+use links::{Links, first_gate, later_gates};
 use records::MOST_STEPS;
 
 // Where sums stop.
@@ -31,8 +31,7 @@ pub fn number_of(numbers: &[u64], g: usize) -> u64
 }
 
 // A sum, and the numbers of the gates that the calls of output o enter.
-pub fn with_output(links: &[usize], numbers: &[u64], sum: u64, o: usize) -> u64
-    requires { Linked links.now }
+pub fn with_output(links: &Links, numbers: &[u64], sum: u64, o: usize) -> u64
     ensures { result ≡ each (with_number numbers.now) sum (entered_from (net_of links.now) o) }
 {
     over_calls(
@@ -44,8 +43,7 @@ pub fn with_output(links: &[usize], numbers: &[u64], sum: u64, o: usize) -> u64
 }
 
 // One, and the numbers of all gates that gate g passes on to.
-fn gate_steps(links: &[usize], numbers: &[u64], g: usize) -> u64
-    requires { Linked links.now }
+fn gate_steps(links: &Links, numbers: &[u64], g: usize) -> u64
     ensures { result ≡ each (with_number numbers.now) 1 (passed_on (net_of links.now) g) }
 {
     let itself = 1;
@@ -58,8 +56,8 @@ fn gate_steps(links: &[usize], numbers: &[u64], g: usize) -> u64
 }
 
 // Each gate of a word gets its number.
-fn number_gates(links: &[usize], numbers: &mut [u64], gates: u64)
-    requires { Linked links.now × (most_gates ≤ length numbers.old) }
+fn number_gates(links: &Links, numbers: &mut [u64], gates: u64)
+    requires { most_gates ≤ length numbers.old }
     ensures { numbers.new ≡ each (numbered (net_of links.now)) numbers.old (gates_of_word gates) }
 {
     let mut word = gates as usize;
@@ -72,11 +70,11 @@ fn number_gates(links: &[usize], numbers: &mut [u64], gates: u64)
 }
 
 // Whether the calls form no ring; then each gate has its number.
-pub fn number_all(links: &[usize], numbers: &mut [u64]) -> bool
-    requires { Linked links.now × (numbers.old ≡ replicate most_gates 0) }
+pub fn number_all(links: &Links, numbers: &mut [u64]) -> bool
+    requires { numbers.old ≡ replicate most_gates 0 }
     ensures { (result ≡ no_ring (net_of links.now)) × (result ≡ true → Numbers (net_of links.now) numbers.new) }
 {
-    let n = links::gates(links);
+    let n = links.gates();
     let words = words_of_gates(|g| passed_on(links, g));
     let mut unplaced = all_gates(n);
     for _k in 0..n {

@@ -10,7 +10,7 @@ ghost use Rattle.model.specs.Delays.{launch, buffer_input, advance_flight, advan
 ghost use Rattle.model.specs.Exec.{countdown, most_fires};
 ghost use Rattle.delays.specs.States.{counted, started, counts_seconds, flight_of, row_of, fires_of, stopwatch_moved};
 ghost use Rattle.links.specs.Links.{net};
-ghost use Rattle.links.specs.Lent.{Linked, net_of};
+ghost use Rattle.links.specs.Lent.{net_of};
 ghost use Rattle.states.specs.View.{slot_at, flight_in, later_in, fires_in, delay_in, with_delay, starting, Moves};
 ghost use Rattle.states.specs.Slots.{Becomes, BecomesAny, BecomesBy, Turns, TurnsAny, Lands, Added};
 ghost use Rattle.states.specs.Lent.{Slot, Slots, DelaysChange, AddsFire};
@@ -22,8 +22,8 @@ use delays::countdown::{Countdown, Started, buffer_countdown, of_word};
 use delays::fires::{Fires, MOST_FIRES};
 use delays::stopwatch::Stopwatch;
 use kinds::numbers::BUFFER_SECONDS;
+use links::Links;
 use links::layout::MOST_GATES;
-use links::{gates, kind_of_gate, setting};
 use lists::Full;
 use model::Value;
 use value::{content_of, kind_of, truthy, value_of};
@@ -186,8 +186,8 @@ fn input(slot: &mut [u8], seconds: bool, v: Value, k: Countdown)
 }
 
 // One tick: the value in flight lands when its countdown is due.
-fn fly(links: &[usize], slot: &mut [u8], g: usize, seconds: bool, dt: u32) -> Landed
-    requires { Linked links.now × Slot slot.old × (seconds ≡ leb 12 (kind_of_gate (net links.now) g)) }
+fn fly(links: &Links, slot: &mut [u8], g: usize, seconds: bool, dt: u32) -> Landed
+    requires { Slot slot.old × (seconds ≡ leb 12 (kind_of_gate (net links.now) g)) }
     ensures { Lands seconds (words slot.old) (words slot.new) (advance_flight (λ v. countdown (net_of links.now) g (truthy v)) dt) result }
 {
     if get(slot, FLIGHT) == 0 {
@@ -197,7 +197,7 @@ fn fly(links: &[usize], slot: &mut [u8], g: usize, seconds: bool, dt: u32) -> La
         };
     }
     let b = load_buffer(slot, seconds);
-    let next = b.advance(dt, seconds, setting(links, g, 1), setting(links, g, 2));
+    let next = b.advance(dt, seconds, links.setting(g, 1), links.setting(g, 2));
     store_buffer(slot, next);
     Landed {
         what: next.landed,
@@ -337,23 +337,22 @@ fn slot_at(g: usize) -> usize
 }
 
 // The countdown that gate g, a buffer, starts for a value that is rising or not.
-fn countdown(links: &[usize], g: usize, rising: bool) -> Started
-    requires { Linked links.now }
+fn countdown(links: &Links, g: usize, rising: bool) -> Started
     ensures { started result ≡ countdown (net_of links.now) g rising }
 {
-    let seconds = SECONDS <= kind_of_gate(links, g);
-    buffer_countdown(seconds, rising, setting(links, g, 1), setting(links, g, 2))
+    let seconds = SECONDS <= links.kind_of_gate(g);
+    buffer_countdown(seconds, rising, links.setting(g, 1), links.setting(g, 2))
 }
 
 // Gate g, a value buffer, gets a new input.
-pub fn buffer_input(links: &[usize], delays: &mut [u8], g: usize, v: Value)
-    requires { Linked links.now × Slots links.now delays.old }
+pub fn buffer_input(links: &Links, delays: &mut [u8], g: usize, v: Value)
+    requires { Slots links.now delays.old }
     ensures { DelaysChange links.now (delays.old, delays.new) (λ c old new. new ≡ starting old g (λ d left. buffer_input d v left) (countdown c g (truthy v))) }
 {
-    if gates(links) <= g {
+    if links.gates() <= g {
         return;
     }
-    let seconds = SECONDS <= kind_of_gate(links, g);
+    let seconds = SECONDS <= links.kind_of_gate(g);
     let k = countdown(links, g, truthy(v));
     let a = slot_at(g);
     input(&mut delays[a..a + SLOT_BYTES], seconds, v, k.left);
@@ -361,14 +360,14 @@ pub fn buffer_input(links: &[usize], delays: &mut [u8], g: usize, v: Value)
 }
 
 // Gate g, a value buffer, moves on by a tick of the length dt in f32 bits: what lands.
-pub fn buffer_advance(links: &[usize], delays: &mut [u8], g: usize, dt: u32) -> Option<Value>
-    requires { Linked links.now × Slots links.now delays.old }
+pub fn buffer_advance(links: &Links, delays: &mut [u8], g: usize, dt: u32) -> Option<Value>
+    requires { Slots links.now delays.old }
     ensures { DelaysChange links.now (delays.old, delays.new) (λ c old new. Moves old new g (advance_flight (λ v. countdown c g (truthy v)) dt (delay_in old g)) (row_of result) 0) }
 {
-    if gates(links) <= g {
+    if links.gates() <= g {
         return None;
     }
-    let seconds = SECONDS <= kind_of_gate(links, g);
+    let seconds = SECONDS <= links.kind_of_gate(g);
     let a = slot_at(g);
     let landed = fly(links, &mut delays[a..a + SLOT_BYTES], g, seconds, dt);
     count_changed(links, delays, landed.changed);
@@ -376,14 +375,14 @@ pub fn buffer_advance(links: &[usize], delays: &mut [u8], g: usize, dt: u32) -> 
 }
 
 // One fire more of gate g, a buffer in exec mode, if there is room.
-pub fn add_fire(links: &[usize], delays: &mut [u8], g: usize) -> Result<(), Full>
-    requires { Linked links.now × Slots links.now delays.old }
+pub fn add_fire(links: &Links, delays: &mut [u8], g: usize) -> Result<(), Full>
+    requires { Slots links.now delays.old }
     ensures { DelaysChange links.now (delays.old, delays.new) (λ c old new. AddsFire old new g result (countdown c g true)) }
 {
-    if gates(links) <= g {
+    if links.gates() <= g {
         return Ok(());
     }
-    let seconds = SECONDS <= kind_of_gate(links, g);
+    let seconds = SECONDS <= links.kind_of_gate(g);
     let k = countdown(links, g, true);
     let a = slot_at(g);
     let filed = start_fire(&mut delays[a..a + SLOT_BYTES], seconds, k.left);
@@ -392,32 +391,32 @@ pub fn add_fire(links: &[usize], delays: &mut [u8], g: usize) -> Result<(), Full
 }
 
 // Gate g, a buffer in exec mode, moves on by a tick: how many fire.
-pub fn fires_advance(links: &[usize], delays: &mut [u8], g: usize, dt: u32) -> usize
-    requires { Linked links.now × Slots links.now delays.old }
+pub fn fires_advance(links: &Links, delays: &mut [u8], g: usize, dt: u32) -> usize
+    requires { Slots links.now delays.old }
     ensures delays_change { DelaysChange links.now (delays.old, delays.new) (λ _ old new. Moves old new g (advance_fires dt (delay_in old g)) [] result) }
     ensures upper_bound { result ≤ most_fires }
 {
-    if gates(links) <= g {
+    if links.gates() <= g {
         return 0;
     }
-    let seconds = SECONDS <= kind_of_gate(links, g);
+    let seconds = SECONDS <= links.kind_of_gate(g);
     let a = slot_at(g);
     run_fires(&mut delays[a..a + SLOT_BYTES], seconds, dt)
 }
 
 // Gate g, a Clock, moves on by a tick of dt seconds: whether it fires.
 pub fn clock_advance(
-    links: &[usize],
+    links: &Links,
     delays: &mut [u8],
     g: usize,
     dt: u64,
     interval: u64,
     enabled: bool,
 ) -> bool
-    requires { Linked links.now × Slots links.now delays.old }
+    requires { Slots links.now delays.old }
     ensures { DelaysChange links.now (delays.old, delays.new) (λ _ old new. Moves old new g (advance_elapsed dt interval enabled (delay_in old g)) [] (bit result)) }
 {
-    if gates(links) <= g {
+    if links.gates() <= g {
         let clock = Clock {
             elapsed: 0,
             fired: false,
@@ -431,16 +430,16 @@ pub fn clock_advance(
 
 // Gate g, a Stopwatch, moves on by a tick of dt seconds: its state, with what it shows and whether it expires.
 pub fn stopwatch_advance(
-    links: &[usize],
+    links: &Links,
     delays: &mut [u8],
     g: usize,
     dt: u64,
     limit: u64,
 ) -> Stopwatch
-    requires { Linked links.now × Slots links.now delays.old }
+    requires { Slots links.now delays.old }
     ensures { DelaysChange links.now (delays.old, delays.new) (λ _ old new. Moves old new g (advance_time dt limit (delay_in old g)) (stopwatch_moved result).row (stopwatch_moved result).fires) }
 {
-    if gates(links) <= g {
+    if links.gates() <= g {
         return Stopwatch {
             time: 0,
             running: false,
@@ -453,11 +452,11 @@ pub fn stopwatch_advance(
 }
 
 // A pin of gate g, a Stopwatch: 0 Restart, 2 Resume, any other Pause.
-pub fn stopwatch_press(links: &[usize], delays: &mut [u8], g: usize, p: usize)
-    requires { Linked links.now × Slots links.now delays.old }
+pub fn stopwatch_press(links: &Links, delays: &mut [u8], g: usize, p: usize)
+    requires { Slots links.now delays.old }
     ensures { DelaysChange links.now (delays.old, delays.new) (λ _ old new. new ≡ with_delay old g (pressed p (delay_in old g))) }
 {
-    if gates(links) <= g {
+    if links.gates() <= g {
         return;
     }
     let a = slot_at(g);

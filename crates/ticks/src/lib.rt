@@ -7,7 +7,7 @@ ghost use Rattle.words.specs.Slices.{HasWords};
 ghost use Rattle.model.specs.Run.{allow};
 // The definitions `values` and `units` are named for what they hold, beside the slices of their names.
 ghost use Rattle.links.specs.Links.{net};
-ghost use Rattle.links.specs.Lent.{Linked, net_of, Room};
+ghost use Rattle.links.specs.Lent.{net_of, Room};
 ghost use Rattle.wires.specs.Lent.{values_in, values_out, Turns, TickFits};
 ghost use Rattle.states.specs.Lent.{Slots, SlotsStay};
 ghost use Rattle.units.specs.Lent.{units_in};
@@ -18,6 +18,7 @@ ghost use Rattle.ticks.specs.Stages.{RanLate, RanMain, steps_made, outputs_read,
 ghost use Rattle.ticks.specs.Lent.{TicksAs};
 
 use chain::Ran;
+use links::Links;
 use lists::Full;
 use logging::{Head, write_record};
 use opening::open;
@@ -37,14 +38,14 @@ pub struct Ticked {
 
 // The late pass, unless the opening found a list full.
 fn run_late(
-    links: &[usize],
+    links: &Links,
     values: &mut [u8],
     units: &mut [u8],
     delays: &mut [u8],
     opened: Result<(), Full>,
     limit: u64,
 ) -> Ran
-    requires { Linked links.now × Room values.old × Room units.old × Slots links.now delays.old × FewCalls (net links.now) }
+    requires { Room values.old × Room units.old × Slots links.now delays.old × FewCalls (net links.now) }
     ensures over_all { OverAll links.now (values.old, values.new) (units.old, units.new) (delays.old, delays.new) (λ c old new. RanLate c old new limit (stop_of opened) result) }
     ensures slots_stay { SlotsStay links.now delays.new }
 {
@@ -58,14 +59,8 @@ fn run_late(
 }
 
 // The main pass, unless the late pass stopped.
-fn run_main(
-    links: &[usize],
-    values: &mut [u8],
-    units: &mut [u8],
-    delays: &mut [u8],
-    late: Ran,
-) -> Ran
-    requires { Linked links.now × Room values.old × Room units.old × Slots links.now delays.old × FewCalls (net links.now) }
+fn run_main(links: &Links, values: &mut [u8], units: &mut [u8], delays: &mut [u8], late: Ran) -> Ran
+    requires { Room values.old × Room units.old × Slots links.now delays.old × FewCalls (net links.now) }
     ensures over_all { OverAll links.now (values.old, values.new) (units.old, units.new) (delays.old, delays.new) (λ c old new. RanMain c old new late.left late.stop result) }
     ensures slots_stay { SlotsStay links.now delays.new }
 {
@@ -85,8 +80,8 @@ fn steps(limit: u64, left: u64, stop: u64) -> u64
 }
 
 // Where the tick has no stop its record shows the outputs, so what is stale is refreshed.
-fn read_outputs(links: &[usize], values: &mut [u8], stop: u64)
-    requires { Linked links.now × Room values.old }
+fn read_outputs(links: &Links, values: &mut [u8], stop: u64)
+    requires { Room values.old }
     ensures { Turns links.now (values.old, values.new) (λ c w. outputs_read c w stop) }
 {
     if stop != 0 {
@@ -97,7 +92,7 @@ fn read_outputs(links: &[usize], values: &mut [u8], stop: u64)
 
 // The head of the tick's record, where `late` units began in the late pass and so many narrowings changed their number.
 fn head(
-    links: &[usize],
+    links: &Links,
     values: &[u8],
     limit: u64,
     late: usize,
@@ -105,7 +100,7 @@ fn head(
     left: u64,
     stop: u64,
 ) -> Head
-    requires { Linked links.now × Room values.now × (limit < 2 ^ 63) }
+    requires { Room values.now × (limit < 2 ^ 63) }
     ensures { result ≡ head_of limit late changed left stop (values_in links.now values.now) }
 {
     Head {
@@ -119,7 +114,7 @@ fn head(
 
 // The end of a tick after the passes' answer r, where `late` units began in the late pass and so many narrowings changed their number: its record becomes the words of the log from word `at` on, if it fits there.
 fn close(
-    links: &[usize],
+    links: &Links,
     values: &mut [u8],
     units: &[u8],
     log: &mut [u8],
@@ -129,7 +124,7 @@ fn close(
     changed: u64,
     r: Ran,
 ) -> Ticked
-    requires { Linked links.now × Room values.old × Room units.now × (at * 8 ≤ length log.old) × (limit < 2 ^ 63) }
+    requires { Room values.old × Room units.now × (at * 8 ≤ length log.old) × (limit < 2 ^ 63) }
     ensures { Closes (net_of links.now) limit late changed r (values_in links.now values.old) (values_out links.now values.new) (units_in links.now units.now) log.old log.new at result }
 {
     let left = r.left;
@@ -147,7 +142,7 @@ fn close(
 
 // A tick of the length dt that may make `limit` steps, with n stimuli: their gates and constants stand in the script from these words on. Its record becomes the words of the log from word `at` on, if it fits there.
 pub fn tick(
-    links: &[usize],
+    links: &Links,
     values: &mut [u8],
     units: &mut [u8],
     delays: &mut [u8],
@@ -160,7 +155,7 @@ pub fn tick(
     at: usize,
     limit: u64,
 ) -> Ticked
-    requires linked { Linked links.now × Room values.old × Room units.old × Slots links.now delays.old × FewCalls (net links.now) }
+    requires linked { Room values.old × Room units.old × Slots links.now delays.old × FewCalls (net links.now) }
     requires has_words { HasWords script.now gates_at n × HasWords script.now constants_at n × TickFits links.now values.old × (at * 8 ≤ length log.old) × (limit < 2 ^ 63) }
     ensures over_all { OverAll links.now (values.old, values.new) (units.old, units.new) (delays.old, delays.new) (λ c old new. TicksAs c old new log.old log.new at result (allow limit (given_at c (words script.now) dt gates_at constants_at n))) }
     ensures slots_stay { SlotsStay links.now delays.new }

@@ -7,7 +7,7 @@ ghost use Rattle.model.specs.Circuit.{output};
 ghost use Rattle.model.specs.Wires.{set_outs};
 ghost use Rattle.model.specs.Unit.{begin, fired};
 ghost use Rattle.links.specs.Links.{net};
-ghost use Rattle.links.specs.Lent.{Linked, net_of, Room, Short};
+ghost use Rattle.links.specs.Lent.{net_of, Room, Short};
 ghost use Rattle.wires.specs.Lent.{Turns};
 ghost use Rattle.states.specs.Lent.{Slots, SlotsStay};
 ghost use Rattle.units.specs.View.{gate_of, form_of, brings, row_of, units as units_view};
@@ -19,7 +19,7 @@ ghost use Rattle.unit.specs.Unit.{FewCalls, act_in, stop_of, finished, ran, Fini
 use chain::Ran;
 use chain::pushing::push_calls;
 use kinds::numbers::STOPWATCH;
-use links::{constant, input, kind_of_gate, output};
+use links::Links;
 use lists::Full;
 use loops::run_chain;
 use records::forms::STIMULUS;
@@ -47,8 +47,8 @@ const ROW: usize = 8;
 // ---- what it brings
 
 // What entry x of those that wait brings is put on the outputs of its gate from 1 on.
-fn enter_waiting(links: &[usize], values: &mut [u8], x: u64)
-    requires { Linked links.now × Room values.old }
+fn enter_waiting(links: &Links, values: &mut [u8], x: u64)
+    requires { Room values.old }
     ensures { Turns links.now (values.old, values.new) (λ c w. set_outs c w (output c (gate_of x) 1) (row_of c (form_of x) (brings x))) }
 {
     if form_of(x) != STIMULUS {
@@ -58,13 +58,13 @@ fn enter_waiting(links: &[usize], values: &mut [u8], x: u64)
     if k == 0 {
         return;
     }
-    let v = constant(links, k);
-    set_out(links, values, output(links, gate_of(x), 1), v);
+    let v = links.constant(k);
+    set_out(links, values, links.output(gate_of(x), 1), v);
 }
 
 // The values of event e are put on the outputs from o on.
-fn set_event(links: &[usize], values: &mut [u8], units: &[u8], o: usize, e: usize)
-    requires { Linked links.now × Room values.old × Room units.now × (o < 131072) × (e < length (units_view (net links.now) units.now).events) }
+fn set_event(links: &Links, values: &mut [u8], units: &[u8], o: usize, e: usize)
+    requires { Room values.old × Room units.now × (o < 131072) × (e < length (units_view (net links.now) units.now).events) }
     ensures { Turns links.now (values.old, values.new) (λ c w. set_outs c w o (get_or (map (λ m. m.row) (units_in links.now units.now).events) e [])) }
 {
     for j in 0..ROW {
@@ -74,20 +74,20 @@ fn set_event(links: &[usize], values: &mut [u8], units: &[u8], o: usize, e: usiz
 }
 
 // What delivered event x brings is put on the outputs of its gate from 1 on.
-fn enter_event(links: &[usize], values: &mut [u8], units: &[u8], x: u64)
-    requires { Linked links.now × Room values.old × Room units.now }
+fn enter_event(links: &Links, values: &mut [u8], units: &[u8], x: u64)
+    requires { Room values.old × Room units.now }
     ensures { Turns links.now (values.old, values.new) (λ c w. set_outs c w (output c (gate_of x) 1) (get_or (map (λ m. m.row) (units_in links.now units.now).events) (brings x) [])) }
 {
     let e = brings(x);
     if events(units) <= e {
         return;
     }
-    set_event(links, values, units, output(links, gate_of(x), 1), e);
+    set_event(links, values, units, links.output(gate_of(x), 1), e);
 }
 
 // What the unit brings is put on the outputs of its gate from 1 on.
-fn enter(links: &[usize], values: &mut [u8], units: &[u8], a: Act)
-    requires { Linked links.now × Room values.old × Room units.now }
+fn enter(links: &Links, values: &mut [u8], units: &[u8], a: Act)
+    requires { Room values.old × Room units.now }
     ensures { Turns links.now (values.old, values.new) (λ c w. set_outs c w (output c (act_in c (units_in links.now units.now).events a).gate 1) (act_in c (units_in links.now units.now).events a).row) }
 {
     match a {
@@ -99,17 +99,17 @@ fn enter(links: &[usize], values: &mut [u8], units: &[u8], a: Act)
 // ---- what it calls first
 
 // The output that gate g fires in this form.
-fn fired(links: &[usize], g: usize, form: usize) -> usize
-    requires { Linked links.now × Short form }
+fn fired(links: &Links, g: usize, form: usize) -> usize
+    requires { Short form }
     ensures { result ≡ fired (net_of links.now) g form }
 {
     if 32 <= form {
-        return output(links, g, form - 32);
+        return links.output(g, form - 32);
     }
-    if kind_of_gate(links, g) == STOPWATCH {
-        return output(links, g, 1);
+    if links.kind_of_gate(g) == STOPWATCH {
+        return links.output(g, 1);
     }
-    output(links, g, 0)
+    links.output(g, 0)
 }
 
 // Whether a unit of this form enters its gate through a pin.
@@ -123,14 +123,14 @@ fn is_pin(form: usize) -> bool
 }
 
 // The unit of gate g in this form begins: the calls that it makes first, and no others.
-fn begin(links: &[usize], units: &mut [u8], g: usize, form: usize)
-    requires { Linked links.now × Room units.old × Short form × FewCalls (net links.now) }
+fn begin(links: &Links, units: &mut [u8], g: usize, form: usize)
+    requires { Room units.old × Short form × FewCalls (net links.now) }
     ensures { UnitsChange links.now (units.old, units.new) (λ c old new. ((row : List Values) → new ≡ with_calls old (begin c (record { gate = g; form = form; row = row })))) }
 {
     clear_calls(units);
     if is_pin(form) {
         // one call fits where none waits
-        let _ = push_call(units, input(links, g, form - 16));
+        let _ = push_call(units, links.input(g, form - 16));
         return;
     }
     // as do those of an output
@@ -138,8 +138,8 @@ fn begin(links: &[usize], units: &mut [u8], g: usize, form: usize)
 }
 
 // The calls that a unit makes first.
-fn begin_act(links: &[usize], units: &mut [u8], a: Act)
-    requires { Linked links.now × Room units.old × FewCalls (net links.now) }
+fn begin_act(links: &Links, units: &mut [u8], a: Act)
+    requires { Room units.old × FewCalls (net links.now) }
     ensures { UnitsChange links.now (units.old, units.new) (λ c old new. new ≡ with_calls old (begin c (act_in c old.events a))) }
 {
     match a {
@@ -162,7 +162,7 @@ fn stop_of(filed: Result<(), Full>) -> u64
 
 // After the chain and its forks: if they ended without a stop, the Vars written are published, and what changed is settled; what this raises goes where `to` says.
 fn finish(
-    links: &[usize],
+    links: &Links,
     values: &mut [u8],
     units: &mut [u8],
     delays: &mut [u8],
@@ -187,7 +187,7 @@ fn finish(
 
 // A unit, whose tick may still make `left` steps; what it raises goes where `to` says.
 pub fn unit(
-    links: &[usize],
+    links: &Links,
     values: &mut [u8],
     units: &mut [u8],
     delays: &mut [u8],
@@ -195,7 +195,7 @@ pub fn unit(
     left: u64,
     to: Place,
 ) -> Ran
-    requires { Linked links.now × Room values.old × Room units.old × Slots links.now delays.old × FewCalls (net links.now) }
+    requires { Room values.old × Room units.old × Slots links.now delays.old × FewCalls (net links.now) }
     ensures over_all { OverAll links.now (values.old, values.new) (units.old, units.new) (delays.old, delays.new) (λ c old new. RanAs old new result (ran c to left (act_in c old.kept.events a) old.state old.lists)) }
     ensures slots_stay { SlotsStay links.now delays.new }
 {

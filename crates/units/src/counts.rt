@@ -7,6 +7,7 @@ use crate::layout::{BEGUN, CARRIED, DELIVERED, LATE, MOST_DELIVERED, PENDING};
 use lists::count;
 use records::MOST_WAITING;
 
+// Stays: each of these is one line over `count`, and its promise names the list; one function of any list would have to be told which in a promise.
 // How many are pending.
 pub fn pending(units: &[u8]) -> usize
     requires { Room units.now }

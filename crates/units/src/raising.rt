@@ -6,7 +6,7 @@ ghost use Rattle.model.specs.Circuit.{rank_of_gate};
 ghost use Rattle.model.specs.Chain.{no_calls};
 // The definition `units` is named `view` here, beside the slice of that name.
 ghost use Rattle.links.specs.Links.{net};
-ghost use Rattle.links.specs.Lent.{Linked, net_of, Room};
+ghost use Rattle.links.specs.Lent.{net_of, Room};
 ghost use Rattle.lists.specs.Lists.{downward};
 ghost use Rattle.units.specs.View.{gate_of, entry_of, act_of, event_of, units as view};
 ghost use Rattle.units.specs.declared.Place.TheVariants.{Late, Pending};
@@ -21,19 +21,19 @@ use crate::layout::{
     FORKS_COUNT, HALF, LATE, LATE_COUNT, MOST_DELIVERED, PENDING, PENDING_COUNT, SECOND_COUNT,
     STACK_COUNT,
 };
-use links::rank_of_gate;
+use links::Links;
 use lists::{Full, dequeue, enqueue, stack_pop, stack_push};
 use records::MOST_WAITING;
 use words::{get, put};
 
 // x, of that rank, goes below those of the n entries, from the last one down, whose rank is not above its own; these move up by one.
-fn place(links: &[usize], list: &mut [u8], n: usize, x: u64, rank: u64)
-    requires { Linked links.now × ((n + 2) * 8 ≤ length list.old) × (n < most_units) × (rank ≡ rank_of_gate (net links.now) (gate_of x)) }
+fn place(links: &Links, list: &mut [u8], n: usize, x: u64, rank: u64)
+    requires { ((n + 2) * 8 ≤ length list.old) × (n < most_units) × (rank ≡ rank_of_gate (net links.now) (gate_of x)) }
     ensures { map (act_of (net_of links.now)) (downward (n + 1) (words list.new)) ≡ by_rank (net_of links.now) (act_of (net_of links.now) x) (map (act_of (net_of links.now)) (downward n (words list.old))) }
 {
     for i in (0..n).rev() {
         let y = get(list, i + 1);
-        if rank < rank_of_gate(links, gate_of(y)) {
+        if rank < links.rank_of_gate(gate_of(y)) {
             put(list, i + 2, x);
             return;
         }
@@ -43,8 +43,8 @@ fn place(links: &[usize], list: &mut [u8], n: usize, x: u64, rank: u64)
 }
 
 // x, of that rank, joins a list by rank, behind all whose rank is not above its own, if there is room.
-fn file(links: &[usize], list: &mut [u8], x: u64, rank: u64) -> Result<(), Full>
-    requires { Linked links.now × (length list.old ≡ (most_waiting + 1) * 8) × (rank ≡ rank_of_gate (net links.now) (gate_of x)) }
+fn file(links: &Links, list: &mut [u8], x: u64, rank: u64) -> Result<(), Full>
+    requires { (length list.old ≡ (most_waiting + 1) * 8) × (rank ≡ rank_of_gate (net links.now) (gate_of x)) }
     ensures { FilesByRank (net_of links.now) (words list.old) (words list.new) result x }
 {
     let n = lists::count(list, MOST_WAITING);
@@ -57,16 +57,16 @@ fn file(links: &[usize], list: &mut [u8], x: u64, rank: u64) -> Result<(), Full>
 }
 
 // x, of that rank, joins the late list, if there is room.
-fn file_late(links: &[usize], units: &mut [u8], x: u64, rank: u64) -> Result<(), Full>
-    requires { Linked links.now × Room units.old × (rank ≡ rank_of_gate (net links.now) (gate_of x)) }
+fn file_late(links: &Links, units: &mut [u8], x: u64, rank: u64) -> Result<(), Full>
+    requires { Room units.old × (rank ≡ rank_of_gate (net links.now) (gate_of x)) }
     ensures { UnitsChange links.now (units.old, units.new) (λ c old new. Files old new result (activate c Late (act_of c x) old.lists)) }
 {
     file(links, &mut units[LATE..CARRIED], x, rank)
 }
 
 // x, of that rank, joins the pending list, if there is room.
-fn file_pending(links: &[usize], units: &mut [u8], x: u64, rank: u64) -> Result<(), Full>
-    requires { Linked links.now × Room units.old × (rank ≡ rank_of_gate (net links.now) (gate_of x)) }
+fn file_pending(links: &Links, units: &mut [u8], x: u64, rank: u64) -> Result<(), Full>
+    requires { Room units.old × (rank ≡ rank_of_gate (net links.now) (gate_of x)) }
     ensures { UnitsChange links.now (units.old, units.new) (λ c old new. Files old new result (activate c Pending (act_of c x) old.lists)) }
 {
     file(links, &mut units[PENDING..LATE], x, rank)
@@ -81,11 +81,11 @@ fn carry(units: &mut [u8], x: u64) -> Result<(), Full>
 }
 
 // x goes where it belongs, if there is room.
-pub fn activate(links: &[usize], units: &mut [u8], to: Place, x: u64) -> Result<(), Full>
-    requires { Linked links.now × Room units.old }
+pub fn activate(links: &Links, units: &mut [u8], to: Place, x: u64) -> Result<(), Full>
+    requires { Room units.old }
     ensures { UnitsChange links.now (units.old, units.new) (λ c old new. Files old new result (activate c to (act_of c x) old.lists)) }
 {
-    let rank = rank_of_gate(links, gate_of(x));
+    let rank = links.rank_of_gate(gate_of(x));
     match to {
         Place::Late => file_late(links, units, x, rank),
         Place::Pending => file_pending(links, units, x, rank),
@@ -142,15 +142,15 @@ pub fn carried(units: &[u8]) -> usize
 }
 
 // The late list is empty: the carried are filed there, in the order raised.
-fn file_carried(links: &[usize], units: &mut [u8])
-    requires { Linked links.now × Room units.old × ((view (net links.now) units.old).lists.late ≡ []) }
+fn file_carried(links: &Links, units: &mut [u8])
+    requires { Room units.old × ((view (net links.now) units.old).lists.late ≡ []) }
     ensures { UnitsChange links.now (units.old, units.new) (λ c old new. new ≡ with_lists old (late≔ old.lists (all_by_rank c old.lists.carried []))) }
 {
     let n = carried(units);
     for k in 0..n {
         let x = get(units, CARRIED_COUNT + (k + 1));
         // the late list began empty, and has room for all carried
-        let _ = file_late(links, units, x, rank_of_gate(links, gate_of(x)));
+        let _ = file_late(links, units, x, links.rank_of_gate(gate_of(x)));
     }
 }
 
@@ -192,8 +192,8 @@ fn clear_events(units: &mut [u8])
 }
 
 // The next tick begins: what was carried is late, nothing else waits, no call, no unit has begun, and the outbox is what the tick before sent.
-pub fn next_tick(links: &[usize], units: &mut [u8])
-    requires { Linked links.now × Room units.old }
+pub fn next_tick(links: &Links, units: &mut [u8])
+    requires { Room units.old }
     ensures { UnitsChange links.now (units.old, units.new) (λ c old new. new ≡ reopened c old) }
 {
     put(units, LATE_COUNT, 0);
@@ -203,8 +203,8 @@ pub fn next_tick(links: &[usize], units: &mut [u8])
 }
 
 // The lists at the start of a run, whatever the area held.
-pub fn start(links: &[usize], units: &mut [u8])
-    requires { Linked links.now × Room units.old }
+pub fn start(links: &Links, units: &mut [u8])
+    requires { Room units.old }
     ensures { UnitsChange links.now (units.old, units.new) (λ _ old new. new ≡ empty old.rest) }
 {
     put(units, LATE_COUNT, 0);

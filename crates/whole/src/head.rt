@@ -5,11 +5,12 @@ ghost use Rattle.schedule.specs.Schedule.{most_units, most_waiting};
 ghost use Rattle.model.specs.Circuit.{word_at};
 ghost use Rattle.model.specs.Record.{head_size, begun_count, carried_count, stop_in, shown_count};
 ghost use Rattle.links.specs.Links.{most_outputs};
-ghost use Rattle.links.specs.Lent.{Linked, net_of};
+ghost use Rattle.links.specs.Lent.{net_of};
 ghost use Rattle.records.specs.Whole.{good_steps, good_stop, good_head};
 ghost use Rattle.walk.specs.Walk.{Stands};
 ghost use Rattle.whole.specs.Lent.{behind};
 
+use links::Links;
 use records::head::{CARRIED, CHANGED, LATE, MAIN, STEPS, STOP};
 use records::{MOST_CHANGED, MOST_STEPS, MOST_UNITS, MOST_WAITING};
 use stops::{LIST_FULL, RUNAWAY};
@@ -50,12 +51,12 @@ pub fn carried_count(log: &[u8], at: usize) -> usize
 }
 
 // How many outputs it shows: all, or none where there is a stop.
-pub fn shown_count(links: &[usize], log: &[u8], at: usize) -> usize
-    requires { Linked links.now × HasWords log.now at head_size }
+pub fn shown_count(links: &Links, log: &[u8], at: usize) -> usize
+    requires { HasWords log.now at head_size }
     ensures { (result ≡ shown_count (length (net_of links.now).outputs) (behind log.now at)) × (result ≤ length (net_of links.now).outputs) × (result ≤ most_outputs) }
 {
     if stop_in(log, at) == 0 {
-        links::outputs(links)
+        links.outputs()
     } else {
         0
     }

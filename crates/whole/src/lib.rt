@@ -2,7 +2,7 @@
 #![tactic(auto)]
 
 ghost use Rattle.std.specs.Prelude.{◌≡◌, ◌*◌, ◌≤◌, length};
-ghost use Rattle.links.specs.Lent.{Linked, net_of};
+ghost use Rattle.links.specs.Lent.{net_of};
 ghost use Rattle.circuit.specs.Numbers.{refused};
 ghost use Rattle.records.specs.Whole.{good_rows, whole};
 ghost use Rattle.whole.specs.Lent.{behind, Complete};
@@ -13,6 +13,7 @@ use crate::outputs::good_outputs;
 use crate::units::good_units;
 use circuit::circuit_refusal;
 use circuit::refusals::Refusal;
+use links::Links;
 use records::MOST_TICKS;
 use records::head::HEAD;
 use walk::{record_size, shown_at};
@@ -22,8 +23,8 @@ mod outputs;
 mod units;
 
 // Whether the units and the outputs of the record at word `at` are good.
-fn good_rows(links: &[usize], log: &[u8], at: usize) -> bool
-    requires { Linked links.now × Complete links.now log.now at }
+fn good_rows(links: &Links, log: &[u8], at: usize) -> bool
+    requires { Complete links.now log.now at }
     ensures { result ≡ good_rows (net_of links.now) (behind log.now at) }
 {
     let begun = begun_count(log, at);
@@ -38,12 +39,12 @@ fn good_rows(links: &[usize], log: &[u8], at: usize) -> bool
 }
 
 // How many words the good record of this tick has that begins at word `at`, if one does.
-fn good_record(links: &[usize], log: &[u8], at: usize, tick: u64) -> Option<usize>
-    requires { Linked links.now × (at * 8 ≤ length log.now) }
+fn good_record(links: &Links, log: &[u8], at: usize, tick: u64) -> Option<usize>
+    requires { at * 8 ≤ length log.now }
     ensures { result ≡ size_if_good (net_of links.now) tick (behind log.now at) }
 {
     let room = log.len() / 8 - at;
-    let size = record_size(log, at, room + 1, links::outputs(links));
+    let size = record_size(log, at, room + 1, links.outputs());
     if room < size {
         return None;
     }
@@ -60,8 +61,7 @@ fn good_record(links: &[usize], log: &[u8], at: usize, tick: u64) -> Option<usiz
 }
 
 // Whether a log is whole records of the circuit of these links.
-pub fn whole(links: &[usize], log: &[u8]) -> bool
-    requires { Linked links.now }
+pub fn whole(links: &Links, log: &[u8]) -> bool
     ensures { result ≡ whole (net_of links.now) log.now }
 {
     if log.len() % 8 != 0 {
@@ -83,8 +83,7 @@ pub fn whole(links: &[usize], log: &[u8]) -> bool
 
 // What a reader of a log is refused with before it asks anything of its own: the circuit's own refusals first, then 16. The links are made as the circuit's questions make
 // them.
-pub fn log_refusal(circuit: &[u8], log: &[u8], links: &mut [usize]) -> Result<(), Refusal>
-    requires { Linked links.old }
+pub fn log_refusal(circuit: &[u8], log: &[u8], links: &mut Links) -> Result<(), Refusal>
     ensures { Asked circuit.now log.now links.old links.new (refused result) }
 {
     circuit_refusal(circuit, links)?;

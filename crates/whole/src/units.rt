@@ -6,12 +6,12 @@ ghost use Rattle.model.specs.Base.{all};
 ghost use Rattle.model.specs.Kinds.{receiving};
 ghost use Rattle.model.specs.Circuit.{has_source, source};
 ghost use Rattle.model.specs.Record.{listed, units_at};
-ghost use Rattle.links.specs.Lent.{Linked, net_of, Short};
+ghost use Rattle.links.specs.Lent.{net_of, Short};
 ghost use Rattle.records.specs.Whole.{firing, driven, can_have, good_unit};
 
 use kinds::Pin;
 use kinds::numbers::*;
-use links::kind_of_gate;
+use links::Links;
 use records::forms::{BY_OUTPUT, BY_PIN, EVENT, FIRE, STIMULUS};
 use words::get;
 
@@ -39,30 +39,28 @@ fn receiving(kind: u64) -> bool
 }
 
 // Whether input i reads an output.
-fn has_source(links: &[usize], i: usize) -> bool
-    requires { Linked links.now }
+fn has_source(links: &Links, i: usize) -> bool
     ensures { result ≡ has_source (source (net_of links.now) i) }
 {
-    links::source(links, i).is_some()
+    links.source(i).is_some()
 }
 
 // Whether input p of gate g is an E that a value drives.
-fn driven(links: &[usize], g: usize, p: usize) -> bool
-    requires { Linked links.now × Short p }
+fn driven(links: &Links, g: usize, p: usize) -> bool
+    requires { Short p }
     ensures { result ≡ driven (net_of links.now) g p }
 {
-    match kinds::pin_at(kind_of_gate(links, g), p) {
-        Pin::Exec => has_source(links, links::input(links, g, p)),
+    match kinds::pin_at(links.kind_of_gate(g), p) {
+        Pin::Exec => has_source(links, links.input(g, p)),
         _ => false,
     }
 }
 
 // Whether gate g can have this form.
-fn can_have(links: &[usize], g: usize, form: usize) -> bool
-    requires { Linked links.now }
+fn can_have(links: &Links, g: usize, form: usize) -> bool
     ensures { result ≡ can_have (net_of links.now) g form }
 {
-    let kind = kind_of_gate(links, g);
+    let kind = links.kind_of_gate(g);
     match form {
         FIRE => firing(kind),
         EVENT => receiving(kind),
@@ -74,20 +72,19 @@ fn can_have(links: &[usize], g: usize, form: usize) -> bool
 }
 
 // Whether there is such a gate, and it can have this form.
-fn good_unit(links: &[usize], gate: u64, form: u64) -> bool
-    requires { Linked links.now }
+fn good_unit(links: &Links, gate: u64, form: u64) -> bool
     ensures { result ≡ good_unit (net_of links.now) (listed gate form) }
 {
     let g = gate as usize;
-    if links::gates(links) <= g {
+    if links.gates() <= g {
         return false;
     }
     can_have(links, g, form as usize)
 }
 
 // Whether n units are good: their gates stand from word k on, and their forms behind these.
-pub fn good_units(links: &[usize], log: &[u8], k: usize, n: usize) -> bool
-    requires { Linked links.now × HasWords log.now k (2 * n) }
+pub fn good_units(links: &Links, log: &[u8], k: usize, n: usize) -> bool
+    requires { HasWords log.now k (2 * n) }
     ensures { result ≡ all (good_unit (net_of links.now)) (units_at (words log.now) k n) }
 {
     for i in 0..n {

@@ -4,23 +4,23 @@ ghost use Rattle.model.specs.Base.{each, from};
 ghost use Rattle.model.specs.State.{pulses≔};
 ghost use Rattle.model.specs.Settle.{pulse};
 ghost use Rattle.model.specs.Opening.{lower};
-ghost use Rattle.links.specs.Lent.{Linked, Room};
+ghost use Rattle.links.specs.Lent.{Room};
 ghost use Rattle.wires.specs.Lent.{wires_in, Turns};
 
 use crate::bits::set_bit;
 use crate::layout::{TICK, TICKS, UP};
 use crate::marking::set_out;
-use links::outputs;
+use links::Links;
 use model::Value;
 use words::bits::Bits;
 use words::{get, put};
 
 // The tick in which the pulse of output o was last raised, 0 for none.
-fn raised_at(links: &[usize], values: &[u8], o: usize) -> u64
-    requires { Linked links.now × Room values.now }
+fn raised_at(links: &Links, values: &[u8], o: usize) -> u64
+    requires { Room values.now }
     ensures { result ≡ slice_index (wires_in links.now values.now).pulses o }
 {
-    if outputs(links) <= o {
+    if links.outputs() <= o {
         return 0;
     }
     let d = get(values, UP + o / 64);
@@ -31,11 +31,11 @@ fn raised_at(links: &[usize], values: &[u8], o: usize) -> u64
 }
 
 // The pulse of output o is raised in this tick.
-fn set_pulse(links: &[usize], values: &mut [u8], o: usize)
-    requires { Linked links.now × Room values.old }
+fn set_pulse(links: &Links, values: &mut [u8], o: usize)
+    requires { Room values.old }
     ensures { Turns links.now (values.old, values.new) (λ _ w. pulses≔ w (slice_set w.pulses o w.tick)) }
 {
-    if o < outputs(links) {
+    if o < links.outputs() {
         let tick = get(values, TICK);
         set_bit(values, UP + o / 64, o % 64);
         put(values, TICKS + o, tick);
@@ -43,11 +43,11 @@ fn set_pulse(links: &[usize], values: &mut [u8], o: usize)
 }
 
 // The pulse of output o has ended.
-fn end_pulse(links: &[usize], values: &mut [u8], o: usize)
-    requires { Linked links.now × Room values.old }
+fn end_pulse(links: &Links, values: &mut [u8], o: usize)
+    requires { Room values.old }
     ensures { Turns links.now (values.old, values.new) (λ _ w. pulses≔ w (slice_set w.pulses o 0)) }
 {
-    if o < outputs(links) {
+    if o < links.outputs() {
         let d = get(values, UP + o / 64);
         if (d >> (o % 64)) % 2 != 0 {
             put(values, UP + o / 64, d ^ 1 << (o % 64));
@@ -56,8 +56,8 @@ fn end_pulse(links: &[usize], values: &mut [u8], o: usize)
 }
 
 // A detector's output o goes up, or stays up, from this tick on.
-pub fn pulse(links: &[usize], values: &mut [u8], o: usize)
-    requires { Linked links.now × Room values.old }
+pub fn pulse(links: &Links, values: &mut [u8], o: usize)
+    requires { Room values.old }
     ensures { Turns links.now (values.old, values.new) (λ c w. pulse c w o) }
 {
     set_out(links, values, o, Value::Bool(true));
@@ -72,8 +72,8 @@ fn has_ended(at: u64, tick: u64) -> bool
 }
 
 // The pulse of output o falls, if it has ended.
-pub fn lower(links: &[usize], values: &mut [u8], o: usize)
-    requires { Linked links.now × Room values.old }
+pub fn lower(links: &Links, values: &mut [u8], o: usize)
+    requires { Room values.old }
     ensures { Turns links.now (values.old, values.new) (λ c w. lower c w o) }
 {
     let at = raised_at(links, values, o);
@@ -84,8 +84,8 @@ pub fn lower(links: &[usize], values: &mut [u8], o: usize)
 }
 
 // The pulses of the 64 outputs of word j that have ended fall, in their order.
-fn lower_word(links: &[usize], values: &mut [u8], j: usize)
-    requires { Linked links.now × Room values.old × (j < 9) }
+fn lower_word(links: &Links, values: &mut [u8], j: usize)
+    requires { Room values.old × (j < 9) }
     ensures { Turns links.now (values.old, values.new) (λ c w. each (lower c) w (from (64 * j) 64)) }
 {
     for b in Bits::of(get(values, UP + j)) {
@@ -94,11 +94,11 @@ fn lower_word(links: &[usize], values: &mut [u8], j: usize)
 }
 
 // All pulses that have ended fall, in the order of their outputs.
-pub fn lower_all(links: &[usize], values: &mut [u8])
-    requires { Linked links.now × Room values.old }
+pub fn lower_all(links: &Links, values: &mut [u8])
+    requires { Room values.old }
     ensures { Turns links.now (values.old, values.new) (λ c w. each (lower c) w (from 0 (length c.outputs))) }
 {
-    let n = (outputs(links) + 63) / 64;
+    let n = (links.outputs() + 63) / 64;
     for j in 0..n {
         lower_word(links, values, j);
     }

@@ -2,7 +2,7 @@
 ghost use Rattle.std.specs.Prelude.{length};
 ghost use Rattle.model.specs.Base.{each, from};
 ghost use Rattle.model.specs.Opening.{wires_at_start};
-ghost use Rattle.links.specs.Lent.{Linked, Room};
+ghost use Rattle.links.specs.Lent.{Room};
 ghost use Rattle.wires.specs.Start.{blank, prepared, awaited};
 ghost use Rattle.wires.specs.Lent.{Turns};
 
@@ -13,12 +13,12 @@ use crate::refreshing::refresh_all;
 use crate::stale::soil;
 use kinds;
 use kinds::numbers::VAR;
-use links::{gates, inputs, kind_of_gate, output, setting, watching};
+use links::Links;
 use words::put;
 
 // All tables are cleared.
-fn clear(links: &[usize], values: &mut [u8])
-    requires { Linked links.now × Room values.old }
+fn clear(links: &Links, values: &mut [u8])
+    requires { Room values.old }
     ensures { Turns links.now (values.old, values.new) (λ c _. blank c) }
 {
     for k in 0..TABLES {
@@ -27,55 +27,55 @@ fn clear(links: &[usize], values: &mut [u8])
 }
 
 // Gate g, if it is pure, is stale; a Var shows its initial.
-fn prepare(links: &[usize], values: &mut [u8], g: usize)
-    requires { Linked links.now × Room values.old }
+fn prepare(links: &Links, values: &mut [u8], g: usize)
+    requires { Room values.old }
     ensures { Turns links.now (values.old, values.new) (λ c w. prepared c w g) }
 {
-    let kind = kind_of_gate(links, g);
+    let kind = links.kind_of_gate(g);
     if kinds::is_pure(kind) {
         soil(links, values, g);
         return;
     }
     if kind == VAR {
-        show(links, values, output(links, g, 0), setting(links, g, 0));
+        show(links, values, links.output(g, 0), links.setting(g, 0));
     }
 }
 
 // Every gate is prepared.
-fn prepare_all(links: &[usize], values: &mut [u8])
-    requires { Linked links.now × Room values.old }
+fn prepare_all(links: &Links, values: &mut [u8])
+    requires { Room values.old }
     ensures { Turns links.now (values.old, values.new) (λ c w. each (prepared c) w (from 0 (length c.kinds))) }
 {
-    let n = gates(links);
+    let n = links.gates();
     for g in 0..n {
         prepare(links, values, g);
     }
 }
 
 // Input i, if it is watched, waits for its first check.
-fn await_check(links: &[usize], values: &mut [u8], i: usize)
-    requires { Linked links.now × Room values.old }
+fn await_check(links: &Links, values: &mut [u8], i: usize)
+    requires { Room values.old }
     ensures { Turns links.now (values.old, values.new) (λ c w. awaited c w i) }
 {
-    if watching(links, i) {
+    if links.watching(i) {
         watch(links, values, i);
     }
 }
 
 // Every watched input waits for its first check, in ascending gate and input.
-fn await_checks(links: &[usize], values: &mut [u8])
-    requires { Linked links.now × Room values.old }
+fn await_checks(links: &Links, values: &mut [u8])
+    requires { Room values.old }
     ensures { Turns links.now (values.old, values.new) (λ c w. each (awaited c) w (from 0 (length c.pins))) }
 {
-    let n = inputs(links);
+    let n = links.inputs();
     for i in 0..n {
         await_check(links, values, i);
     }
 }
 
 // The wires at the start of a run, whatever the area held.
-pub fn start(links: &[usize], values: &mut [u8])
-    requires { Linked links.now × Room values.old }
+pub fn start(links: &Links, values: &mut [u8])
+    requires { Room values.old }
     ensures { Turns links.now (values.old, values.new) (λ c _. wires_at_start c) }
 {
     clear(links, values);

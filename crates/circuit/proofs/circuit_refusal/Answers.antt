@@ -9,7 +9,7 @@ returns-in_err-words_refusal c = let h = handed _ _ _ c.from_residual.ensures.1 
 pub link-requires : goal.link-requires
 link-requires c =
     let w = words_passed _ (sym c.in_ok-words_refusal.ensures) in
-    record { circuit_value = w.sizes; circuit_value_2 = w.constants; circuit_value_3 = w.gates; linked = c.requires }
+    record { circuit_value = w.sizes; circuit_value_2 = w.constants; circuit_value_3 = w.gates }
 
 pub links_refusal-requires-clause-circuit_value : goal.links_refusal-requires-clause-circuit_value
 links_refusal-requires-clause-circuit_value c = sym c.in_ok-words_refusal.ensures

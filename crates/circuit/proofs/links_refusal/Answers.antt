@@ -4,25 +4,19 @@ use mathlib.Core.Bool.{not}
 use Rattle.circuit.proofs.links_refusal.Goals as goal
 
 pub inputs_good-requires : goal.inputs_good-requires
-inputs_good-requires c = ((words_passed _ c.requires.circuit_value).sizes, c.requires.linked)
+inputs_good-requires c = (words_passed _ c.requires.circuit_value).sizes
 
 pub returns-then-not-inputs_good : goal.returns-then-not-inputs_good
 returns-then-not-inputs_good c = no_4 _ _ c.requires.circuit_value c.requires.links_value _ c.inputs_good.ensures (ap not c.if-not-inputs_good.true)
 
 pub calls_good-requires : goal.calls_good-requires
-calls_good-requires c = ((words_passed _ c.requires.circuit_value).sizes, c.requires.linked)
+calls_good-requires c = (words_passed _ c.requires.circuit_value).sizes
 
 pub returns-then-not-calls_good : goal.returns-then-not-calls_good
 returns-then-not-calls_good c = no_5 _ _ c.requires.circuit_value c.requires.links_value _ c.inputs_good.ensures (ap not c.if-not-inputs_good.false) _ c.calls_good.ensures (ap not c.if-not-calls_good.true)
 
-pub bodies_good-requires : goal.bodies_good-requires
-bodies_good-requires c = c.requires.linked
-
 pub returns-then-not-bodies_good : goal.returns-then-not-bodies_good
 returns-then-not-bodies_good c = no_19 _ _ c.requires.circuit_value c.requires.links_value _ c.inputs_good.ensures (ap not c.if-not-inputs_good.false) _ c.calls_good.ensures (ap not c.if-not-calls_good.false) _ c.bodies_good.ensures (ap not c.if-not-bodies_good.true)
-
-pub ordered-requires : goal.ordered-requires
-ordered-requires c = c.requires.linked
 
 pub returns-then-not-ordered : goal.returns-then-not-ordered
 returns-then-not-ordered c = no_6 _ _ c.requires.circuit_value c.requires.links_value _ c.inputs_good.ensures (ap not c.if-not-inputs_good.false) _ c.calls_good.ensures (ap not c.if-not-calls_good.false) _ c.bodies_good.ensures (ap not c.if-not-bodies_good.false) _ c.ordered.ensures (ap not c.if-not-ordered.true)

@@ -20,7 +20,7 @@ pub part_of-size-requires : goal.part_of-size-requires
 part_of-size-requires c = good_count _ _ _ c.count-n.ensures (sym c.good_book.ensures ∙ not-false _ (ap not c.if-not-good_book.false))
 
 pub scripts-requires : goal.scripts-requires
-scripts-requires c = let k = c.in_ok-refusal_lent.ensures in let z = sym k.0 in let g = good_count _ _ _ c.count-n.ensures (sym c.good_book.ensures ∙ not-false _ (ap not c.if-not-good_book.false)) in (search rules, (links_are_circuit _ _ _ _ z k.1, z), (c.count-n.ensures, g.1, c.part_of-size.ensures.1))
+scripts-requires c = let k = c.in_ok-refusal_lent.ensures in let z = sym k.0 in let g = good_count _ _ _ c.count-n.ensures (sym c.good_book.ensures ∙ not-false _ (ap not c.if-not-good_book.false)) in ((links_are_circuit _ _ _ _ z k.1, z), (c.count-n.ensures, g.1, c.part_of-size.ensures.1))
 
 pub returns : goal.returns
 returns c = class_answered (call_of c.args.circuit.now c.args.book.now c.args.log.now c.args.values.now c.args.units.now c.args.delays.now c.args.told.now) 0 c.in_ok-refusal_lent.ensures.0 refl _ c.good_book.ensures (not-false _ (ap not c.if-not-good_book.false)) _ c.count-n.ensures _ c.part_of-size.ensures.0 _ c.scripts.ensures

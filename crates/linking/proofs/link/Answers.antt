@@ -20,5 +20,5 @@ link_all-requires c =
 pub returns : goal.returns
 returns c =
     let bs = c.args.circuit.now in
-    built bs (words bs) c.requires.circuit_value c.requires.circuit_value_3 c.args.links.now _ _ _ _ _ c.requires.circuit_value_2 c.requires.linked
+    built bs (words bs) c.requires.circuit_value c.requires.circuit_value_3 _ _ _ _ _ c.requires.circuit_value_2
     c.word-gates.ensures c.word-constants.ensures c.word-inputs.ensures c.word-calls.ensures c.link_all.ensures

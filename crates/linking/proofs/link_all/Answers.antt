@@ -26,5 +26,5 @@ link_lists-requires c =
 
 pub returns : goal.returns
 returns c =
-    all_are (words c.args.circuit.now) _ _ _ _ _ c.args.cells.now _ _ _ _ _
-    c.count_outputs-outputs.ensures (c.write_each.ensures (λ k. 0) (λ k r h p. search rules)) c.link_gates.ensures c.link_inputs.ensures c.link_lists.ensures c.link_constants.ensures
+    all_are (words c.args.circuit.now) _ _ _ _ _ _ _ _ _ _
+    c.count_outputs-outputs.ensures c.clear.ensures c.link_gates.ensures c.link_inputs.ensures c.link_lists.ensures c.link_constants.ensures

@@ -16,7 +16,7 @@ iterate-returns-then-not-begin_run t c = let a = c.args in
     record { over_all = loop_aborted _ a.nesting a.g a.first a.step a.count a.left _ _ _ _ _ _ _ _ c.loop-done.invariant.4 c.loop-done.invariant.5 c.loop-done.invariant.6 c.loop-done-test.true _ _ c.begin_run.ensures.value c.begin_run.ensures.turns (was_not _ (ap not c.if-not-begin_run.true)); slots_stay = search rules }
 
 pub iterate-run_body-ran-requires : goal.iterate-run_body-ran-requires
-iterate-run_body-ran-requires t c = (search rules, (search rules, search rules, search rules, search rules))
+iterate-run_body-ran-requires t c = (search rules, (search rules, search rules, search rules))
 
 pub iterate-returns-then-not-goes_on : goal.iterate-returns-then-not-goes_on
 iterate-returns-then-not-goes_on t c = let a = c.args in
@@ -42,19 +42,19 @@ pub run_body-returns-then-nesting-eq0-clause-over_all : goal.run_body-returns-th
 run_body-returns-then-nesting-eq0-clause-over_all t c = body_none _ _ _ _ _ _ c.if-nesting-eq0.true
 
 pub run_body-run_nested-ran-requires : goal.run_body-run_nested-ran-requires
-run_body-run_nested-ran-requires t c = (search rules, (search rules, search rules, search rules, search rules))
+run_body-run_nested-ran-requires t c = (search rules, (search rules, search rules, search rules))
 
 pub run_body-set_unions_passed-requires : goal.run_body-set_unions_passed-requires
-run_body-set_unions_passed-requires t c = (c.requires.0, omega (arith, c.run_nested-ran.auto.values, c.begin_body-begun.auto.values, c.requires.1))
+run_body-set_unions_passed-requires t c = omega (arith, c.run_nested-ran.auto.values, c.begin_body-begun.auto.values, c.requires.0)
 
 pub run_body-returns-clause-over_all : goal.run_body-returns-clause-over_all
 run_body-returns-clause-over_all t c = body_ran _ _ _ _ _ _ _ _ _ _ _ _ _ _ _ c.if-nesting-eq0.false (c.calls_waiting-under.ensures _) c.unions_passed-passed.ensures (c.begin_body-begun.ensures _) c.run_nested-ran.ensures.over_all c.set_unions_passed.ensures
 
 pub run_loop-iterate-looped-requires : goal.run_loop-iterate-looped-requires
-run_loop-iterate-looped-requires t c = (search rules, (search rules, search rules, search rules, search rules))
+run_loop-iterate-looped-requires t c = (search rules, (search rules, search rules, search rules))
 
 pub run_loop-loop_over-requires : goal.run_loop-loop_over-requires
-run_loop-loop_over-requires t c = (search rules, search rules)
+run_loop-loop_over-requires t c = search rules
 
 pub run_loop-returns-clause-over_all : goal.run_loop-returns-clause-over_all
 run_loop-returns-clause-over_all t c = loop_ran _ _ _ _ _ _ _ _ _ _ _ (c.begin_loop-counts.ensures _ _) c.iterate-looped.ensures.over_all (c.loop_over.ensures _ _)
@@ -69,7 +69,7 @@ pub run_nested-returns-in_default-clause-over_all : goal.run_nested-returns-in_d
 run_nested-returns-in_default-clause-over_all t c = nested_ended _ _ _ _ _ _ _ _ _ _ _ _ c.loop-rest.invariant.4 c.loop-rest.invariant.5 (c.loop-rest.invariant.6 ∙ run_begins _ _ _ _ _ _ _ _ c.if-run-ne0.false) _ _ (c.pop_call.ensures _) _ refl c.in_default.is
 
 pub run_nested-operate-ran-requires : goal.run_nested-operate-ran-requires
-run_nested-operate-ran-requires t c = (search rules, (search rules, search rules, search rules, search rules))
+run_nested-operate-ran-requires t c = (search rules, (search rules, search rules, search rules))
 
 pub run_nested-returns-then-ran-ne0-clause-over_all : goal.run_nested-returns-then-ran-ne0-clause-over_all
 run_nested-returns-then-ran-ne0-clause-over_all t c = nested_stops _ _ _ _ _ _ _ _ _ _ _ _ c.loop-rest.invariant.4 c.loop-rest.invariant.5 (c.loop-rest.invariant.6 ∙ run_begins _ _ _ _ _ _ _ _ c.if-run-ne0.false) _ _ (c.pop_call.ensures _) _ c.in-Some.is c.loop-rest-test.true _ _ c.operate-ran.ensures.over_all c.if-ran-ne0.true

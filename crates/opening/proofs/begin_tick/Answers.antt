@@ -9,4 +9,4 @@ pub returns : goal.returns
 returns c =
     let d = c.begin_count.ensures in
     let n = c.narrow-length.ensures in
-    record { over_all = tick_begins _ _ _ _ _ _ _ _ _ c.next_tick.ensures c.next_tick-2.ensures d n.1; value = (n.0, lent_kept _ _ _ c.requires.0.3 (search rules) (ap (λ (d : Delays). d.parts) d)) }
+    record { over_all = tick_begins _ _ _ _ _ _ _ _ _ c.next_tick.ensures c.next_tick-2.ensures d n.1; value = (n.0, lent_kept _ _ _ c.requires.2 (search rules) (ap (λ (d : Delays). d.parts) d)) }

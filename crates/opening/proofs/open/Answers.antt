@@ -11,7 +11,7 @@ pub returns-in_err-arrive-clause-slots_stay : goal.returns-in_err-arrive-clause-
 returns-in_err-arrive-clause-slots_stay c = c.begin_tick-length.ensures.value.1
 
 pub finish-requires : goal.finish-requires
-finish-requires c = (search rules, search rules, search rules, c.begin_tick-length.ensures.value.1)
+finish-requires c = (search rules, search rules, c.begin_tick-length.ensures.value.1)
 
 pub returns-clause-over_all : goal.returns-clause-over_all
 returns-clause-over_all c = opens_all _ _ _ _ _ _ _ c.begin_tick-length.ensures.over_all refl (c.arrive.ensures _ _) _ _ _ c.begin_tick-length.ensures.value.0 c.in_ok-arrive.was c.finish.ensures.over_all

@@ -7,4 +7,4 @@ use Rattle.passes.proofs.begin.Goals as goal
 pub returns : goal.returns
 returns c =
     let a = c.args in let k = net a.links.now in
-    record { over_all = begins k (values_view k a.values.now) _ _ (delays_view k a.delays.now) _ _ _ _ _ _ c.requires.5 (c.listed.ensures k _) (c.begin_unit.ensures k).1 c.unit.ensures.over_all; slots_stay = c.unit.ensures.slots_stay }
+    record { over_all = begins k (values_view k a.values.now) _ _ (delays_view k a.delays.now) _ _ _ _ _ _ c.requires.4 (c.listed.ensures k _) (c.begin_unit.ensures k).1 c.unit.ensures.over_all; slots_stay = c.unit.ensures.slots_stay }

@@ -10,7 +10,7 @@ use borrow.Author.Rules.{rules}
 use Rattle.passes.proofs.late_pass.Goals as goal
 
 pub loop-init : goal.loop-init
-loop-init c = (search rules, search rules, search rules, c.requires.3, rw sub-zero (late_first _ _ _ _ (c.units_left-n.ensures (net c.args.links.now))))
+loop-init c = (search rules, search rules, search rules, c.requires.2, rw sub-zero (late_first _ _ _ _ (c.units_left-n.ensures (net c.args.links.now))))
 
 pub returns-in_default : goal.returns-in_default
 returns-in_default c =
@@ -21,7 +21,7 @@ returns-in_default c =
 pub begin-r-requires : goal.begin-r-requires
 begin-r-requires c =
     let k = net c.args.links.now in
-    (search rules, search rules, search rules, c.loop.invariant.3, c.requires.4, late_room k (values_view k c.loop.values) (units_view k c.loop.units) _ (delays_view k c.loop.delays) _ _ _ _ _ (c.next_late.ensures k) (omega (arith, c.loop-test.true)) c.loop.invariant.4)
+    (search rules, search rules, c.loop.invariant.3, c.requires.3, late_room k (values_view k c.loop.values) (units_view k c.loop.units) _ (delays_view k c.loop.delays) _ _ _ _ _ (c.next_late.ensures k) (omega (arith, c.loop-test.true)) c.loop.invariant.4)
 
 pub returns-then-r-ne0 : goal.returns-then-r-ne0
 returns-then-r-ne0 c =

@@ -7,4 +7,4 @@ use Rattle.queues.proofs.queue_record.Goals as goal
 
 pub returns : goal.returns
 unfolding queued
-returns c = let a = c.args in record_queue _ _ _ _ _ _ _ c.requires.1 (gates_few _) c.requires.2 refl c.part_at-a.ensures.0 refl (search rules) _ _ a.row _ _ c.kind_of_gate.ensures c.countdown-k.ensures c.push.ensures c.count_changed.ensures
+returns c = let a = c.args in record_queue _ _ _ _ _ _ _ c.requires.0 (gates_few _) c.requires.1 refl c.part_at-a.ensures.0 refl (search rules) _ _ a.row _ _ c.kind_of_gate.ensures c.countdown-k.ensures c.push.ensures c.count_changed.ensures

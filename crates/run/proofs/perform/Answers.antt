@@ -5,7 +5,7 @@ use borrow.Author.Rules.{rules}
 use Rattle.run.proofs.perform.Goals as goal
 
 pub play-played-requires-clause-linked : goal.play-played-requires-clause-linked
-play-played-requires-clause-linked c = (search rules, search rules, search rules, c.start.ensures.2, c.requires.few_calls.0)
+play-played-requires-clause-linked c = (search rules, search rules, c.start.ensures.2, c.requires.few_calls.0)
 
 pub play-played-requires-clause-limit_bound : goal.play-played-requires-clause-limit_bound
 play-played-requires-clause-limit_bound c = (search rules, c.requires.few_calls.1)

@@ -19,12 +19,12 @@ pub overflow_add-constants : goal.overflow_add-constants
 overflow_add-constants c = let x = script_room _ _ _ _ c.requires.limit_bound.1 c.get-ticks.ensures c.get-stimuli.ensures in search rules
 
 pub loop-k-init : goal.loop-k-init
-loop-k-init c = (search rules, search rules, search rules, search rules, few_ticks _ _ _ c.requires.limit_bound.1 c.get-ticks.ensures, script_room _ _ _ _ c.requires.limit_bound.1 c.get-ticks.ensures c.get-stimuli.ensures, search rules, search rules, c.requires.linked.3, playing_first _ _ _ _ _ c.requires.started.0 c.requires.started.1)
+loop-k-init c = (search rules, search rules, search rules, search rules, few_ticks _ _ _ c.requires.limit_bound.1 c.get-ticks.ensures, script_room _ _ _ _ c.requires.limit_bound.1 c.get-ticks.ensures c.get-stimuli.ensures, search rules, search rules, c.requires.linked.2, playing_first _ _ _ _ _ c.requires.started.0 c.requires.started.1)
 
 pub tick-t-requires : goal.tick-t-requires
 tick-t-requires c =
     let x = fits _ _ _ c.requires.limit_bound.1 _ _ _ c.get-ticks.ensures c.get-stimuli.ensures _ _ _ _ _ c.loop-k.invariant.9 c.loop-k.invariant.3 c.loop-k-test.true _ c.get-n.ensures in let y = c.loop-k.invariant.9.number in
-    record { linked = (search rules, search rules, search rules, c.loop-k.invariant.8, c.requires.linked.4); has_words = (search rules, search rules, search rules, search rules, c.requires.limit_bound.0) }
+    record { linked = (search rules, search rules, c.loop-k.invariant.8, c.requires.linked.3); has_words = (search rules, search rules, search rules, search rules, c.requires.limit_bound.0) }
 
 pub overflow_add-at : goal.overflow_add-at
 overflow_add-at c = let x = record_in _ _ _ c.requires.limit_bound.1 _ _ _ c.get-ticks.ensures c.get-stimuli.ensures _ _ _ _ _ c.loop-k.invariant.9 c.loop-k.invariant.3 c.loop-k-test.true _ _ c.get-n.ensures c.get-dt.ensures _ _ _ _ c.tick-t.ensures.over_all in omega (arith, c.well_formed)

@@ -21,7 +21,7 @@ pub returns-in-10-clause-acts_in_both : goal.returns-in-10-clause-acts_in_both
 returns-in-10-clause-acts_in_both c = change_buffer _ _ _ _ _ _ _ _ c.gate_at_input-g.ensures c.kind_of_gate.ensures _ c.in-10.is c.buffer_input.ensures
 
 pub returns-in-10-clause-slots_stay : goal.returns-in-10-clause-slots_stay
-returns-in-10-clause-slots_stay c = lent_kept _ _ _ c.requires.2 (search rules) (ap (λ (d : Delays). d.parts) c.buffer_input.ensures)
+returns-in-10-clause-slots_stay c = lent_kept _ _ _ c.requires.1 (search rules) (ap (λ (d : Delays). d.parts) c.buffer_input.ensures)
 
 pub returns-in_default-clause-acts_in_both : goal.returns-in_default-clause-acts_in_both
 returns-in_default-clause-acts_in_both c = change_pin _ _ _ _ _ _ _ _ c.gate_at_input-g.ensures c.kind_of_gate.ensures _ c.in_default.in_default-own.rest c.pin_raised.ensures

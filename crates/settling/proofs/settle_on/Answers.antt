@@ -7,7 +7,7 @@ use mathlib.Core.Path.{refl}
 use Rattle.settling.proofs.settle_on.Goals as goal
 
 pub loop-init : goal.loop-init
-loop-init c = (search rules, search rules, search rules, c.requires.3, rw sub-zero (refl, refl))
+loop-init c = (search rules, search rules, search rules, c.requires.2, rw sub-zero (refl, refl))
 
 pub returns-in_err-checked-clause-over_all : goal.returns-in_err-checked-clause-over_all
 returns-in_err-checked-clause-over_all c = rw (refused c.from_residual.result c.from_residual.ensures.0) (left_full _ _ _ _ _ _ _ _ (omega (arith, c.loop-test.true)) c.loop.invariant.4 c.check_next.ensures.over_all c.in_err-checked.was)

@@ -19,7 +19,7 @@ pub returns-then-ticks-gt-MOST_TICKS : goal.returns-then-ticks-gt-MOST_TICKS
 returns-then-ticks-gt-MOST_TICKS c = refused_ticks _ _ _ 0 _ _ c.in_ok-circuit_refusal.ensures refl _ c.number_all.ensures.0 (ap not c.if-not-number_all.false) _ c.no_loop.ensures (ap not c.if-not-no_loop.false) c.if-ticks-gt-MOST_TICKS.true
 
 pub unit_steps-requires : goal.unit_steps-requires
-unit_steps-requires c = (search rules, c.number_all.ensures.1 (not-false _ (ap not c.if-not-number_all.false)))
+unit_steps-requires c = c.number_all.ensures.1 (not-false _ (ap not c.if-not-number_all.false))
 
 pub returns : goal.returns
 returns c = figures_told _ _ _ 0 _ _ c.in_ok-circuit_refusal.ensures refl _ c.number_all.ensures.0 (ap not c.if-not-number_all.false) _ c.no_loop.ensures (ap not c.if-not-no_loop.false) c.if-ticks-gt-MOST_TICKS.false _ _ _ _ c.unit_steps.ensures c.put_at.ensures c.log_bytes.ensures c.put_at-2.ensures

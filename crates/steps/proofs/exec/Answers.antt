@@ -3,7 +3,7 @@ use borrow.Author.Rules.{rules}
 use Rattle.steps.proofs.exec.Goals as goal
 
 pub exec_queue-requires : goal.exec_queue-requires
-exec_queue-requires c = (search rules, search rules, c.requires.all_lent.3, queue_kind _ _ _ c.requires.entered.kind (queue_kinds _ c.in-16-to-17.in_default-own.rest c.in-16-to-17.if-k-lt15-own.false c.in-16-to-17.if-k-lt18-own.true))
+exec_queue-requires c = (search rules, c.requires.all_lent.2, queue_kind _ _ _ c.requires.entered.kind (queue_kinds _ c.in-16-to-17.in_default-own.rest c.in-16-to-17.if-k-lt15-own.false c.in-16-to-17.if-k-lt18-own.true))
 
 pub returns-in-2-clause-over_all : goal.returns-in-2-clause-over_all
 returns-in-2-clause-over_all c = on_reroute _ _ _ _ _ _ c.requires.entered _ c.in-2.is c.output.ensures
@@ -11,12 +11,12 @@ returns-in-2-clause-over_all c = on_reroute _ _ _ _ _ _ c.requires.entered _ c.i
 pub returns-in-11 : goal.returns-in-11
 returns-in-11 c =
     let m = c.exec_buffer.ensures _ _ in
-    record { over_all = on_buffer _ _ _ _ _ _ _ _ c.requires.entered c.in-11.is m; slots_stay = lent_kept _ _ _ _ _ _ _ _ c.requires.all_lent.3 (search rules) m.state }
+    record { over_all = on_buffer _ _ _ _ _ _ _ _ c.requires.entered c.in-11.is m; slots_stay = lent_kept _ _ _ _ _ _ _ _ c.requires.all_lent.2 (search rules) m.state }
 
 pub returns-in-15 : goal.returns-in-15
 returns-in-15 c =
     let m = c.exec_stopwatch.ensures _ in
-    record { over_all = on_stopwatch _ _ _ _ _ _ _ _ c.requires.entered _ c.in-15.is c.pin.ensures m; slots_stay = lent_kept _ _ _ _ _ _ _ _ c.requires.all_lent.3 (search rules) m.state }
+    record { over_all = on_stopwatch _ _ _ _ _ _ _ _ c.requires.entered _ c.in-15.is c.pin.ensures m; slots_stay = lent_kept _ _ _ _ _ _ _ _ c.requires.all_lent.2 (search rules) m.state }
 
 pub returns-in-18-clause-over_all : goal.returns-in-18-clause-over_all
 returns-in-18-clause-over_all c = on_var_get _ _ _ _ _ _ _ _ c.requires.entered c.in-18.is (c.exec_var_get.ensures _ _)
@@ -42,7 +42,7 @@ returns-in-31-clause-over_all c = on_break _ _ _ _ _ _ _ _ c.requires.entered c.
 pub returns-in-16-to-17 : goal.returns-in-16-to-17
 returns-in-16-to-17 c =
     let m = c.exec_queue.ensures _ in
-    record { over_all = on_queue _ _ _ _ _ _ _ _ c.requires.entered (queue_kinds _ c.in-16-to-17.in_default-own.rest c.in-16-to-17.if-k-lt15-own.false c.in-16-to-17.if-k-lt18-own.true) m; slots_stay = lent_kept _ _ _ _ _ _ _ _ c.requires.all_lent.3 (search rules) m.state }
+    record { over_all = on_queue _ _ _ _ _ _ _ _ c.requires.entered (queue_kinds _ c.in-16-to-17.in_default-own.rest c.in-16-to-17.if-k-lt15-own.false c.in-16-to-17.if-k-lt18-own.true) m; slots_stay = lent_kept _ _ _ _ _ _ _ _ c.requires.all_lent.2 (search rules) m.state }
 
 pub returns-in-24-to-25-clause-over_all : goal.returns-in-24-to-25-clause-over_all
 returns-in-24-to-25-clause-over_all c = on_send _ _ _ _ _ _ _ _ c.requires.entered (send_kinds _ c.in-24-to-25.in_default-own.rest c.in-24-to-25.if-k-lt18-own.false c.in-24-to-25.if-k-lt26-own.true) (c.exec_send.ensures _)

@@ -4,19 +4,19 @@ use Rattle.ticks.proofs.Whole.{ticks_through}
 use Rattle.ticks.proofs.tick.Goals as goal
 
 pub run_late-first-requires : goal.run_late-first-requires
-run_late-first-requires c = (c.requires.linked.0, omega arith, omega arith, c.open-opened.ensures.slots_stay, c.requires.linked.4)
+run_late-first-requires c = (omega arith, omega arith, c.open-opened.ensures.slots_stay, c.requires.linked.3)
 
 pub begun-late-requires : goal.begun-late-requires
 begun-late-requires c = omega arith
 
 pub run_main-second-requires : goal.run_main-second-requires
-run_main-second-requires c = (c.requires.linked.0, omega arith, omega arith, c.run_late-first.ensures.slots_stay, c.requires.linked.4)
+run_main-second-requires c = (omega arith, omega arith, c.run_late-first.ensures.slots_stay, c.requires.linked.3)
 
 pub changed-narrowed-requires : goal.changed-narrowed-requires
-changed-narrowed-requires c = (c.requires.linked.0, omega (arith, c.run_main-second.ensures.slots_stay.room))
+changed-narrowed-requires c = omega (arith, c.run_main-second.ensures.slots_stay.room)
 
 pub close-requires : goal.close-requires
-close-requires c = (c.requires.linked.0, omega arith, omega arith, omega arith, omega arith)
+close-requires c = (omega arith, omega arith, omega arith, omega arith)
 
 pub shape_of-values : goal.shape_of-values
 shape_of-values c = omega arith

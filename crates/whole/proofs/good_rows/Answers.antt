@@ -7,22 +7,22 @@ use mathlib.Core.Bool.{not}
 use Rattle.whole.proofs.good_rows.Goals as goal
 
 pub good_units-requires : goal.good_units-requires
-good_units-requires c = let a = c.args in (search rules, begun_fit (net a.links.now) a.log.now a.at _ _ c.begun_count-begun.ensures.0 c.carried_count-carried.ensures.0 c.requires.1.1)
+good_units-requires c = let a = c.args in begun_fit (net a.links.now) a.log.now a.at _ _ c.begun_count-begun.ensures.0 c.carried_count-carried.ensures.0 c.requires.1
 
 pub returns-then-not-good_units : goal.returns-then-not-good_units
 returns-then-not-good_units c = let a = c.args in bad_begun (net a.links.now) a.log.now a.at _ _ c.begun_count-begun.ensures.0 c.carried_count-carried.ensures.0 _ c.good_units.ensures (ap not c.if-not-good_units.true)
 
 pub good_units-requires-2 : goal.good_units-requires-2
-good_units-requires-2 c = let a = c.args in (search rules, carried_fit (net a.links.now) a.log.now a.at _ _ c.begun_count-begun.ensures.0 c.carried_count-carried.ensures.0 c.requires.1.1)
+good_units-requires-2 c = let a = c.args in carried_fit (net a.links.now) a.log.now a.at _ _ c.begun_count-begun.ensures.0 c.carried_count-carried.ensures.0 c.requires.1
 
 pub returns-then-not-good_units-2 : goal.returns-then-not-good_units-2
 returns-then-not-good_units-2 c = let a = c.args in bad_carried (net a.links.now) a.log.now a.at _ _ c.begun_count-begun.ensures.0 c.carried_count-carried.ensures.0 _ c.good_units.ensures (ap not c.if-not-good_units.false) _ c.good_units-2.ensures (ap not c.if-not-good_units-2.true)
 
 pub shown_count-requires : goal.shown_count-requires
-shown_count-requires c = (search rules, head_there _ _ c.requires.1.0)
+shown_count-requires c = head_there _ _ c.requires.0
 
 pub good_outputs-requires : goal.good_outputs-requires
-good_outputs-requires c = let a = c.args in (search rules, c.shown_count.ensures.1, shown_fit (net a.links.now) a.log.now a.at _ _ c.shown_at.ensures c.shown_count.ensures.0 c.requires.1.1)
+good_outputs-requires c = let a = c.args in (c.shown_count.ensures.1, shown_fit (net a.links.now) a.log.now a.at _ _ c.shown_at.ensures c.shown_count.ensures.0 c.requires.1)
 
 pub returns : goal.returns
 returns c = let a = c.args in rows_are (net a.links.now) a.log.now a.at _ _ c.begun_count-begun.ensures.0 c.carried_count-carried.ensures.0 _ c.good_units.ensures (ap not c.if-not-good_units.false) _ c.good_units-2.ensures (ap not c.if-not-good_units-2.false) _ _ c.shown_at.ensures c.shown_count.ensures.0 _ c.good_outputs.ensures

@@ -9,37 +9,37 @@ use Rattle.circuit.proofs.Rows.{calls_are}
 use Rattle.circuit.proofs.calls.calls_good.Goals as goal
 
 pub get-n-requires : goal.get-n-requires
-get-n-requires c = let s = sized c.args.circuit.now c.requires.0 in omega arith
+get-n-requires c = let s = sized c.args.circuit.now c.requires in omega arith
 
 pub get-requires : goal.get-requires
-get-requires c = let s = sized c.args.circuit.now c.requires.0 in omega arith
+get-requires c = let s = sized c.args.circuit.now c.requires in omega arith
 
 pub get-requires-2 : goal.get-requires-2
-get-requires-2 c = let s = sized c.args.circuit.now c.requires.0 in omega arith
+get-requires-2 c = let s = sized c.args.circuit.now c.requires in omega arith
 
 pub overflow_add-first : goal.overflow_add-first
-overflow_add-first c = let s = sized c.args.circuit.now c.requires.0 in omega arith
+overflow_add-first c = let s = sized c.args.circuit.now c.requires in omega arith
 
 pub get-requires-3 : goal.get-requires-3
-get-requires-3 c = let s = sized c.args.circuit.now c.requires.0 in omega arith
+get-requires-3 c = let s = sized c.args.circuit.now c.requires in omega arith
 
 pub overflow_add-first-2 : goal.overflow_add-first-2
-overflow_add-first-2 c = let s = sized c.args.circuit.now c.requires.0 in omega arith
+overflow_add-first-2 c = let s = sized c.args.circuit.now c.requires in omega arith
 
 pub overflow_mul-first : goal.overflow_mul-first
-overflow_mul-first c = let s = sized c.args.circuit.now c.requires.0 in omega arith
+overflow_mul-first c = let s = sized c.args.circuit.now c.requires in omega arith
 
 pub overflow_add-first-3 : goal.overflow_add-first-3
-overflow_add-first-3 c = let s = sized c.args.circuit.now c.requires.0 in omega arith
+overflow_add-first-3 c = let s = sized c.args.circuit.now c.requires in omega arith
 
 pub invariant_of-callers : goal.invariant_of-callers
-invariant_of-callers c = let s = sized c.args.circuit.now c.requires.0 in omega arith
+invariant_of-callers c = let s = sized c.args.circuit.now c.requires in omega arith
 
 pub overflow_add-called : goal.overflow_add-called
-overflow_add-called c = let s = sized c.args.circuit.now c.requires.0 in omega arith
+overflow_add-called c = let s = sized c.args.circuit.now c.requires in omega arith
 
 pub invariant_of-called : goal.invariant_of-called
-invariant_of-called c = let s = sized c.args.circuit.now c.requires.0 in omega arith
+invariant_of-called c = let s = sized c.args.circuit.now c.requires in omega arith
 
 pub returns-then-all : goal.returns-then-all
 returns-then-all c =

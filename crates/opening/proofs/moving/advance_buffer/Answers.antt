@@ -12,7 +12,7 @@ pub returns-in-11-clause-over_all : goal.returns-in-11-clause-over_all
 returns-in-11-clause-over_all c = buffer_fires _ _ _ _ _ _ _ _ _ c.kind_of_gate.ensures _ _ c.in-11.is c.fires_advance-n.ensures.delays_change c.fire_late.ensures
 
 pub returns-in-11-clause-slots_stay : goal.returns-in-11-clause-slots_stay
-returns-in-11-clause-slots_stay c = lent_moved _ _ _ _ _ _ _ c.requires.3 c.fires_advance-n.ensures.delays_change (search rules)
+returns-in-11-clause-slots_stay c = lent_moved _ _ _ _ _ _ _ c.requires.2 c.fires_advance-n.ensures.delays_change (search rules)
 
 pub returns-in-16-to-17-clause-over_all : goal.returns-in-16-to-17-clause-over_all
 returns-in-16-to-17-clause-over_all c = buffer_releases _ _ _ _ _ _ _ _ _ _ _ c.kind_of_gate.ensures c.in-16-to-17.if-this-lt16-own.false c.in-16-to-17.if-this-lt18-own.true c.advance_queue.ensures.over_all

@@ -6,10 +6,10 @@ pub returns-in_default-clause-moves_gate : goal.returns-in_default-clause-moves_
 returns-in_default-clause-moves_gate c = lands_not _ _ _ _ _ _ _ c.buffer_advance.ensures c.in_default.is
 
 pub returns-in_default-clause-slots_stay : goal.returns-in_default-clause-slots_stay
-returns-in_default-clause-slots_stay c = lent_moved _ _ _ _ _ _ _ c.requires.2 c.buffer_advance.ensures (search rules)
+returns-in_default-clause-slots_stay c = lent_moved _ _ _ _ _ _ _ c.requires.1 c.buffer_advance.ensures (search rules)
 
 pub returns-in-Some-clause-moves_gate : goal.returns-in-Some-clause-moves_gate
 returns-in-Some-clause-moves_gate c = lands _ _ _ _ _ _ _ _ _ _ c.buffer_advance.ensures c.in-Some.is c.output.ensures.0 c.set_out.ensures
 
 pub returns-in-Some-clause-slots_stay : goal.returns-in-Some-clause-slots_stay
-returns-in-Some-clause-slots_stay c = lent_moved _ _ _ _ _ _ _ c.requires.2 c.buffer_advance.ensures (search rules)
+returns-in-Some-clause-slots_stay c = lent_moved _ _ _ _ _ _ _ c.requires.1 c.buffer_advance.ensures (search rules)

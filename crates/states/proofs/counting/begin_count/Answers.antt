@@ -2,4 +2,4 @@ use Rattle.states.proofs.Counts.{begins}
 use Rattle.states.proofs.counting.begin_count.Goals as goal
 
 pub returns : goal.returns
-returns c = begins _ _ c.requires.1 _ _ _ c.from.ensures c.put.ensures
+returns c = begins _ _ c.requires _ _ _ c.from.ensures c.put.ensures

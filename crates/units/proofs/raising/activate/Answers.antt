@@ -3,13 +3,13 @@ use borrow.Author.Rules.{rules}
 use Rattle.units.proofs.raising.activate.Goals as goal
 
 pub file_late-requires : goal.file_late-requires
-file_late-requires c = (search rules, search rules, rank_is _ _ _ _ c.gate_of.ensures.0 c.rank_of_gate-rank.ensures)
+file_late-requires c = (search rules, rank_is _ _ _ _ c.gate_of.ensures.0 c.rank_of_gate-rank.ensures)
 
 pub file_pending-requires : goal.file_pending-requires
-file_pending-requires c = (search rules, search rules, rank_is _ _ _ _ c.gate_of.ensures.0 c.rank_of_gate-rank.ensures)
+file_pending-requires c = (search rules, rank_is _ _ _ _ c.gate_of.ensures.0 c.rank_of_gate-rank.ensures)
 
 pub file_pending-requires-else-rank-reached : goal.file_pending-requires-else-rank-reached
-file_pending-requires-else-rank-reached c = (search rules, search rules, rank_is _ _ _ _ c.gate_of.ensures.0 c.rank_of_gate-rank.ensures)
+file_pending-requires-else-rank-reached c = (search rules, rank_is _ _ _ _ c.gate_of.ensures.0 c.rank_of_gate-rank.ensures)
 
 pub returns-in-Late : goal.returns-in-Late
 returns-in-Late c = by_place _ _ _ _ _ _ _ c.in-Late.is c.file_late.ensures

@@ -1,5 +1,0 @@
-use Rattle.links.proofs.Reading.{constants_counted}
-use Rattle.links.proofs.constants.Goals as goal
-
-pub returns : goal.returns
-returns c = constants_counted _ _ c.counted.ensures

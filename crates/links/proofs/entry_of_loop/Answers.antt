@@ -1,5 +1,0 @@
-use Rattle.links.proofs.Reading.{loop_entry}
-use Rattle.links.proofs.entry_of_loop.Goals as goal
-
-pub returns : goal.returns
-returns c = loop_entry _ _ _ c.gate_entry.ensures

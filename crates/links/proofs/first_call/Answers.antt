@@ -1,5 +1,0 @@
-use Rattle.links.proofs.Reading.{row_first_call}
-use Rattle.links.proofs.first_call.Goals as goal
-
-pub returns : goal.returns
-returns c = row_first_call _ _ _ c.row.ensures

@@ -1,5 +1,0 @@
-use Rattle.links.proofs.Reading.{inputs_counted}
-use Rattle.links.proofs.inputs.Goals as goal
-
-pub returns : goal.returns
-returns c = inputs_counted _ _ c.counted.ensures

@@ -1,5 +1,0 @@
-use Rattle.links.proofs.Reading.{outputs_counted}
-use Rattle.links.proofs.outputs.Goals as goal
-
-pub returns : goal.returns
-returns c = outputs_counted _ _ c.counted.ensures
