@@ -8,7 +8,7 @@ use native.Mathlib.Nat.{zero-add, add-zero, suc-add, add_assoc, not-suc-le-zero,
 use borrow.Author.Tests.{ne_eqb}
 use borrow.Rule.Slice.PartMut.{put_mid}
 use lib.Bits.{bit_and, bit_or, bit_xor, and_step, or_step, xor_step, differ, and_self, or_zero_r, xor_zero_r}
-use lib.Count.{count_trailing_zeros, under}
+use lib.Count.{ones, ones_step, count_trailing_zeros, under}
 use lib.Dec.{T}
 use lib.ListN.{length, get_or, set, take, drop, length-append, length-drop, get_or-append}
 use lib.Pow.{pow_mono}
@@ -321,3 +321,23 @@ stack_above (suc n) i x r h = rw (get_or-set_other r i n x 0 (omega arith), stac
 pub stack_push : (n x : ℕ) (r : List ℕ) → n < length r → stack (suc n) (set r n x) ≡ x ∷ stack n r
 unfolding stack
 stack_push n x r h = rw (get_or-set_same r n x 0 h, stack_above n n x r (omega arith))
+
+-- ---- how many marks a word has
+
+-- some: it is not 0
+pub ones_some : (d : ℕ) → (ones d ≡ 0 → ⊥) → 0 < d
+unfolding ones
+ones_some zero h = absurd (h refl)
+ones_some (suc d) h = omega arith
+
+no_ones : (k d : ℕ) → d < 2 ^ k → ones d ≤ 0 → d ≤ 0
+no_ones zero d h l = omega arith
+no_ones (suc k) d h l =
+    let e = ones_step d in
+    let p : 2 ^ suc k ≡ 2 ^ k * 2 = pow-suc 2 k in
+    let q : d / 2 ≤ 0 = no_ones k (d / 2) (omega arith) (omega arith) in
+    omega arith
+
+-- none: it is 0
+pub ones_none : (d : ℕ) → d < 2 ^ 64 → ones d ≡ 0 → d ≡ 0
+ones_none d h e = omega (arith, no_ones 64 d h (omega arith))

@@ -25,9 +25,10 @@ impl Iterator for Bits {
 
     ghost remaining = { item_count bits_left };
 
+    // Ones count how many remain, and trailing zeros find the lowest.
     fn next(&mut self) -> Option<usize> {
         let d = self.left;
-        if d == 0 {
+        if u64::count_ones(d) == 0 {
             return None;
         }
         self.left = d & (d - 1);
