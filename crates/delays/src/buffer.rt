@@ -25,71 +25,55 @@ pub struct Buffer {
 
 impl Buffer {
     // A new input with its countdown. While a value is in flight it is only remembered.
-    pub fn input(self, v: Value, k: Countdown) -> Self
+    pub fn input(mut self, v: Value, k: Countdown) -> Self
         ensures { buffer_moved result ≡ moved (buffer_input (buffer self) v (counted k)) [] 0 }
     {
+        self.landed = None;
+        self.changed = false;
         match self.flight {
-            None => Self {
-                flight: Some(Flight { what: v, left: k }),
-                landed: None,
-                changed: false,
-                ..self
-            },
-            Some(_) => Self {
-                later: Some(v),
-                landed: None,
-                changed: false,
-                ..self
-            },
+            None => self.flight = Some(Flight { what: v, left: k }),
+            Some(_) => self.later = Some(v),
         }
+        self
     }
 
     // v lands. The remembered input starts a countdown of its own, worked out only now.
-    fn land(self, v: Value, seconds: bool, wait: Value, zero_wait: Value) -> Self
+    fn land(mut self, v: Value, seconds: bool, wait: Value, zero_wait: Value) -> Self
         ensures { buffer_moved result ≡ landed (starts seconds wait zero_wait) (buffer self) v }
     {
+        self.landed = Some(v);
         match self.later {
-            None => Self {
-                flight: None,
-                later: None,
-                landed: Some(v),
-                changed: false,
-            },
+            None => {
+                self.flight = None;
+                self.changed = false;
+            }
             Some(u) => {
                 let k = buffer_countdown(seconds, truthy(u), wait, zero_wait);
-                Self {
-                    flight: Some(Flight {
-                        what: u,
-                        left: k.left,
-                    }),
-                    later: None,
-                    landed: Some(v),
-                    changed: k.changed,
-                }
+                self.flight = Some(Flight {
+                    what: u,
+                    left: k.left,
+                });
+                self.later = None;
+                self.changed = k.changed;
             }
         }
+        self
     }
 
     // One tick, of the length dt in f32 bits: the value in flight lands when its countdown is due.
-    pub fn advance(self, dt: u32, seconds: bool, wait: Value, zero_wait: Value) -> Self
+    pub fn advance(mut self, dt: u32, seconds: bool, wait: Value, zero_wait: Value) -> Self
         ensures { buffer_moved result ≡ advance_flight (starts seconds wait zero_wait) dt (buffer self) }
     {
+        self.landed = None;
+        self.changed = false;
         let Some(f) = self.flight else {
-            return Self {
-                landed: None,
-                changed: false,
-                ..self
-            };
+            return self;
         };
         let left = f.left.tick_down(dt);
         if left.due() {
             return self.land(f.what, seconds, wait, zero_wait);
         }
-        Self {
-            flight: Some(Flight { left, ..f }),
-            landed: None,
-            changed: false,
-            ..self
-        }
+        self.flight = Some(Flight { left, ..f });
+        self
     }
 }

@@ -100,13 +100,14 @@ pub fn of_word(seconds: bool, w: u64) -> Countdown
 
 impl Countdown {
     // One tick, of the length dt in f32 bits. What is due stays due.
-    pub fn tick_down(self, dt: u32) -> Self
+    pub fn tick_down(mut self, dt: u32) -> Self
         ensures { counted result ≡ tick_down dt (counted self) }
     {
-        match self {
-            Countdown::Ticks(n) => Countdown::Ticks(n.saturating_sub(1)),
-            Countdown::Seconds(wait, elapsed) => Countdown::Seconds(wait, plus32(elapsed, dt)),
+        match &mut self {
+            Countdown::Ticks(n) => *n = n.saturating_sub(1),
+            Countdown::Seconds(_, elapsed) => *elapsed = plus32(*elapsed, dt),
         }
+        self
     }
 
     // Whether its ticks are over, or its seconds have come to the wait.

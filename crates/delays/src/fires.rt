@@ -83,18 +83,12 @@ impl Fires {
     }
 
     // One tick, of the length dt in f32 bits: all count down, and those due leave from the front and fire.
-    pub fn advance(self, dt: u32) -> Self
+    pub fn advance(mut self, dt: u32) -> Self
         ensures { (result.seconds ≡ self.seconds) × (fires_moved result ≡ advance_fires dt (fires self)) }
     {
-        let first = self.first % MOST_FIRES;
-        let count = self.count.min(MOST_FIRES);
-        let words = count_down(self.words, self.seconds, first, count, dt);
-        Self {
-            first,
-            count,
-            words,
-            ..self
-        }
-        .drop_due()
+        self.first %= MOST_FIRES;
+        self.count = self.count.min(MOST_FIRES);
+        self.words = count_down(self.words, self.seconds, self.first, self.count, dt);
+        self.drop_due()
     }
 }

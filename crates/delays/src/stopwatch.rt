@@ -35,33 +35,30 @@ impl Stopwatch {
     }
 
     // Restart: it runs from 0.0.
-    pub fn restart(self) -> Self
+    pub fn restart(mut self) -> Self
         ensures { stopwatch_moved result ≡ moved (pressed 0 (stopwatch self)) [] 0 }
     {
-        Self { time: 0, ..self }.resume()
+        self.time = 0;
+        self.resume()
     }
 
     // Pause: it stands at its time.
-    pub fn pause(self) -> Self
+    pub fn pause(mut self) -> Self
         ensures { stopwatch_moved result ≡ moved (pressed 1 (stopwatch self)) [] 0 }
     {
-        Self {
-            running: false,
-            shows: false,
-            expired: false,
-            ..self
-        }
+        self.running = false;
+        self.shows = false;
+        self.expired = false;
+        self
     }
 
     // Resume: it runs on from its time.
-    pub fn resume(self) -> Self
+    pub fn resume(mut self) -> Self
         ensures { stopwatch_moved result ≡ moved (pressed 2 (stopwatch self)) [] 0 }
     {
-        Self {
-            running: true,
-            shows: false,
-            expired: false,
-            ..self
-        }
+        self.running = true;
+        self.shows = false;
+        self.expired = false;
+        self
     }
 }
