@@ -13,8 +13,8 @@ use Rattle.schedule.specs.Schedule.{Place, to_late, to_pending}
 use Rattle.lists.specs.Lists.{Filed as Answer, Done}
 use Rattle.model.specs.declared.Value.{Value}
 use Rattle.model.specs.declared.Value.TheVariants.{Float}
-use Rattle.model.specs.Base.{if◌then◌otherwise◌, each, from}
-use Rattle.model.specs.Value.{truthy, as_float, bit, one_point_zero}
+use Rattle.model.specs.Base.{if◌then◌otherwise◌, both, each, from}
+use Rattle.model.specs.Value.{value_of, truthy, as_float, bit, one_point_zero}
 use Rattle.model.specs.Circuit.{Circuit, kind_of_gate, input, output, setting}
 use Rattle.model.specs.Questions.{within}
 use Rattle.model.specs.State.{Wires, State, wires≔, delays≔, changed≔}
@@ -26,7 +26,7 @@ use Rattle.std.specs.Prelude.{Option, None, Some}
 use Rattle.delays.specs.declared.stopwatch.Stopwatch.{Stopwatch}
 use Rattle.delays.specs.States.{row_of, stopwatch_moved}
 use Rattle.queue.specs.declared.Record.{Record}
-use Rattle.queue.specs.Queue.{released}
+use Rattle.queue.specs.Queue.{queued, released}
 use Rattle.wires.specs.View.{Values, with_wires}
 use Rattle.states.specs.View.{is_queue, Delays, delay_in, with_delay, counting, delays, Lent, Moves}
 use Rattle.units.specs.View.{Units}
@@ -87,11 +87,11 @@ lands_not c v d d₁ g dt r k er u =
 
 module _ (c : Circuit) (v v₁ : Values) (d d₁ : Delays) (g o dt : ℕ) where
   pub releases : (q : Option Record) (r : Record) → Moves d d₁ g (advance_records dt (delay_in d g)) (released q []).row (released q []).fires → q ≡ Some r → o ≡ output c g 1 →
-      v₁ ≡ with_wires v (set_outs c v.wires o r.row) → MovesOn v v₁ d d₁ (releasing c dt g) to_late g (bit true)
-  unfolding releasing delay released moved bit if◌then◌otherwise◌
+      v₁ ≡ with_wires v (set_outs c v.wires o (both value_of r.kinds r.contents)) → MovesOn v v₁ d d₁ (releasing c dt g) to_late g (bit true)
+  unfolding releasing delay released queued moved bit if◌then◌otherwise◌
   releases q r k er eo e u =
-      advanced_by c v v₁ u d d₁ to_late g 1 1 _ r.row (subst (λ (y : Option Record). Moves d d₁ g (advance_records dt (delay_in d g)) (released y []).row (released y []).fires) er k)
-      (e ∙ ap (λ (i : ℕ). with_wires v (set_outs c v.wires i r.row)) eo)
+      advanced_by c v v₁ u d d₁ to_late g 1 1 _ (queued r).row (subst (λ (y : Option Record). Moves d d₁ g (advance_records dt (delay_in d g)) (released y []).row (released y []).fires) er k)
+      (e ∙ ap (λ (i : ℕ). with_wires v (set_outs c v.wires i (queued r).row)) eo)
 
 pub releases_not : (c : Circuit) (v : Values) (d d₁ : Delays) (g dt : ℕ) (q : Option Record) → Moves d d₁ g (advance_records dt (delay_in d g)) (released q []).row (released q []).fires →
     q ≡ None → MovesOn v v d d₁ (releasing c dt g) to_late g (bit false)

@@ -2,8 +2,8 @@
 ghost use Rattle.std.specs.Prelude.{◌≡◌, true, [], ◌∷◌, ◌+◌, ◌^◌, ◌<◌};
 ghost use Rattle.schedule.specs.Schedule.{to_late, to_pending};
 ghost use Rattle.model.specs.declared.Value.TheVariants.{Float};
-ghost use Rattle.model.specs.Base.{if◌then◌otherwise◌, each};
-ghost use Rattle.model.specs.Value.{as_float, bit, one_point_zero};
+ghost use Rattle.model.specs.Base.{if◌then◌otherwise◌, both, each};
+ghost use Rattle.model.specs.Value.{value_of, as_float, bit, one_point_zero};
 ghost use Rattle.model.specs.Circuit.{output, setting};
 ghost use Rattle.model.specs.Wires.{look, set_outs};
 ghost use Rattle.model.specs.Opening.{advance_buffer, advance_clock, advance_timer};
@@ -24,7 +24,7 @@ use lists::Full;
 use model::Value;
 use queues::queue_advance;
 use states::slots::{buffer_advance, clock_advance, fires_advance, stopwatch_advance};
-use value::{as_float, enabled};
+use value::{as_float, enabled, value_of};
 use wires;
 use wires::marking::set_out;
 use wires::reading::look;
@@ -33,12 +33,12 @@ use wires::refreshing::ready;
 // ---- buffers and Queues
 
 // Eight values, to the outputs from o on.
-fn set_row(links: &Links, values: &mut [u8], o: usize, row: [Value; 8])
+fn set_row(links: &Links, values: &mut [u8], o: usize, kinds: [u64; 8], contents: [u64; 8])
     requires { Room values.old × (o + 8 < 2 ^ 64) }
-    ensures { Turns links.now (values.old, values.new) (λ c w. set_outs c w o row) }
+    ensures { Turns links.now (values.old, values.new) (λ c w. set_outs c w o (both value_of kinds contents)) }
 {
     for k in 0..8 {
-        set_out(links, values, o + k, row[k]);
+        set_out(links, values, o + k, value_of(kinds[k], contents[k]));
     }
 }
 
@@ -62,7 +62,7 @@ fn release(links: &Links, values: &mut [u8], delays: &mut [u8], g: usize, dt: u3
     let Some(r) = queue_advance(links, delays, g, dt) else {
         return false;
     };
-    set_row(links, values, links.output(g, 1), r.row);
+    set_row(links, values, links.output(g, 1), r.kinds, r.contents);
     true
 }
 

@@ -137,8 +137,7 @@ unfolding released hand_out front_if_due if◌then◌otherwise◌
 take_due seconds w u v n h x k d q l en z eh ex ek ed f eq eu ev =
     let g : due (slot seconds w h).left ≡ true = front_due seconds w h x k d ex ek ed ∙ not-false d f in
     let b : records seconds v ≡ ring (slot seconds w) (h + 1) (n - 1) = rw (ev, eu) (records_behind seconds w n h l (omega arith)) in
-    let r : q.row ≡ (slot seconds w h).row = (unfold queued in ap (λ (a : Queued). a.row) eq) in
-    rw (records_front seconds w n h en z eh, g, b, eq, r) (refl, refl)
+    rw (records_front seconds w n h en z eh, g, b, eq) (refl, refl)
 
 -- ---- a new record
 

@@ -1,20 +1,18 @@
 -- Laws of the slots: what loads and stores of words say about the records in the slots.
-use Prim.Native.Nat.{ℕ, zero, suc, ◌+◌, ◌*◌, ◌≤◌, ◌<◌}
-use mathlib.Core.Path.{◌≡◌, refl, sym, ap, ◌∙◌}
+use Prim.Native.Nat.{ℕ, ◌+◌, ◌*◌, ◌≤◌, ◌<◌}
+use mathlib.Core.Path.{◌≡◌, sym, ap, ◌∙◌}
 use mathlib.Core.Bool.{Bool, false}
-use mathlib.Core.List.{List, [], ◌∷◌}
+use mathlib.Core.List.{List}
 use native.Mathlib.Omega.{arith}
 use borrow.Author.Tests.{leb-false}
 use lib.Dec.{leb}
-use lib.ListN.{length, get_or, set, take, drop}
-use lib.Seq.{drop-cons, drop-set-lt, get_or-set_same, get_or-set_other, paste, length-paste}
+use lib.ListN.{length, get_or, set, take, drop, length-drop}
+use lib.Seq.{length-take-le, get_or-take, get_or-drop, ext_get_or, drop-set-lt, get_or-set_same, get_or-set_other, paste, length-paste}
 use Rattle.words.specs.Words.{words}
 use Rattle.words.proofs.Laws.{words_long}
 use Rattle.words.proofs.Putting.{put_here, put_before, put_apart}
 use Rattle.model.specs.Base.{both}
 use Rattle.model.specs.Value.{value_of}
-use Rattle.model.specs.declared.Value.{Value}
-use Rattle.model.specs.declared.Value.TheVariants.{Nothing}
 use Rattle.model.specs.State.{Countdown}
 use Rattle.model.specs.Delays.{tick_down}
 use Rattle.delays.specs.declared.countdown.Countdown.{Countdown as Counting}
@@ -23,24 +21,15 @@ use Rattle.delays.proofs.Countdowns.{kind_word, kind_tick}
 use Rattle.queue.specs.declared.Record.{Record}
 use Rattle.queue.specs.Queue.{queued, ticked, slot, Placed}
 
--- ---- a row, by the words of its kinds and of its contents
+-- ---- eight words in a row
 
--- n values that were read one by one
-pub row_read : (n p q : ℕ) (w : List ℕ) (vs : List Value) → length vs ≡ n → p + n ≤ length w → q + n ≤ length w
-    → ((j : ℕ) → j < n → get_or vs j Nothing ≡ value_of (get_or w (p + j) 0) (get_or w (q + j) 0)) → vs ≡ both value_of (take n (drop p w)) (take n (drop q w))
-unfolding both
-row_read zero p q w [] l a b h = refl
-row_read zero p q w (v ∷ vs) l a b h = absurd (omega arith)
-row_read (suc n) p q w [] l a b h = absurd (omega arith)
-row_read (suc n) p q w (v ∷ vs) l a b h =
-    let e : p + 0 ≡ p = omega arith in
-    let f : q + 0 ≡ q = omega arith in
-    let first : v ≡ value_of (get_or w p 0) (get_or w q 0) = h 0 (omega arith) ∙ (λ j. value_of (get_or w (e j) 0) (get_or w (f j) 0)) in
-    let rest = row_read n (suc p) (suc q) w vs (omega arith) (omega arith) (omega arith) (λ j k.
-    let c : p + suc j ≡ suc p + j = omega arith in
-    let d : q + suc j ≡ suc q + j = omega arith in
-    h (suc j) (omega arith) ∙ (λ i. value_of (get_or w (c i) 0) (get_or w (d i) 0))) in
-    rw (drop-cons w p 0 (omega arith), drop-cons w q 0 (omega arith)) (λ j. first j ∷ rest j)
+-- eight words that were read one by one
+pub eight_words : (s xs : List ℕ) (p : ℕ) → (p + 8) * 8 ≤ length s → length xs ≡ 8 → ((j : ℕ) → j < 8 → get_or xs j 0 ≡ get_or (words s) (p + j) 0) → xs ≡ take 8 (drop p (words s))
+eight_words s xs p l n h =
+    let m = words_long (p + 8) s l in
+    let t : length (take 8 (drop p (words s))) ≡ 8 = length-take-le 8 (drop p (words s)) (omega (arith, length-drop p (words s))) in
+    ext_get_or 0 xs (take 8 (drop p (words s))) (n ∙ sym t)
+    (λ j k. h j (omega arith) ∙ sym (get_or-take 8 (drop p (words s)) j 0 (omega arith) ∙ get_or-drop p (words s) j 0))
 
 -- ---- a slot
 
@@ -116,13 +105,10 @@ module _ (seconds : Bool) (w w₁ w₂ ks cs : List ℕ) (i v : ℕ) (k : Countd
 -- ---- ways out
 
 -- a record is read
-pub loaded : (s : List ℕ) (seconds : Bool) (i w : ℕ) (vs : List Value) (k : Counting) → (258 + i * 16 + 16) * 8 ≤ length s → length vs ≡ 8
-    → ((j : ℕ) → j < 8 → get_or vs j Nothing ≡ value_of (get_or (words s) (258 + i * 16 + j) 0) (get_or (words s) (266 + i * 16 + j) 0))
-    → w ≡ get_or (words s) (2 + i) 0 → counted k ≡ of_word seconds w → queued (record { row = vs; left = k }) ≡ slot seconds (words s) i
+pub loaded : (s : List ℕ) (seconds : Bool) (i w : ℕ) (ks cs : List ℕ) (k : Counting) → ks ≡ take 8 (drop (258 + i * 16) (words s)) → cs ≡ take 8 (drop (266 + i * 16) (words s))
+    → w ≡ get_or (words s) (2 + i) 0 → counted k ≡ of_word seconds w → queued (record { kinds = ks; contents = cs; left = k }) ≡ slot seconds (words s) i
 unfolding queued slot
-loaded s seconds i w vs k l lv h ew el =
-    let m = words_long (258 + i * 16 + 16) s l in
-    rw (row_read 8 (258 + i * 16) (266 + i * 16) (words s) vs lv (omega arith) (omega arith) h, el, ew)
+loaded s seconds i w ks cs k ek ec ew el = rw (ek, ec, el, ew)
 
 -- a record counts down
 pub counted_slot : (s t : List ℕ) (seconds : Bool) (dt i w v : ℕ) (k n : Counting) → 34832 ≤ length s → i < 256 → w ≡ get_or (words s) (2 + i) 0 → counted k ≡ of_word seconds w
@@ -137,14 +123,14 @@ counted_slot s t seconds dt i w v k n l h ew ek en ev et =
     rw et (left_placed seconds (words s) i v (tick_down dt (of_word seconds (get_or (words s) (2 + i) 0))) m h (sym (ap (λ (b : Bool). of_word b v) c) ∙ ev ∙ d))
 
 -- a record is stored
-pub stored_slot : (s t u z ks cs : List ℕ) (i v : ℕ) (r : Record) → 34832 ≤ length s → i < 256 → length ks ≡ 8 → length cs ≡ 8 → both value_of ks cs ≡ r.row
-    → words t ≡ paste (words s) (258 + i * 16) ks (length ks) → words u ≡ paste (words t) (266 + i * 16) cs (length cs)
+pub stored_slot : (s t u z : List ℕ) (i v : ℕ) (r : Record) → 34832 ≤ length s → i < 256 → length r.kinds ≡ 8 → length r.contents ≡ 8
+    → words t ≡ paste (words s) (258 + i * 16) r.kinds (length r.kinds) → words u ≡ paste (words t) (266 + i * 16) r.contents (length r.contents)
     → of_word (counts_seconds (counted r.left)) v ≡ counted r.left → words z ≡ set (words u) (2 + i) v
     → Placed (counts_seconds (counted r.left)) (words s) (words z) i (queued r)
 unfolding queued
-stored_slot s t u z ks cs i v r l h lk lc er et eu ev ez =
-    rw (ez, ← er)
-    (row_placed (counts_seconds (counted r.left)) (words s) (words t) (words u) ks cs i v (counted r.left) (words_long 4354 s l) h lk lc
-    (et ∙ ap (paste (words s) (258 + i * 16) ks) lk)
-    (eu ∙ ap (paste (words t) (266 + i * 16) cs) lc)
+stored_slot s t u z i v r l h lk lc et eu ev ez =
+    rw ez
+    (row_placed (counts_seconds (counted r.left)) (words s) (words t) (words u) r.kinds r.contents i v (counted r.left) (words_long 4354 s l) h lk lc
+    (et ∙ ap (paste (words s) (258 + i * 16) r.kinds) lk)
+    (eu ∙ ap (paste (words t) (266 + i * 16) r.contents) lc)
     ev)

@@ -11,12 +11,12 @@ use Rattle.queue.specs.declared.Record.{Record}
 
 -- the definition's record
 unfoldable pub queued : Record → Queued
-queued r = record { row = r.row; left = counted r.left }
+queued r = record { row = both value_of r.kinds r.contents; left = counted r.left }
 
 -- what a tick comes to: the records that are left, and the row of the one that is handed out
 unfoldable pub released : Option Record → List Queued → Moved
 released None qs = moved (records≔ idle qs) [] 0
-released (Some r) qs = moved (records≔ idle qs) r.row 1
+released (Some r) qs = moved (records≔ idle qs) (queued r).row 1
 
 -- the front record, if it is due
 unfoldable pub front_if_due : List Queued → math.Option Queued

@@ -2,27 +2,25 @@
 #![tactic(auto)]
 
 ghost use Rattle.words.specs.Words.{words};
-ghost use Rattle.std.specs.Prelude.{ℕ, ◌+◌, ◌*◌, ◌≡◌, map, ◌%◌, ◌<◌, min, get_or, option_map};
+ghost use Rattle.std.specs.Prelude.{◌≡◌, map, ◌%◌, ◌<◌, min, get_or, take, drop, option_map};
 ghost use Rattle.words.specs.Options.{option_of};
-ghost use Rattle.model.specs.declared.Value.TheVariants.{Nothing};
-ghost use Rattle.model.specs.Value.{value_of};
+ghost use Rattle.words.specs.Slices.{HasWords};
 ghost use Rattle.model.specs.State.{idle, records≔};
 ghost use Rattle.model.specs.Delays.{queue_record, hand_out, advance_records, most_records};
 ghost use Rattle.queue.specs.Queue.{queued, released, front_if_due, ticked, slot, records, Placed};
 ghost use Rattle.queue.specs.Lent.{Part, HoldsPart, in_seconds};
 
 use delays::countdown::{Countdown, of_word};
-use model::Value;
 use std::array;
-use value::rows::{contents_of, kinds_of};
-use value::value_of;
 use words::rows::put_row;
 use words::{get, put};
 
-// A record: a row of eight values travels with its countdown.
+// A record: eight values, by their kinds and contents, travel together with their countdown.
+// Stays: two arrays are the form that the project's rules name (docs/DECISIONS.md, "Forms").
 #[derive(Clone, Copy)]
 pub struct Record {
-    pub row: [Value; 8],
+    pub kinds: [u64; 8],
+    pub contents: [u64; 8],
     pub left: Countdown,
 }
 
@@ -68,14 +66,12 @@ fn count_of(queue: &[u8]) -> usize
     (get(queue, COUNT) as usize).min(SLOTS)
 }
 
-// The values of the record in slot s.
-fn load_row(queue: &[u8], s: usize) -> [Value; 8]
-    requires { HoldsPart queue.now × (s < most_records) }
-    ensures { (j : ℕ) → j < 8 → get_or result j Nothing ≡ value_of (get_or (words queue.now) (258 + s * 16 + j) 0) (get_or (words queue.now) (266 + s * 16 + j) 0) }
+// Eight words from word p on.
+fn get_eight(queue: &[u8], p: usize) -> [u64; 8]
+    requires { HasWords queue.now p 8 }
+    ensures { result ≡ take 8 (drop p (words queue.now)) }
 {
-    let kinds = KINDS + s * ROW;
-    let contents = CONTENTS + s * ROW;
-    array::from_fn(|j| value_of(get(queue, kinds + j), get(queue, contents + j)))
+    array::from_fn(|j| get(queue, p + j))
 }
 
 // The record in slot s.
@@ -83,9 +79,14 @@ fn load(queue: &[u8], seconds: bool, s: usize) -> Record
     requires { HoldsPart queue.now × (s < most_records) }
     ensures { queued result ≡ slot seconds (words queue.now) s }
 {
-    let row = load_row(queue, s);
+    let kinds = get_eight(queue, KINDS + s * ROW);
+    let contents = get_eight(queue, CONTENTS + s * ROW);
     let left = of_word(seconds, get(queue, COUNTDOWNS + s));
-    Record { row, left }
+    Record {
+        kinds,
+        contents,
+        left,
+    }
 }
 
 // A record goes to slot s.
@@ -93,8 +94,8 @@ fn store(queue: &mut [u8], s: usize, r: Record)
     requires { HoldsPart queue.old × (s < most_records) }
     ensures { Placed (in_seconds r.left) (words queue.old) (words queue.new) s (queued r) }
 {
-    put_row(queue, KINDS + s * ROW, &kinds_of(&r.row));
-    put_row(queue, CONTENTS + s * ROW, &contents_of(&r.row));
+    put_row(queue, KINDS + s * ROW, &r.kinds);
+    put_row(queue, CONTENTS + s * ROW, &r.contents);
     put(queue, COUNTDOWNS + s, r.left.word());
 }
 

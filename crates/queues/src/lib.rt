@@ -22,6 +22,7 @@ use model::Value;
 use queue::{PART, PART_BYTES, Record, advance, push};
 use states::counting::count_changed;
 use states::slots::PARTS;
+use value::rows::{contents_of, kinds_of};
 use value::{as_float, as_int};
 use words::{get, put, write};
 
@@ -52,7 +53,12 @@ pub fn queue_record(links: &Links, delays: &mut [u8], g: usize, row: [Value; 8],
 {
     let k = countdown(links.kind_of_gate(g) == QUEUE_IN_SECONDS, wait);
     let a = part_at(links, delays, g);
-    push(&mut delays[a..a + PART_BYTES], Record { row, left: k.left });
+    let r = Record {
+        kinds: kinds_of(&row),
+        contents: contents_of(&row),
+        left: k.left,
+    };
+    push(&mut delays[a..a + PART_BYTES], r);
     count_changed(links, delays, k.changed);
 }
 
