@@ -7,11 +7,11 @@
 typedef struct { void *at; size_t n; } Slice;
 
 /* a slice comes as two registers: pointer and length */
-uint64_t look_link(const uint8_t *, size_t, size_t *, size_t);
-void look_start(const size_t *, size_t, uint8_t *, size_t, uint8_t *, size_t, uint8_t *, size_t);
-void look_set_out(const size_t *, size_t, uint8_t *, size_t, size_t, _Bool);
-void look_refresh(const size_t *, size_t, uint8_t *, size_t);
-uint64_t look_chain(const size_t *, size_t, uint8_t *, size_t, uint8_t *, size_t, uint8_t *, size_t, size_t, uint64_t);
+uint64_t look_link(const uint8_t *, size_t, size_t *);
+void look_start(const size_t *, uint8_t *, size_t, uint8_t *, size_t, uint8_t *, size_t);
+void look_set_out(const size_t *, uint8_t *, size_t, size_t, _Bool);
+void look_refresh(const size_t *, uint8_t *, size_t);
+uint64_t look_chain(const size_t *, uint8_t *, size_t, uint8_t *, size_t, uint8_t *, size_t, size_t, uint64_t);
 
 enum { GATES = 64, LINKS = 4816, AREA = 65536, ROUNDS = 20000, STEPS = 1000000 };
 
@@ -139,9 +139,9 @@ static void twin_ring(int kind, int inputs, int outputs) {
 /* ---- timing: code and twin by turns */
 
 static void load(void) {
-    uint64_t refused = look_link((uint8_t *)words, length * 8, links, LINKS);
+    uint64_t refused = look_link((uint8_t *)words, length * 8, links);
     if (refused) printf("refused %lu\n", refused);
-    look_start(links, LINKS, (uint8_t *)values, AREA, (uint8_t *)units, AREA, (uint8_t *)delays, AREA);
+    look_start(links, (uint8_t *)values, AREA, (uint8_t *)units, AREA, (uint8_t *)delays, AREA);
 }
 
 static void line(const char *what, double code, double twin) { printf("%-16s %6.2f ns   twin %6.2f ns   ratio %.2f\n", what, code, twin, code / twin); }
@@ -153,7 +153,7 @@ static void steps(const char *what, int kind, int inputs, int outputs) {
     twin_ring(kind, inputs, outputs);
     for (int r = 0; r < 15; r++) {
         double a = now();
-        uint64_t left = look_chain(links, LINKS, (uint8_t *)values, AREA, (uint8_t *)units, AREA, (uint8_t *)delays, AREA, 0, STEPS);
+        uint64_t left = look_chain(links, (uint8_t *)values, AREA, (uint8_t *)units, AREA, (uint8_t *)delays, AREA, 0, STEPS);
         double b = now();
         uint64_t other = twin_chain(0, STEPS);
         double c = now();
@@ -171,9 +171,9 @@ int main(void) {
     twin_fan();
     for (int r = 0; r < ROUNDS; r++) {
         double a = now();
-        look_set_out(links, LINKS, (uint8_t *)values, AREA, 0, r % 2);
+        look_set_out(links, (uint8_t *)values, AREA, 0, r % 2);
         double b = now();
-        look_refresh(links, LINKS, (uint8_t *)values, AREA);
+        look_refresh(links, (uint8_t *)values, AREA);
         double c = now();
         twin_set_out(0, r % 2);
         double d = now();

@@ -18,7 +18,8 @@ use words::counting::less;
 
 pub mod layout;
 
-// The links of a circuit: one array of cells.
+// The links of a circuit: one array of cells, which lies in memory as an array does (tools/twin hands one from C).
+#[repr(C)]
 #[derive(Drop)]
 pub struct Links {
     cells: [usize; CELLS],
@@ -31,6 +32,8 @@ impl Model for Links {
     ghost Value = { List ℕ };
 
     ghost view = { λ l. l.cells };
+
+    ghost inverse = { λ cells. record { cells = cells } };
 }
 
 impl Links {
