@@ -12,7 +12,7 @@ use circuit::refusal_lent;
 use circuit::refusals::Refusal;
 use links::Links;
 use run::script_answer;
-use telling::tell;
+use telling::{numbered, tell};
 
 // The most scripts of a class.
 const MOST_SCRIPTS: usize = 16;
@@ -48,7 +48,7 @@ fn turn(
         units,
         delays,
     );
-    tell(told, 3 * i, answer);
+    tell(told, 3 * i, numbered(answer));
 }
 
 // The n scripts of a book, in order.

@@ -12,7 +12,7 @@ ghost use Rattle.player.specs.Numbers.{TellsHost};
 
 use circuit::check;
 use circuit::refusals::refused;
-use telling::{number_of, tell_end};
+use telling::{number_of, numbered, tell_end};
 
 // The number of the first question whose answer is no, for a call that is lent no areas; 0 where all are yes.
 #[unsafe(no_mangle)]
@@ -36,7 +36,7 @@ pub extern "C" fn hazhirun_run(
 ) -> u64
     ensures { RightCall circuit.now script.now (log.old, log.new) (values.old, values.new) (units.old, units.new) (delays.old, delays.new) (λ a. TellsHost a result told.old told.new) }
 {
-    let answer = run::run(circuit, script, log, values, units, delays);
+    let answer = numbered(run::run(circuit, script, log, values, units, delays));
     tell_end(told, 0, answer);
     number_of(answer)
 }

@@ -15,4 +15,4 @@ pub slice_bounds-script_answer-end-2 : goal.slice_bounds-script_answer-end-2
 slice_bounds-script_answer-end-2 c = part_in _ _ _ _ c.requires.2 c.requires.1.2
 
 pub returns : goal.returns
-returns c = turned (call_of c.args.circuit.now c.args.book.now c.args.log.now c.args.values.now c.args.units.now c.args.delays.now c.args.told.now) _ _ _ _ c.requires.2 c.requires.1.2 c.entry-s.ensures _ (record { log = _; values = _; units = _; delays = _ }) _ c.script_answer-answer.ensures c.tell.ensures
+returns c = turned (call_of c.args.circuit.now c.args.book.now c.args.log.now c.args.values.now c.args.units.now c.args.delays.now c.args.told.now) _ _ _ _ c.requires.2 c.requires.1.2 c.entry-s.ensures _ (record { log = _; values = _; units = _; delays = _ }) _ c.script_answer-answer.ensures (rw (← c.numbered.ensures) c.tell.ensures)
