@@ -84,6 +84,9 @@ fn play_next_run(file: &mut impl Read) -> Option<bool> {
     let mut head = [0u8; RUN_HEAD];
     next_bytes(file, &mut head, RUN_HEAD)?;
     let due = Due::from(&head);
+    if ROOM < due.circuit || ROOM < due.script || ROOM < due.records {
+        return None;
+    }
     let mut circuit = [0u8; ROOM];
     let mut script = [0u8; ROOM];
     let mut records = [0u8; ROOM];
@@ -169,6 +172,9 @@ fn play_next_class(file: &mut impl Read) -> Option<bool> {
     let mut head = [0u8; CLASS_HEAD];
     next_bytes(file, &mut head, CLASS_HEAD)?;
     let due = ClassDue::from(&head);
+    if ROOM < due.circuit || ROOM < due.book {
+        return None;
+    }
     let mut circuit = [0u8; ROOM];
     let mut book = [0u8; ROOM];
     let mut records = [FILLED; ROOM];
@@ -239,6 +245,9 @@ fn play_next_report(file: &mut impl Read) -> Option<bool> {
     let mut head = [0u8; REPORT_HEAD];
     next_bytes(file, &mut head, REPORT_HEAD)?;
     let due = ReportDue::from(&head);
+    if ROOM < due.circuit || ROOM < due.log {
+        return None;
+    }
     let mut circuit = [0u8; ROOM];
     let mut log = [0u8; ROOM];
     let mut lines = [FILLED; ROOM];
